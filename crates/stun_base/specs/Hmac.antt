@@ -1,0 +1,31 @@
+-- The keyed hash HMAC (RFC 2104) over a hash function that works on blocks of 64 bytes, as SHA-1
+-- and SHA-256 do. The hash function is the first argument throughout: from a message to its digest.
+use Rattle.std.specs.Prelude.{ℕ, ◌-◌, List, ◌++◌, length, map, replicate, bit_xor, nat_lt, if◌then◌else◌}
+
+-- the bytes of one block (section 2)
+abbrev pub block_length : ℕ
+block_length = 64
+
+-- a longer key is hashed first (section 2)
+abbrev pub short_key : (List ℕ → List ℕ) → List ℕ → List ℕ
+short_key hash key = if nat_lt block_length (length key) then hash key else key
+
+-- bytes filled up to a block by zeros (section 2, step 1)
+abbrev pub filled : List ℕ → List ℕ
+filled bytes = bytes ++ replicate (block_length - length bytes) 0
+
+-- the key as one block
+abbrev pub key_block : (List ℕ → List ℕ) → List ℕ → List ℕ
+key_block hash key = filled (short_key hash key)
+
+-- each byte of a block xor the pad (section 2, steps 2 and 5)
+abbrev pub padded : ℕ → List ℕ → List ℕ
+padded pad block = map (λ byte. bit_xor byte pad) block
+
+-- the digest of the key block under the inner pad, then the text (section 2, steps 2 to 4)
+abbrev pub inner_digest : (List ℕ → List ℕ) → List ℕ → List ℕ → List ℕ
+inner_digest hash key text = hash (padded 0x36 (key_block hash key) ++ text)
+
+-- HMAC of a text under a key (section 2)
+unfoldable pub hmac : (List ℕ → List ℕ) → List ℕ → List ℕ → List ℕ
+hmac hash key text = hash (padded 0x5c (key_block hash key) ++ inner_digest hash key text)

@@ -1,0 +1,13 @@
+pub mod Address
+pub mod Algorithm
+pub mod Attributes
+pub mod Credentials
+pub mod Data
+pub mod Header
+pub mod Hmac
+pub mod Keys
+pub mod MessageType
+pub mod Moments
+pub mod TransactionId
+pub mod Transport
+pub mod Words

@@ -1,0 +1,83 @@
+//! Values that hold bytes.
+
+ghost use Rattle.std.specs.Prelude.{◌≡◌, ℕ, List, IfOk, IsOk, Ok};
+
+use std::alloc::{AllocError, Allocator, Global};
+
+/// A value that holds bytes of its own or borrows them.
+///
+/// The slice is a function of the value: two calls on one value answer the same bytes.
+pub trait OwnedBytes {
+    // The bytes of the value.
+    ghost contents: { Self → List ℕ };
+
+    /// The bytes.
+    fn bytes(&self) -> &[u8]
+        ensures { result.now ≡ contents self.now };
+}
+
+impl OwnedBytes for &[u8] {
+    ghost contents = { λ slice. slice.now };
+
+    fn bytes(&self) -> &[u8] {
+        *self
+    }
+}
+
+impl<const N: usize> OwnedBytes for [u8; N] {
+    ghost contents = { λ array. array };
+
+    fn bytes(&self) -> &[u8] {
+        self
+    }
+}
+
+impl<A: Allocator> OwnedBytes for Vec<u8, A> {
+    ghost contents = { λ vec. vec.items };
+
+    fn bytes(&self) -> &[u8] {
+        self.as_slice()
+    }
+}
+
+/// Bytes that are borrowed for `'a`, or owned in the memory of an allocator.
+#[derive(Drop)]
+#[derive_where(Debug)]
+pub enum Data<'a, A: Allocator = Global> {
+    /// Bytes of somebody else.
+    Borrowed(&'a [u8]),
+    /// Bytes of its own.
+    Owned(Vec<u8, A>),
+}
+
+impl<'a, A: Allocator> OwnedBytes for Data<'a, A> {
+    ghost use Rattle.stun_base.specs.Data.{data_bytes};
+
+    ghost contents = { data_bytes };
+
+    fn bytes(&self) -> &[u8] {
+        match self {
+            Data::Borrowed(bytes) => bytes,
+            Data::Owned(bytes) => bytes.as_slice(),
+        }
+    }
+}
+
+impl<'a, A: Allocator> Data<'a, A> {
+    ghost use Rattle.stun_base.specs.Data.{data_bytes, IsOwned};
+
+    /// The same bytes, owned.
+    ///
+    /// Owned bytes move as they are, with their own allocator, and take no memory. Borrowed bytes
+    /// are copied into memory of `alloc`; the one error is that this memory is wanting.
+    pub fn into_owned<'b>(self, alloc: A) -> Result<Data<'b, A>, AllocError>
+        ensures bytes { IfOk result (λ owned. data_bytes owned ≡ data_bytes self.entry) }
+        ensures owned { IfOk result (λ owned. IsOwned owned) }
+        ensures moves { IsOwned self.entry → IsOk result }
+    {
+        match self {
+            Data::Borrowed(bytes) => Ok(Data::Owned(Vec::from_slice(alloc, bytes)?)),
+            Data::Owned(bytes) => Ok(Data::Owned(bytes)),
+        }
+    }
+}

@@ -1,0 +1,97 @@
+//! The errors of reading, checking and writing a message.
+
+use crate::attribute_type::AttributeType;
+use std::alloc::{AllocError, AllocFailed};
+use thiserror::Error;
+
+/// Why bytes were not read as a header, a message or an attribute.
+#[derive(Debug, Clone, Copy, PartialEq, Eq, Error)]
+pub enum StunParseError {
+    /// Bytes are missing at the end: of the header, of the message, or of an attribute.
+    #[error("the bytes end too early")]
+    Truncated,
+    /// The first 20 bytes are no header: its top two bits, its cookie, or a length that is no
+    /// multiple of 4.
+    #[error("the bytes are not a STUN message")]
+    NotStun,
+    /// Bytes stand behind the end of the message.
+    #[error("bytes stand behind the message")]
+    TooLarge,
+    /// The message has no visible attribute of this type.
+    #[error("an attribute is missing")]
+    MissingAttribute(AttributeType),
+    /// The value of the attribute is malformed.
+    #[error("an attribute is malformed")]
+    InvalidAttributeData,
+}
+
+/// Why the integrity of a message does not stand.
+#[derive(Debug, Clone, Copy, PartialEq, Eq, Error)]
+pub enum ValidateError {
+    /// The integrity attribute is missing or malformed, as the error inside says.
+    #[error(transparent)]
+    Parse(StunParseError),
+    /// The digest that the message has is not the digest of the message under the key.
+    #[error("the digest is not that of the message")]
+    IntegrityFailed,
+}
+
+/// Why something was not written. The writer is then as it was.
+#[derive(Debug, Clone, Copy, PartialEq, Eq, Error)]
+pub enum StunWriteError {
+    /// This attribute is written by a call of its own, or by none.
+    #[error("the attribute is not written by this call")]
+    NotAllowed,
+    /// An integrity attribute stands in the message, behind which no other may be written.
+    #[error("the message has its integrity attribute already")]
+    MessageIntegrityExists,
+    /// An attribute of this type stands in the message.
+    #[error("the attribute is in the message already")]
+    AttributeExists(AttributeType),
+    /// The value would be longer than its attribute may hold, or the message longer than 65532
+    /// bytes behind its header.
+    #[error("the value or the message would be too large")]
+    TooLarge,
+    /// The room of the writer is less than what would be written.
+    #[error("the writer has too little room")]
+    TooSmall,
+    /// The digest cannot be made, since its key is not known.
+    #[error("there is no key for the integrity attribute")]
+    IntegrityFailed,
+    /// An allocation was refused.
+    #[error("out of memory")]
+    OutOfMemory,
+}
+
+impl From<StunParseError> for ValidateError {
+    ghost use Rattle.std.specs.Prelude.{◌≡◌};
+    ghost use Rattle.stun_base.specs.declared.error.ValidateError.TheVariants.{Parse};
+
+    ghost from_gives = { λ inner error. error ≡ Parse inner };
+
+    fn from(error: StunParseError) -> ValidateError {
+        ValidateError::Parse(error)
+    }
+}
+
+impl From<AllocError> for StunWriteError {
+    ghost use Rattle.std.specs.Prelude.{◌≡◌};
+    ghost use Rattle.stun_base.specs.declared.error.StunWriteError.TheVariants.{OutOfMemory};
+
+    ghost from_gives = { λ _ error. error ≡ OutOfMemory };
+
+    fn from(_error: AllocError) -> StunWriteError {
+        StunWriteError::OutOfMemory
+    }
+}
+
+impl<T: Drop> From<AllocFailed<T>> for StunWriteError {
+    ghost use Rattle.std.specs.Prelude.{◌≡◌};
+    ghost use Rattle.stun_base.specs.declared.error.StunWriteError.TheVariants.{OutOfMemory};
+
+    ghost from_gives = { λ _ error. error ≡ OutOfMemory };
+
+    fn from(_error: AllocFailed<T>) -> StunWriteError {
+        StunWriteError::OutOfMemory
+    }
+}

@@ -1,0 +1,166 @@
+//! Keys of message integrity (RFC 8489, sections 9.1.1 and 9.2.2), and hashes of user names (14.4).
+
+ghost use Rattle.std.specs.Prelude.{◌≡◌, ◌≤◌, length, IfOk, IsOk, Some, codes};
+ghost use Rattle.stun_base.specs.Keys as spec;
+
+use crate::algorithm::IntegrityAlgorithm;
+use crate::hash::HashFunction;
+use crate::no_memory::NoMemory;
+use md5::Md5;
+use sha2::Sha256;
+use smallvec::SmallVec;
+use std::alloc::{AllocError, Allocator, Global};
+use std::convert::AsSlice;
+use std::fmt;
+use std::marker::Model;
+
+/// The number of bytes of the longest key that is kept without memory.
+const INLINE_LENGTH: usize = 32;
+
+/// The key of a digest. Up to 32 bytes stand in the value itself.
+///
+/// Contracts see a key as its bytes. `Debug` shows none of them.
+#[derive(Drop)]
+pub struct IntegrityKey<A: Allocator = Global> {
+    bytes: KeyBytes<A>,
+}
+
+/// The bytes of a key: a short one inline, a longer one on the heap.
+#[derive(Drop)]
+enum KeyBytes<A: Allocator> {
+    Inline(SmallVec<u8, INLINE_LENGTH, NoMemory>),
+    Heap(Vec<u8, A>),
+}
+
+impl<A: Allocator> Model for IntegrityKey<A> {
+    ghost use Rattle.std.specs.Prelude.{ℕ, List};
+    ghost use Rattle.stun_base.specs.Keys.KeyBytes.{key_bytes, IsInItsPlace};
+
+    ghost Value = { List ℕ };
+
+    ghost view = { λ key. key_bytes key.bytes };
+
+    ghost invariant = { λ key. IsInItsPlace key.bytes };
+}
+
+impl<A: Allocator> IntegrityKey<A> {
+    /// A key of these bytes. Up to 32 bytes take no memory; more are kept in memory of `alloc`, and
+    /// the one error is that this is wanting.
+    pub fn from_bytes(alloc: A, bytes: &[u8]) -> Result<Self, AllocError>
+        ensures ok { IfOk result (λ key. key ≡ bytes.now) }
+        ensures succeeds_inline { length bytes.now ≤ 32 → IsOk result }
+    {
+        let bytes = match SmallVec::from_slice(NoMemory, bytes) {
+            Ok(inline) => KeyBytes::Inline(inline),
+            Err(_) => KeyBytes::Heap(Vec::from_slice(alloc, bytes)?),
+        };
+        Ok(IntegrityKey { bytes })
+    }
+
+    /// The bytes of the key.
+    pub fn as_bytes(&self) -> &[u8]
+        ensures { result.now ≡ self.now }
+    {
+        match &self.bytes {
+            KeyBytes::Inline(inline) => inline.as_slice(),
+            KeyBytes::Heap(heap) => heap.as_slice(),
+        }
+    }
+}
+
+/// The same bytes. Up to 32 take no memory, more are kept in memory of the same allocator.
+impl<A: Allocator + Copy> Clone for IntegrityKey<A> {
+    ghost is_clone = { λ key copy. copy ≡ key };
+
+    ghost is_infallible = { λ key. length key ≤ 32 };
+
+    fn clone(&self) -> Result<Self, AllocError> {
+        let bytes = match &self.bytes {
+            KeyBytes::Inline(inline) => {
+                KeyBytes::Inline(SmallVec::from_slice(NoMemory, inline.as_slice()).unwrap())
+            }
+            KeyBytes::Heap(heap) => {
+                KeyBytes::Heap(Vec::from_slice(*heap.allocator(), heap.as_slice())?)
+            }
+        };
+        Ok(IntegrityKey { bytes })
+    }
+}
+
+impl<A: Allocator> fmt::Debug for IntegrityKey<A> {
+    ghost debug_output = { λ _. Some (codes "IntegrityKey { .. }") };
+
+    fn fmt<W: fmt::Write>(&self, f: &mut fmt::Formatter<W>) -> fmt::Result {
+        f.write_str("IntegrityKey { .. }")
+    }
+}
+
+/// The digest of a user's name, realm and password with colons between them, over the texts in
+/// turn.
+fn credentials_digest<H: HashFunction>(username: &str, realm: &str, password: &str) -> H::Digest
+    ensures value { H.Digest.items result ≡
+        H.digest (spec.with_colon (spec.with_colon username.now realm.now) password.now) }
+    ensures fits { length (H.Digest.items result) ≤ 64 }
+{
+    let mut hasher = H::start();
+    hasher.feed(username.as_bytes());
+    hasher.feed(b":");
+    hasher.feed(realm.as_bytes());
+    hasher.feed(b":");
+    hasher.feed(password.as_bytes());
+    hasher.finish()
+}
+
+/// The long-term key of a user at a realm: 16 bytes of MD5 for HMAC-SHA1, 32 of SHA-256 for
+/// HMAC-SHA256, each the hash of `username:realm:password` (RFC 8489, sections 9.2.2 and 18.5.1).
+///
+/// It takes no memory: `alloc` is dropped, and only says where longer keys of this type would
+/// stand.
+pub fn long_term_key<A: Allocator>(
+    alloc: A,
+    algorithm: IntegrityAlgorithm,
+    username: &str,
+    realm: &str,
+    password: &str,
+) -> IntegrityKey<A>
+    ensures { result ≡ spec.long_term_key algorithm username.now realm.now password.now }
+{
+    drop(alloc);
+    hashed_key(algorithm, username, realm, password)
+}
+
+/// The long-term key, at any allocator.
+pub(crate) fn hashed_key<A: Allocator>(
+    algorithm: IntegrityAlgorithm,
+    username: &str,
+    realm: &str,
+    password: &str,
+) -> IntegrityKey<A>
+    ensures { result ≡ spec.long_term_key algorithm username.now realm.now password.now }
+{
+    let inline = match algorithm {
+        IntegrityAlgorithm::Sha1 => SmallVec::from_slice(
+            NoMemory,
+            &credentials_digest::<Md5>(username, realm, password),
+        ),
+        IntegrityAlgorithm::Sha256 => SmallVec::from_slice(
+            NoMemory,
+            &credentials_digest::<Sha256>(username, realm, password),
+        ),
+    };
+    IntegrityKey {
+        bytes: KeyBytes::Inline(inline.unwrap()),
+    }
+}
+
+/// The hash that stands for a user name at a realm: SHA-256 of `username:realm` (RFC 8489, section
+/// 14.4). It takes no memory.
+pub fn userhash(username: &str, realm: &str) -> [u8; 32]
+    ensures { result ≡ spec.userhash username.now realm.now }
+{
+    let mut hasher = Sha256::start();
+    hasher.feed(username.as_bytes());
+    hasher.feed(b":");
+    hasher.feed(realm.as_bytes());
+    hasher.finish()
+}

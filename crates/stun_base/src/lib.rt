@@ -1,0 +1,18 @@
+//! The parts of STUN (RFC 8489) that reading, writing and authentication share.
+#![tactic(auto)]
+
+pub mod algorithm;
+pub mod attribute_type;
+pub mod credentials;
+pub mod data;
+pub mod error;
+mod hash;
+pub mod header;
+pub mod hmac;
+pub mod instant;
+pub mod key;
+pub mod laws;
+pub mod message_type;
+mod no_memory;
+pub mod transaction_id;
+pub mod transport;

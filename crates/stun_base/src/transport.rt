@@ -1,0 +1,26 @@
+//! What carries the messages.
+
+ghost use Rattle.std.specs.Prelude.{Some};
+ghost use Rattle.stun_base.specs.Transport.{name_of};
+
+use std::fmt;
+
+/// The transport that carries messages. Its text is `UDP` or `TCP`.
+#[derive(Clone, Copy, Debug, PartialEq, Eq)]
+pub enum TransportType {
+    /// Datagrams, which may be lost: requests are sent again (RFC 8489, section 6.2.1).
+    Udp,
+    /// A stream, which loses nothing: requests are sent once (section 6.2.2).
+    Tcp,
+}
+
+impl fmt::Display for TransportType {
+    ghost output = { λ transport. Some (name_of transport) };
+
+    fn fmt<W: fmt::Write>(&self, f: &mut fmt::Formatter<W>) -> fmt::Result {
+        match self {
+            TransportType::Udp => write!(f, "UDP"),
+            TransportType::Tcp => write!(f, "TCP"),
+        }
+    }
+}

@@ -1,0 +1,64 @@
+-- Where the deciding attribute stands.
+use Rattle.std.proofs.Common.{◌≡◌, ℕ, zero, suc, ◌+◌, ◌-◌, ◌≤◌, Bool, true, false, cond, List, [], ◌∷◌, length, take, drop, Some, refl, sym, arith, append_assoc}
+use Rattle.std.specs.Prelude.{find, IfSome, ◌==◌}
+use Rattle.std.specs.List.{AllByRecursion}
+use Rattle.std.proofs.lemmas.List.{append-nil, drop-take}
+use Rattle.std.specs.List.{concat}
+use Rattle.byteorder.specs.Endian.{big_bytes}
+use Rattle.std.proofs.lemmas.List.Elements.{All-filter, All-from_recursion, recursion_from_All}
+use Rattle.stun_base.specs.Header.{HEADER_LENGTH}
+use Rattle.stun_types.specs.Attribute.{has_attribute, first_attribute}
+use Rattle.stun_types.specs.Walk.{IsWithin, next_place, walk_up_to, walk}
+use Rattle.stun_types.specs.Visible.{counts, visible}
+use Rattle.stun_types.specs.Integrity.{first_of, covered}
+use Rattle.stun_types.proofs.WalkLemmas.{whole_within}
+
+-- what holds of each element holds of the one that is found
+pub IfSome-find : {X : Type 0} (P : X → Type 0) (test : X → Bool) (xs : List X) → AllByRecursion P xs → IfSome (find test xs) P
+IfSome-find P test [] all = tt
+IfSome-find P test (x ∷ xs) all =
+    elim (test x) as (λ found. IfSome (cond found (Some x) (find test xs)) P) [ true ↦ all.0 | false ↦ IfSome-find P test xs all.1 ]
+
+-- the attribute at a place stands within
+first_within : (place : ℕ) (bytes : List ℕ) → HEADER_LENGTH ≤ place → has_attribute (drop place bytes) ≡ true → IsWithin bytes (place, first_attribute (drop place bytes))
+first_within place bytes behind whole = record { behind_header = behind; whole = omega (arith, whole_within place bytes whole) }
+
+-- each attribute of a walk stands within
+pub walk_up_to-within : (most place : ℕ) (bytes : List ℕ) → HEADER_LENGTH ≤ place → AllByRecursion (IsWithin bytes) (walk_up_to most place bytes)
+unfolding walk_up_to
+walk_up_to-within zero place bytes behind = tt
+walk_up_to-within (suc most) place bytes behind =
+    let rest = walk_up_to-within most (next_place place bytes) bytes (omega arith) in
+    let first = first_within place bytes behind in
+    elim (has_attribute (drop place bytes)) as (λ whole. (whole ≡ true → IsWithin bytes (place, first_attribute (drop place bytes))) →
+    AllByRecursion (IsWithin bytes) (cond whole ((place, first_attribute (drop place bytes)) ∷ walk_up_to most (next_place place bytes) bytes) [])) [
+      | true ↦ λ within. (within refl, rest)
+      | false ↦ λ within. tt
+    ] first
+
+-- each attribute that counts stands within
+pub visible-within : (bytes : List ℕ) → AllByRecursion (IsWithin bytes) (visible bytes)
+unfolding visible
+visible-within bytes =
+    recursion_from_All (IsWithin bytes) _ (All-filter (counts (walk bytes)) (IsWithin bytes) (walk bytes) (All-from_recursion (IsWithin bytes) _ (walk_up_to-within (length bytes) HEADER_LENGTH bytes (omega arith))))
+
+-- the first attribute of a type stands within
+pub first_of-within : (kind : ℕ) (bytes : List ℕ) → IfSome (first_of kind (visible bytes)) (IsWithin bytes)
+first_of-within kind bytes = IfSome-find (IsWithin bytes) (λ m. m.1.kind == kind) (visible bytes) (visible-within bytes)
+
+-- the bytes before the length field stand in each longer piece
+take-header : (place : ℕ) (bytes : List ℕ) → 20 ≤ place → take 2 (take place bytes) ≡ take 2 bytes
+take-header zero bytes h = absurd (omega arith)
+take-header (suc zero) bytes h = absurd (omega arith)
+take-header (suc (suc p)) [] h = refl
+take-header (suc (suc p)) (x ∷ []) h = refl
+take-header (suc (suc p)) (x ∷ y ∷ bytes) h = refl
+
+-- what is covered, in three pieces
+pub covered_pieces : (bytes : List ℕ) (place count : ℕ) → 20 ≤ place
+    → concat (take 2 bytes ∷ big_bytes 2 (place + 4 + count - 20) ∷ take (place - 4) (drop 4 bytes) ∷ []) ≡ covered bytes place count
+covered_pieces bytes place count behind =
+    let front = take-header place bytes behind in
+    let sum : 4 + (place - 4) ≡ place = omega arith in
+    let back : drop 4 (take place bytes) ≡ take (place - 4) (drop 4 bytes) = rw sum at (drop-take 4 (place - 4) bytes) in
+    rw (front, back, append-nil) (sym (append_assoc (take 2 bytes) (big_bytes 2 (place + 4 + count - 20)) (take (place - 4) (drop 4 bytes))))

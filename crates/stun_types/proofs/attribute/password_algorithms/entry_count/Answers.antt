@@ -1,0 +1,11 @@
+-- Each entry takes four bytes.
+use Rattle.std.proofs.Common.{◌≡◌, ◌*◌, length, arith}
+use Rattle.stun_types.specs.PasswordAlgorithms.{entry_list}
+use Rattle.stun_types.proofs.EntryLemmas.{entries-length, entry_list-read}
+use Rattle.stun_types.proofs.attribute.password_algorithms.entry_count.Goals as goal
+
+pub returns : goal.returns
+returns c =
+    let whole : length c.args.bytes.now ≡ 4 * length (entry_list c.args.bytes.now) =
+    entries-length c.args.bytes.now (entry_list c.args.bytes.now) (entry_list-read c.args.bytes.now c.requires) in
+    omega arith

@@ -1,0 +1,66 @@
+-- ERROR-CODE (RFC 8489, section 14.8): 21 reserved bits, zero when written and ignored when read, the hundreds digit of the
+-- code in 3 bits, its remainder by 100 in 8 bits, and a reason phrase.
+use Rattle.std.specs.Prelude.{ℕ, ◌+◌, ◌*◌, ◌/◌, ◌%◌, ◌<◌, ◌≤◌, List, [], ◌∷◌, length, drop, slice_index, codes, nat_le, nat_lt, ◌==◌, ◌&&◌, ◌||◌, if◌then◌else◌, Option, Some, None, IsUtf8}
+use Rattle.stun_base.specs.Attributes.{ERROR_CODE}
+use Rattle.stun_base.specs.declared.error.StunWriteError.{StunWriteError}
+use Rattle.stun_base.specs.declared.error.StunWriteError.TheVariants.{NotAllowed, TooLarge}
+use Rattle.stun_types.specs.Attribute.{TypedValue}
+use Rattle.stun_types.specs.Text.{short_text}
+
+-- an error: its code and the bytes of its reason phrase
+pub record CodeAndReason : Type 0 where
+  pub code : ℕ
+  pub reason : List ℕ
+
+-- the most bytes of a reason
+abbrev pub max_reason : ℕ
+max_reason = 763
+
+-- the phrase of a code whose reason is not set
+abbrev pub default_reason : ℕ → List ℕ
+default_reason code =
+    if code == 400 then codes "Bad Request"
+    else (if code == 401 then codes "Unauthorized" else (if code == 438 then codes "Stale Nonce" else []))
+
+-- why an error cannot be written, the first reason that holds: its code, then its reason
+abbrev pub error_refusal : CodeAndReason → Option StunWriteError
+error_refusal error =
+    if nat_lt error.code 300 || nat_le 700 error.code then Some NotAllowed
+    else (if nat_lt max_reason (length error.reason) then Some TooLarge else None)
+
+-- an error that can be written
+pub record IsError (error : CodeAndReason) : Type 0 where
+  pub from_300 : 300 ≤ error.code
+  pub below_700 : error.code < 700
+  pub text : IsUtf8 error.reason
+  pub short : length error.reason ≤ max_reason
+
+-- the value of the attribute
+abbrev pub error_value : CodeAndReason → List ℕ
+error_value error = 0 ∷ 0 ∷ (error.code / 100) ∷ (error.code % 100) ∷ error.reason
+
+-- the hundreds digit: the three bits behind the 21 reserved ones
+abbrev pub class_field : List ℕ → ℕ
+class_field value = slice_index value 2 % 8
+
+-- the remainder of the code by 100
+abbrev pub number_field : List ℕ → ℕ
+number_field value = slice_index value 3
+
+-- the code in the value, where class and number are those of a code
+abbrev pub code_in : List ℕ → Option ℕ
+code_in value =
+    if nat_le 3 (class_field value) && nat_le (class_field value) 6 && nat_le (number_field value) 99
+    then Some (100 * class_field value + number_field value) else None
+
+-- an error of a code and a reason, where both are there
+abbrev pub error_with : Option ℕ → Option (List ℕ) → Option CodeAndReason
+error_with (Some code) (Some reason) = Some (record { code = code; reason = reason })
+error_with (Some code) None = None
+error_with None reason = None
+
+-- the error in an attribute of this type, where it is well formed
+abbrev pub error_of : TypedValue → Option CodeAndReason
+error_of attribute =
+    if attribute.kind == ERROR_CODE && nat_le 4 (length attribute.value)
+    then error_with (code_in attribute.value) (short_text max_reason (drop 4 attribute.value)) else None

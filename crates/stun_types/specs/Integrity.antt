@@ -1,0 +1,67 @@
+-- Whether the keyed digest of a message stands (RFC 8489, sections 14.5, 14.6 and 9.2.4).
+use Rattle.std.specs.Prelude.{ℕ, ◌+◌, ◌-◌, ◌%◌, Bool, List, length, take, find, nat_eq, nat_le, ◌==◌, ◌&&◌, Option, Some, None, if◌then◌else◌}
+use Rattle.std.specs.Option.{option_or, option_and_then}
+use Rattle.std.specs.Cmp.Lexicographic.{pointwise}
+use Rattle.stun_base.specs.declared.error.StunParseError.TheVariants.{MissingAttribute, InvalidAttributeData}
+use Rattle.stun_base.specs.declared.error.ValidateError.{ValidateError}
+use Rattle.stun_base.specs.declared.error.ValidateError.TheVariants.{Parse, IntegrityFailed}
+use Rattle.stun_base.specs.declared.algorithm.IntegrityAlgorithm.{IntegrityAlgorithm}
+use Rattle.stun_base.specs.declared.algorithm.IntegrityAlgorithm.TheVariants.{Sha1, Sha256}
+use Rattle.stun_base.specs.Attributes.{MESSAGE_INTEGRITY, MESSAGE_INTEGRITY_SHA256}
+use Rattle.stun_base.specs.Header.{HEADER_LENGTH}
+use Rattle.stun_base.specs.Algorithm.{digest, digest_length}
+use Rattle.stun_types.specs.Attribute.{TypedValue}
+use Rattle.stun_types.specs.Message.{with_length}
+use Rattle.stun_types.specs.Walk.{Member}
+use Rattle.stun_types.specs.Visible.{visible}
+
+-- the first member of a type
+abbrev pub first_of : ℕ → List Member → Option Member
+first_of kind members = find (λ m. m.1.kind == kind) members
+
+-- the member whose digest decides: the stronger one, where both count
+abbrev pub deciding : List ℕ → Option Member
+deciding bytes = option_or (first_of MESSAGE_INTEGRITY_SHA256 (visible bytes)) (first_of MESSAGE_INTEGRITY (visible bytes))
+
+-- what an integrity attribute at a place with a value of so many bytes covers: the bytes before it, with the length
+-- field of a message that ends behind it (sections 14.5 and 14.6)
+abbrev pub covered : List ℕ → ℕ → ℕ → List ℕ
+covered bytes place count = with_length (take place bytes) (place + 4 + count - HEADER_LENGTH)
+
+-- the algorithm of an integrity attribute
+abbrev pub algorithm_of : TypedValue → IntegrityAlgorithm
+algorithm_of attribute = if attribute.kind == MESSAGE_INTEGRITY_SHA256 then Sha256 else Sha1
+
+-- whether a member's value is the whole digest, under a key, of what it covers
+abbrev pub is_digest : List ℕ → List ℕ → Member → Bool
+is_digest bytes key m =
+    (length m.1.value == digest_length (algorithm_of m.1))
+    && pointwise nat_eq m.1.value (digest (algorithm_of m.1) key (covered bytes m.0 (length m.1.value)))
+
+-- the algorithm of a member whose value is its digest under that algorithm's key
+abbrev pub standing : (IntegrityAlgorithm → List ℕ) → List ℕ → Member → Option IntegrityAlgorithm
+standing keys bytes m = if is_digest bytes (keys (algorithm_of m.1)) m then Some (algorithm_of m.1) else None
+
+-- the algorithm whose digest stands, if one does, where each algorithm has a key of its own (section 9.2.2)
+abbrev pub stands_by : (IntegrityAlgorithm → List ℕ) → List ℕ → Option IntegrityAlgorithm
+stands_by keys bytes = option_and_then (standing keys bytes) (deciding bytes)
+
+-- the algorithm whose digest stands under one key for both, if one does (section 9.1)
+abbrev pub stands : List ℕ → List ℕ → Option IntegrityAlgorithm
+stands bytes key = stands_by (λ _. key) bytes
+
+-- whether the value of an integrity attribute is well formed: a SHA-256 digest may be cut short to 16 bytes or more
+abbrev pub is_well_formed : TypedValue → Bool
+is_well_formed attribute =
+    if attribute.kind == MESSAGE_INTEGRITY_SHA256 then
+    nat_le 16 (length attribute.value) && nat_le (length attribute.value) 32 && (length attribute.value % 4 == 0)
+    else length attribute.value == 20
+
+-- why no digest stands, of the deciding member
+abbrev pub refusal_of : Option Member → ValidateError
+refusal_of None = Parse (MissingAttribute (record { 0 = MESSAGE_INTEGRITY }))
+refusal_of (Some m) = if is_well_formed m.1 then IntegrityFailed else Parse InvalidAttributeData
+
+-- why no digest of a message stands
+abbrev pub integrity_refusal : List ℕ → ValidateError
+integrity_refusal bytes = refusal_of (deciding bytes)

@@ -1,0 +1,29 @@
+-- MESSAGE-INTEGRITY and MESSAGE-INTEGRITY-SHA256 as attributes (RFC 8489, sections 14.5 and 14.6).
+use Rattle.std.specs.Prelude.{◌≡◌, ℕ, ◌%◌, ◌≤◌, List, length, Option, Some, None, ◌==◌, ◌&&◌, if◌then◌else◌}
+use Rattle.std.proofs.Common.{rules}
+use Rattle.stun_base.specs.Attributes.{MESSAGE_INTEGRITY, MESSAGE_INTEGRITY_SHA256}
+use Rattle.stun_types.specs.Attribute.{TypedValue}
+use Rattle.stun_types.specs.Integrity.{is_well_formed}
+
+-- the digest in an attribute of this type, where its length is one that the type has
+abbrev pub digest_of : ℕ → TypedValue → Option (List ℕ)
+digest_of kind attribute = if attribute.kind == kind && is_well_formed attribute then Some attribute.value else None
+
+-- 16 to 32 bytes, a multiple of 4
+pub record IsSha256Digest (hmac : List ℕ) : Type 0 where
+  pub least : 16 ≤ length hmac
+  pub most : length hmac ≤ 32
+  pub in_fours : length hmac % 4 ≡ 0
+
+-- a digest that is written is read again
+pub digest_of-written : (hmac : List ℕ) → length hmac ≡ 20
+    → digest_of MESSAGE_INTEGRITY (record { kind = MESSAGE_INTEGRITY; value = hmac }) ≡ Some hmac
+digest_of-written hmac whole = search rules
+
+pub digest_of-written_sha256 : (hmac : List ℕ) → IsSha256Digest hmac
+    → digest_of MESSAGE_INTEGRITY_SHA256 (record { kind = MESSAGE_INTEGRITY_SHA256; value = hmac }) ≡ Some hmac
+digest_of-written_sha256 hmac fits =
+    let least = fits.least in
+    let most = fits.most in
+    let in_fours = fits.in_fours in
+    search rules

@@ -1,0 +1,44 @@
+-- What is a STUN message (RFC 8489, section 5).
+use Rattle.std.specs.Prelude.{◌≡◌, ◌≤◌, ℕ, ◌+◌, List, ◌++◌, length, take, drop, Option, Some, None, nat_lt, ◌==◌, if◌then◌else◌}
+use Rattle.byteorder.specs.Endian.{big_bytes}
+use Rattle.stun_base.specs.declared.error.StunParseError.{StunParseError}
+use Rattle.stun_base.specs.declared.error.StunParseError.TheVariants.{Truncated, TooLarge}
+use Rattle.stun_base.specs.Header.{HEADER_LENGTH, HeaderFields, header_of, BeginsWithHeader, header_refusal, length_field}
+use Rattle.stun_types.specs.Walk.{walk, taken}
+
+-- the bytes of the longest message: the length field holds multiples of 4 below 2 ^ 16
+abbrev pub LENGTH_LIMIT : ℕ
+LENGTH_LIMIT = 65552
+
+-- the bytes with the length field of their header set
+abbrev pub with_length : List ℕ → ℕ → List ℕ
+with_length bytes n = take 2 bytes ++ big_bytes 2 n ++ drop 4 bytes
+
+-- the bytes are a header and whole attributes that fill the length that it states
+pub record IsMessage (bytes : List ℕ) : Type 0 where
+  pub header : BeginsWithHeader bytes
+  pub stated : HEADER_LENGTH + length_field bytes ≡ length bytes
+  pub filled : HEADER_LENGTH + taken (walk bytes) ≡ length bytes
+
+-- the bytes that were read are a message with this header, so they are no longer than a length field can say
+pub record IsRead (header : HeaderFields) (bytes : List ℕ) : Type 0 where
+  pub is_message : IsMessage bytes
+  pub header_is : header ≡ header_of bytes
+  pub limit : length bytes ≤ LENGTH_LIMIT
+
+-- why bytes behind a right header are no message
+abbrev pub data_refusal : List ℕ → Option StunParseError
+data_refusal bytes =
+    if nat_lt (length bytes) (HEADER_LENGTH + length_field bytes) then Some Truncated
+    else if nat_lt (HEADER_LENGTH + length_field bytes) (length bytes) then Some TooLarge
+    else if HEADER_LENGTH + taken (walk bytes) == length bytes then None
+    else Some Truncated
+
+-- the first of `first`, and where it is none of `second`
+abbrev pub first_refusal : Option StunParseError → Option StunParseError → Option StunParseError
+first_refusal (Some error) second = Some error
+first_refusal None second = second
+
+-- why bytes are no message: what is wrong with the header comes first
+abbrev pub refusal : List ℕ → Option StunParseError
+refusal bytes = first_refusal (header_refusal bytes) (data_refusal bytes)

@@ -1,0 +1,94 @@
+-- What writing does to a message.
+use Rattle.std.specs.Prelude.{◌≡◌, ◌<◌, ◌≤◌, ◌^◌, ℕ, ◌+◌, ◌-◌, Bool, false, ◌||◌, ◌==◌, nat_lt, if◌then◌else◌, List, [], ◌∷◌, ◌++◌, length, Option, Some, None}
+use Rattle.stun_base.specs.Attributes.{MESSAGE_INTEGRITY, MESSAGE_INTEGRITY_SHA256, FINGERPRINT}
+use Rattle.stun_base.specs.Header.{HEADER_LENGTH, type_field, transaction_id_field}
+use Rattle.stun_base.specs.Algorithm.{digest_length, digest}
+use Rattle.stun_base.specs.declared.algorithm.IntegrityAlgorithm.{IntegrityAlgorithm}
+use Rattle.stun_base.specs.declared.algorithm.IntegrityAlgorithm.TheVariants.{Sha1, Sha256}
+use Rattle.stun_base.specs.declared.error.StunWriteError.{StunWriteError}
+use Rattle.stun_base.specs.declared.error.StunWriteError.TheVariants.{NotAllowed, MessageIntegrityExists, AttributeExists, TooLarge, TooSmall}
+use Rattle.stun_types.specs.Attribute.{TypedValue, attribute_length}
+use Rattle.stun_types.specs.Grammar.{spelled_attribute}
+use Rattle.stun_types.specs.Integrity.{covered}
+use Rattle.stun_types.specs.Message.{IsMessage, with_length}
+use Rattle.stun_types.specs.Visible.{has_kind, visible}
+use Rattle.stun_types.specs.Walk.{walk}
+
+-- the greatest message length that is a multiple of four and fits its field
+abbrev pub max_length : ℕ
+max_length = 65532
+
+-- the message length that an attribute with a value of n bytes leaves (RFC 8489, section 5)
+abbrev pub length_with : List ℕ → ℕ → ℕ
+length_with message n = length message - HEADER_LENGTH + attribute_length n
+
+-- the message with its length raised, then the attribute
+abbrev pub with_attribute : List ℕ → TypedValue → List ℕ
+with_attribute message attribute = with_length message (length_with message (length attribute.value)) ++ spelled_attribute attribute
+
+-- the type of the integrity attribute of an algorithm (section 18.3)
+abbrev pub integrity_kind : IntegrityAlgorithm → ℕ
+integrity_kind Sha1 = MESSAGE_INTEGRITY
+integrity_kind Sha256 = MESSAGE_INTEGRITY_SHA256
+
+-- what an integrity attribute at the end of a message covers
+abbrev pub covered_at_end : List ℕ → IntegrityAlgorithm → List ℕ
+covered_at_end message algorithm = covered message (length message) (digest_length algorithm)
+
+-- the integrity attribute at the end of a message: its value is the digest of what it covers (sections 14.5 and 14.6)
+abbrev pub integrity_attribute : List ℕ → IntegrityAlgorithm → List ℕ → TypedValue
+integrity_attribute message algorithm key = record {
+  kind = integrity_kind algorithm;
+  value = digest algorithm key (covered_at_end message algorithm);
+}
+
+-- the message with its length raised, then its integrity attribute
+abbrev pub with_integrity : List ℕ → IntegrityAlgorithm → List ℕ → List ℕ
+with_integrity message algorithm key = with_attribute message (integrity_attribute message algorithm key)
+
+-- the types that only the calls for integrity write, and FINGERPRINT (sections 14.5 to 14.7)
+abbrev pub is_set_apart : ℕ → Bool
+is_set_apart kind = (kind == MESSAGE_INTEGRITY) || (kind == MESSAGE_INTEGRITY_SHA256) || (kind == FINGERPRINT)
+
+-- whether a message has an integrity attribute
+abbrev pub has_integrity : List ℕ → Bool
+has_integrity message = has_kind MESSAGE_INTEGRITY (walk message) || has_kind MESSAGE_INTEGRITY_SHA256 (walk message)
+
+-- a message that an attribute or an integrity attribute can be added to: none of its attributes hides those behind it
+pub record IsOpen (message : List ℕ) : Type 0 where
+  pub is_message : IsMessage message
+  pub no_integrity : has_integrity message ≡ false
+  pub no_fingerprint : has_kind FINGERPRINT (walk message) ≡ false
+
+-- a message with one attribute more behind all that it had, which counts with them
+pub record HasOneMore (before after : List ℕ) (attribute : TypedValue) : Type 0 where
+  pub is_message : IsMessage after
+  pub type_is : type_field after ≡ type_field before
+  pub transaction_id_is : transaction_id_field after ≡ transaction_id_field before
+  pub walk_is : walk after ≡ walk before ++ (length before, attribute) ∷ []
+  pub visible_is : visible after ≡ visible before ++ (length before, attribute) ∷ []
+
+-- an attribute whose type has 16 bits, and whose value fits a message of the greatest length behind what is there
+pub record IsAddable (message : List ℕ) (attribute : TypedValue) : Type 0 where
+  pub kind : attribute.kind < 2 ^ 16
+  pub value : length_with message (length attribute.value) ≤ max_length
+
+-- why a value of n bytes is refused in a writer with so much room, if it is: the length field, then the room
+abbrev pub size_refusal : List ℕ → ℕ → ℕ → Option StunWriteError
+size_refusal message room n =
+    if nat_lt max_length (length_with message n) then Some TooLarge
+    else (if nat_lt room (attribute_length n) then Some TooSmall else None)
+
+-- why an attribute is refused, the first reason that holds
+abbrev pub attribute_refusal : List ℕ → ℕ → ℕ → ℕ → Option StunWriteError
+attribute_refusal message room kind n =
+    if is_set_apart kind then Some NotAllowed
+    else (if has_integrity message then Some MessageIntegrityExists
+    else (if has_kind kind (walk message) then Some (AttributeExists (record { 0 = kind }))
+    else size_refusal message room n))
+
+-- why an integrity attribute is refused, the first reason that holds
+abbrev pub signing_refusal : List ℕ → ℕ → IntegrityAlgorithm → Option StunWriteError
+signing_refusal message room algorithm =
+    if has_integrity message then Some MessageIntegrityExists
+    else size_refusal message room (digest_length algorithm)

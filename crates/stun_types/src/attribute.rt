@@ -1,0 +1,206 @@
+//! Attributes as they stand in a message.
+ghost use Rattle.std.specs.Prelude.{◌≡◌, ◌+◌, ◌-◌, ◌*◌, ◌^◌, ◌<◌, ◌≤◌, ◌++◌, ℕ, List, drop, length, min, true, false, OnSome, IfSome, IfNone, Some, refl};
+ghost use Rattle.stun_types.specs.Attribute.{attribute_length, has_attribute, first_attribute};
+ghost use Rattle.stun_types.specs.Grammar.{spelled_attribute};
+
+use crate::append::append_attribute;
+use crate::write::MessageWrite;
+use byteorder::{BigEndian, ByteOrder};
+use std::marker::Model;
+pub use stun_base::attribute_type::AttributeType;
+use stun_base::error::StunParseError;
+
+mod error_code;
+pub mod laws;
+mod message_integrity;
+mod nonce;
+mod password_algorithm;
+mod password_algorithms;
+mod realm;
+mod text;
+mod userhash;
+mod username;
+mod xor_mapped_address;
+
+pub use error_code::{ErrorCode, ErrorCodeBuilder};
+pub use message_integrity::{MessageIntegrity, MessageIntegritySha256};
+pub use nonce::Nonce;
+pub use password_algorithm::{PasswordAlgorithm, PasswordAlgorithmValue};
+pub use password_algorithms::PasswordAlgorithms;
+pub use realm::Realm;
+pub use userhash::Userhash;
+pub use username::Username;
+pub use xor_mapped_address::XorMappedAddress;
+
+/// An attribute of a message that is not read further: its type and its value, which it borrows.
+#[derive(Debug, Drop)]
+pub struct RawAttribute<'a> {
+    kind: AttributeType,
+    value: &'a [u8],
+}
+
+impl<'a> Model for RawAttribute<'a> {
+    ghost use Rattle.stun_types.specs.Attribute.{TypedValue};
+
+    ghost Value = { TypedValue };
+
+    ghost view = { λ attribute. record { kind = attribute.kind.0; value = attribute.value.now } };
+}
+
+/// An attribute that can be written.
+pub trait Attribute {
+    // The type of the attribute.
+    ghost kind: { Self → ℕ };
+
+    // The bytes of its value.
+    ghost value: { Self → List ℕ };
+
+    // What holds of each attribute of this type that a program makes.
+    ghost is_well_formed: { Self → Type 0 };
+
+    /// The type of the attribute.
+    fn get_type(&self) -> AttributeType
+        ensures { result.0 ≡ kind self.now };
+
+    /// The bytes of its value, without padding, as far as a `usize` reaches.
+    fn length(&self) -> usize
+        ensures length { result ≡ min (length (value self.now)) (2 ^ 64 - 1) }
+        ensures well_formed { is_well_formed self.now };
+
+    /// The bytes that it takes with its header and padding, as far as a `usize` reaches.
+    fn padded_len(&self) -> usize
+        ensures { result ≡ min (attribute_length (length (value self.now))) (2 ^ 64 - 1) }
+    {
+        let length = self.length();
+        length
+            .saturating_add((4 - length % 4) % 4)
+            .saturating_add(4)
+    }
+
+    /// Appends the attribute with its header and padding.
+    fn write_into<W: MessageWrite>(&self, writer: &mut W)
+        requires fits { length (value self.now) ≤ 65532 }
+        requires reserved { attribute_length (length (value self.now)) ≤ W.reserved writer.old }
+        ensures bytes { W.bytes writer.new ≡ W.bytes writer.old ++ spelled_attribute (record { kind = kind self.now; value = value self.now }) }
+        ensures room { W.room writer.new + attribute_length (length (value self.now)) ≡ W.room writer.old }
+        ensures reserved { W.reserved writer.new + attribute_length (length (value self.now)) ≡ W.reserved writer.old };
+}
+
+/// An attribute whose type is fixed.
+pub trait AttributeStaticType {
+    /// The type.
+    const TYPE: AttributeType;
+
+    // The number of the type.
+    ghost static_kind: { ℕ };
+
+    /// The type, which contracts can name: an impl at a type with a lifetime repeats the clause.
+    fn static_type() -> AttributeType
+        ensures { result.0 ≡ static_kind };
+}
+
+/// An attribute that can be read from its raw form.
+pub trait AttributeFromRaw<'a>: Attribute + Sized {
+    ghost use Rattle.std.specs.Prelude.{◌≡◌, Option, Some};
+    ghost use Rattle.stun_types.specs.Attribute.{TypedValue};
+    ghost use Rattle.stun_types.specs.Reading.{attribute_answer};
+
+    // What a type and a value read as, where they are those of a well-formed attribute.
+    ghost reading: { TypedValue → Option Self };
+
+    /// Reads the attribute, or answers `InvalidAttributeData` where the type is another or the value is malformed.
+    fn from_raw(raw: RawAttribute<'a>) -> Result<Self, StunParseError>
+        ensures { result ≡ attribute_answer (reading raw.entry) };
+
+    // What is written is read again.
+    ghost reads_back: { (x : Self) → Self.is_well_formed x
+        → reading (record { kind = Self.kind x; value = Self.value x }) ≡ Some x };
+}
+
+impl<'a> RawAttribute<'a> {
+    /// The attribute of this type and value.
+    pub fn new(kind: AttributeType, value: &'a [u8]) -> RawAttribute<'a>
+        ensures kind { result.kind ≡ kind.0 }
+        ensures value { result.value ≡ value.now }
+    {
+        RawAttribute { kind, value }
+    }
+
+    /// The attribute at this place of the bytes, where it and its padding are whole.
+    pub(crate) fn at(bytes: &'a [u8], place: usize) -> Option<RawAttribute<'a>>
+        ensures none { IfNone result (has_attribute (drop place bytes.now) ≡ false) }
+        ensures whole { OnSome result (has_attribute (drop place bytes.now) ≡ true) }
+        ensures value { IfSome result (λ attribute. attribute ≡ first_attribute (drop place bytes.now)) }
+    {
+        let bytes = bytes.get(place..)?;
+        if bytes.len() < 4 {
+            return None;
+        }
+        let kind = AttributeType::new(BigEndian::read_u16(bytes));
+        let length = usize::from(BigEndian::read_u16(&bytes[2..]));
+        let rest = &bytes[4..];
+        if rest.len() < length.div_ceil(4) * 4 {
+            return None;
+        }
+        Some(RawAttribute::new(kind, &rest[..length]))
+    }
+
+    /// The type.
+    pub fn get_type(&self) -> AttributeType
+        ensures { result.0 ≡ self.now.kind }
+    {
+        self.kind
+    }
+
+    /// The value.
+    pub fn value(&self) -> &'a [u8]
+        ensures { result.now ≡ self.now.value }
+    {
+        self.value
+    }
+
+    /// The number of bytes of the value.
+    pub fn length(&self) -> usize
+        ensures { result ≡ length self.now.value }
+    {
+        self.value.len()
+    }
+
+    /// The number of bytes that the attribute takes in a message, with its header and its padding.
+    pub fn padded_len(&self) -> usize
+        ensures { result ≡ attribute_length (length self.now.value) }
+    {
+        4 + self.value.len().div_ceil(4) * 4
+    }
+}
+
+impl<'a> Attribute for RawAttribute<'a> {
+    ghost kind = { λ attribute. attribute.kind };
+
+    ghost value = { λ attribute. attribute.value };
+
+    ghost is_well_formed = { λ attribute. attribute.kind < 2 ^ 16 };
+
+    fn get_type(&self) -> AttributeType {
+        self.kind
+    }
+
+    fn length(&self) -> usize {
+        let _number = self.kind.0;
+        self.value.len()
+    }
+
+    fn write_into<W: MessageWrite>(&self, writer: &mut W) {
+        append_attribute(writer, self.kind, self.value);
+    }
+}
+
+impl<'a> AttributeFromRaw<'a> for RawAttribute<'a> {
+    ghost reading = { λ attribute. Some attribute };
+
+    ghost reads_back = { λ attribute whole. refl };
+
+    fn from_raw(raw: RawAttribute<'a>) -> Result<Self, StunParseError> {
+        Ok(raw)
+    }
+}

@@ -1,0 +1,206 @@
+//! ERROR-CODE (RFC 8489, section 14.8).
+
+ghost use Rattle.std.specs.Prelude.{◌≡◌, ◌≤◌, ◌<◌, ◌/◌, ◌%◌, Some, None, IfOk, IfErr, IfSome, OnOk, length};
+ghost use Rattle.stun_base.specs.Attributes.{ERROR_CODE};
+ghost use Rattle.stun_types.specs.ErrorCode.{IsError, code_in, default_reason, error_of, error_refusal, error_value};
+ghost use Rattle.stun_types.specs.ErrorCodeLaws.{error_of-written};
+
+use crate::append::{append_header, append_padding};
+use crate::attribute::text::read_short_text;
+use crate::attribute::{
+    Attribute, AttributeFromRaw, AttributeStaticType, AttributeType, RawAttribute,
+};
+use crate::write::MessageWrite;
+use std::marker::Model;
+use stun_base::error::{StunParseError, StunWriteError};
+
+/// The bytes before the reason: reserved bits, class and number.
+const CODE_LENGTH: usize = 4;
+
+/// The bytes of the longest reason.
+const MAX_REASON_LENGTH: usize = 763;
+
+/// Why a request was refused: a code from 300 to 699 and a reason phrase. Contracts see the two.
+#[derive(Debug, Drop)]
+pub struct ErrorCode<'a> {
+    code: u16,
+    reason: &'a str,
+}
+
+impl<'a> Model for ErrorCode<'a> {
+    ghost use Rattle.std.specs.Prelude.{◌≤◌, ◌<◌, length};
+    ghost use Rattle.stun_types.specs.ErrorCode.{CodeAndReason};
+
+    ghost Value = { CodeAndReason };
+
+    ghost view = { λ error. record { code = error.code; reason = error.reason.now } };
+
+    ghost invariant = { λ error. (300 ≤ error.code) × (error.code < 700) × (length error.reason.now ≤ 763) };
+}
+
+impl ErrorCode<'_> {
+    /// 400: the request was malformed.
+    pub const BAD_REQUEST: u16 = 400;
+    /// 401: the request lacks the right credentials.
+    pub const UNAUTHORIZED: u16 = 401;
+    /// 438: the nonce of the request is no longer valid.
+    pub const STALE_NONCE: u16 = 438;
+}
+
+impl<'a> ErrorCode<'a> {
+    /// Begins an attribute of this code. Its reason is `Bad Request` for 400, `Unauthorized` for 401, `Stale Nonce` for 438,
+    /// and else empty, until it is set.
+    pub fn builder(code: u16) -> ErrorCodeBuilder<'a>
+        ensures { result ≡ record { code = code; reason = default_reason code } }
+    {
+        ErrorCodeBuilder {
+            code,
+            reason: default_reason(code),
+        }
+    }
+
+    /// The code, from 300 to 699.
+    pub fn code(&self) -> u16
+        ensures code { result ≡ self.now.code }
+        ensures from_300 { 300 ≤ result }
+        ensures below_700 { result < 700 }
+    {
+        self.code
+    }
+
+    /// The reason phrase, of at most 763 bytes.
+    pub fn reason(&self) -> &'a str
+        ensures text { result.now ≡ self.now.reason }
+        ensures short { length result.now ≤ 763 }
+    {
+        self.reason
+    }
+}
+
+/// The phrase of a code whose reason is not set.
+fn default_reason(code: u16) -> &'static str
+    ensures { result.now ≡ default_reason code }
+{
+    match code {
+        ErrorCode::BAD_REQUEST => "Bad Request",
+        ErrorCode::UNAUTHORIZED => "Unauthorized",
+        ErrorCode::STALE_NONCE => "Stale Nonce",
+        _ => "",
+    }
+}
+
+/// A code and a reason that are not yet known to be within their limits. Contracts see the two.
+#[derive(Debug, Drop)]
+pub struct ErrorCodeBuilder<'a> {
+    code: u16,
+    reason: &'a str,
+}
+
+impl<'a> Model for ErrorCodeBuilder<'a> {
+    ghost use Rattle.stun_types.specs.ErrorCode.{CodeAndReason};
+
+    ghost Value = { CodeAndReason };
+
+    ghost view = { λ error. record { code = error.code; reason = error.reason.now } };
+}
+
+impl<'a> ErrorCodeBuilder<'a> {
+    /// Sets the reason.
+    pub fn reason(self, reason: &'a str) -> Self
+        ensures { result ≡ record { code = self.entry.code; reason = reason.now } }
+    {
+        ErrorCodeBuilder {
+            code: self.code,
+            reason,
+        }
+    }
+
+    /// The attribute, or `NotAllowed` where the code is not one of 300 to 699, then `TooLarge` where the reason has more
+    /// than 763 bytes. It takes no memory.
+    pub fn build(self) -> Result<ErrorCode<'a>, StunWriteError>
+        ensures value { IfOk result (λ error. error ≡ self.entry) }
+        ensures ok { OnOk result (error_refusal self.entry ≡ None) }
+        ensures refused { IfErr result (λ error. error_refusal self.entry ≡ Some error) }
+    {
+        if self.code < 300 || self.code > 699 {
+            return Err(StunWriteError::NotAllowed);
+        }
+        if self.reason.len() > MAX_REASON_LENGTH {
+            return Err(StunWriteError::TooLarge);
+        }
+        Ok(ErrorCode {
+            code: self.code,
+            reason: self.reason,
+        })
+    }
+}
+
+/// The code in a value, where its class is one of 3 to 6 and its number below 100. The reserved bits are not looked at.
+fn read_code(value: &[u8]) -> Option<u16>
+    requires { 4 ≤ length value.now }
+    ensures code { result ≡ code_in value.now }
+    ensures limits { IfSome result (λ code. (300 ≤ code) × (code < 700)) }
+{
+    let class = u16::from(value[2] % 8);
+    let number = u16::from(value[3]);
+    if class < 3 || class > 6 || number > 99 {
+        return None;
+    }
+    Some(100 * class + number)
+}
+
+impl<'a> AttributeStaticType for ErrorCode<'a> {
+    const TYPE: AttributeType = AttributeType::ERROR_CODE;
+
+    ghost static_kind = { ERROR_CODE };
+
+    fn static_type() -> AttributeType
+        ensures { result.0 ≡ ERROR_CODE }
+    {
+        Self::TYPE
+    }
+}
+
+impl<'a> Attribute for ErrorCode<'a> {
+    ghost kind = { λ _. ERROR_CODE };
+
+    ghost value = { error_value };
+
+    ghost is_well_formed = { IsError };
+
+    fn get_type(&self) -> AttributeType {
+        Self::TYPE
+    }
+
+    fn length(&self) -> usize {
+        CODE_LENGTH + self.reason.as_bytes().len()
+    }
+
+    fn write_into<W: MessageWrite>(&self, writer: &mut W) {
+        let class = (self.code / 100) as u8;
+        let number = (self.code % 100) as u8;
+        let reason = self.reason.as_bytes();
+        append_header(writer, Self::TYPE, CODE_LENGTH + reason.len());
+        writer.append(&[0, 0, class, number]);
+        writer.append(reason);
+        append_padding(writer, CODE_LENGTH + reason.len());
+    }
+}
+
+impl<'a> AttributeFromRaw<'a> for ErrorCode<'a> {
+    ghost reading = { error_of };
+
+    ghost reads_back = { error_of-written };
+
+    fn from_raw(raw: RawAttribute<'a>) -> Result<Self, StunParseError> {
+        let value = raw.value();
+        if raw.get_type() != Self::TYPE || value.len() < CODE_LENGTH {
+            return Err(StunParseError::InvalidAttributeData);
+        }
+        let Some(code) = read_code(value) else {
+            return Err(StunParseError::InvalidAttributeData);
+        };
+        let reason = read_short_text(&value[CODE_LENGTH..], MAX_REASON_LENGTH)?;
+        Ok(ErrorCode { code, reason })
+    }
+}

@@ -1,0 +1,96 @@
+//! NONCE (RFC 8489, section 14.10).
+
+ghost use Rattle.std.specs.Prelude.{◌≡◌, ◌≤◌, ◌<◌, ◌↔◌, IfOk, IsOkUnless, IsErrOf, IsUtf8, length};
+ghost use Rattle.stun_base.specs.Attributes.{NONCE};
+ghost use Rattle.stun_types.specs.Text.{text_of, text_of-written};
+
+use crate::append::append_attribute;
+use crate::attribute::text::{read_text, within_limit};
+use crate::attribute::{
+    Attribute, AttributeFromRaw, AttributeStaticType, AttributeType, RawAttribute,
+};
+use crate::write::MessageWrite;
+use std::marker::Model;
+use stun_base::error::{StunParseError, StunWriteError};
+
+/// The bytes of the longest nonce.
+const MAX_LENGTH: usize = 763;
+
+/// The nonce that a server gave out. Contracts see its bytes.
+#[derive(Debug, Drop)]
+pub struct Nonce<'a> {
+    text: &'a str,
+}
+
+impl<'a> Model for Nonce<'a> {
+    ghost use Rattle.std.specs.Prelude.{ℕ, List, ◌≤◌, length};
+
+    ghost Value = { List ℕ };
+
+    ghost view = { λ nonce. nonce.text.now };
+
+    ghost invariant = { λ nonce. length nonce.text.now ≤ 763 };
+}
+
+impl<'a> Nonce<'a> {
+    /// The attribute of this nonce, or `TooLarge` where it has more than 763 bytes. It takes no memory.
+    pub fn new(text: &'a str) -> Result<Self, StunWriteError>
+        ensures ok { IfOk result (λ nonce. nonce ≡ text.now) }
+        ensures only_too_large { IsOkUnless result StunWriteError.TooLarge }
+        ensures too_large { IsErrOf result StunWriteError.TooLarge ↔ (763 < length text.now) }
+    {
+        let text = within_limit(text, MAX_LENGTH)?;
+        Ok(Nonce { text })
+    }
+
+    /// The nonce.
+    pub fn nonce(&self) -> &'a str
+        ensures text { result.now ≡ self.now }
+        ensures within_limit { length result.now ≤ 763 }
+    {
+        self.text
+    }
+}
+
+impl<'a> AttributeStaticType for Nonce<'a> {
+    const TYPE: AttributeType = AttributeType::NONCE;
+
+    ghost static_kind = { NONCE };
+
+    fn static_type() -> AttributeType
+        ensures { result.0 ≡ NONCE }
+    {
+        Self::TYPE
+    }
+}
+
+impl<'a> Attribute for Nonce<'a> {
+    ghost kind = { λ _. NONCE };
+
+    ghost value = { λ nonce. nonce };
+
+    ghost is_well_formed = { λ nonce. IsUtf8 nonce × (length nonce ≤ 763) };
+
+    fn get_type(&self) -> AttributeType {
+        Self::TYPE
+    }
+
+    fn length(&self) -> usize {
+        self.text.as_bytes().len()
+    }
+
+    fn write_into<W: MessageWrite>(&self, writer: &mut W) {
+        append_attribute(writer, Self::TYPE, self.text.as_bytes());
+    }
+}
+
+impl<'a> AttributeFromRaw<'a> for Nonce<'a> {
+    ghost reading = { text_of NONCE 763 };
+
+    ghost reads_back = { text_of-written NONCE 763 };
+
+    fn from_raw(raw: RawAttribute<'a>) -> Result<Self, StunParseError> {
+        let text = read_text(raw, Self::TYPE, MAX_LENGTH)?;
+        Ok(Nonce { text })
+    }
+}

@@ -1,0 +1,154 @@
+//! PASSWORD-ALGORITHM (RFC 8489, section 14.12), and the algorithms that keys are made by (section 18.5).
+
+ghost use Rattle.std.specs.Prelude.{◌≡◌, ◌≤◌, length};
+ghost use Rattle.stun_base.specs.Attributes.{PASSWORD_ALGORITHM};
+ghost use Rattle.stun_types.specs.PasswordAlgorithms.{algorithm_of, algorithm_of-written, entry_at_front, integrity_of, password_algorithm_of, spelled_entry};
+
+use crate::append::append_attribute;
+use crate::attribute::{
+    Attribute, AttributeFromRaw, AttributeStaticType, AttributeType, RawAttribute,
+};
+use crate::write::MessageWrite;
+use byteorder::{BigEndian, ByteOrder};
+use std::marker::Model;
+use stun_base::algorithm::IntegrityAlgorithm;
+use stun_base::error::StunParseError;
+
+/// The bytes of an algorithm without parameters: its number and the length of its parameters.
+pub(super) const ENTRY_LENGTH: usize = 4;
+
+/// A hash function that makes the key of a password.
+#[derive(Clone, Copy, Debug, PartialEq, Eq)]
+pub enum PasswordAlgorithmValue {
+    /// MD5 (RFC 8489, section 18.5.1.1), whose key goes with HMAC-SHA1.
+    MD5,
+    /// SHA-256 (section 18.5.1.2), whose key goes with HMAC-SHA256.
+    SHA256,
+}
+
+impl PasswordAlgorithmValue {
+    /// The digest of message integrity that a key of this algorithm goes with.
+    pub fn as_integrity(self) -> IntegrityAlgorithm
+        ensures { result ≡ integrity_of self }
+    {
+        match self {
+            PasswordAlgorithmValue::MD5 => IntegrityAlgorithm::Sha1,
+            PasswordAlgorithmValue::SHA256 => IntegrityAlgorithm::Sha256,
+        }
+    }
+
+    /// The algorithm whose key goes with this digest of message integrity.
+    pub fn from_integrity(integrity: IntegrityAlgorithm) -> Self
+        ensures { result ≡ password_algorithm_of integrity }
+    {
+        match integrity {
+            IntegrityAlgorithm::Sha1 => PasswordAlgorithmValue::MD5,
+            IntegrityAlgorithm::Sha256 => PasswordAlgorithmValue::SHA256,
+        }
+    }
+
+    /// The algorithm as an entry: its number, and no parameters.
+    pub(super) fn entry(self) -> [u8; ENTRY_LENGTH]
+        ensures { result ≡ spelled_entry self }
+    {
+        match self {
+            PasswordAlgorithmValue::MD5 => [0, 1, 0, 0],
+            PasswordAlgorithmValue::SHA256 => [0, 2, 0, 0],
+        }
+    }
+}
+
+/// The algorithm of the entry at the front, where its number is known and it has no parameters.
+pub(super) fn read_entry(bytes: &[u8]) -> Option<PasswordAlgorithmValue>
+    requires { 4 ≤ length bytes.now }
+    ensures { result ≡ entry_at_front bytes.now }
+{
+    if BigEndian::read_u16(&bytes[2..]) != 0 {
+        return None;
+    }
+    match BigEndian::read_u16(bytes) {
+        1 => Some(PasswordAlgorithmValue::MD5),
+        2 => Some(PasswordAlgorithmValue::SHA256),
+        _ => None,
+    }
+}
+
+/// The algorithm that a client chose. Contracts see the algorithm.
+#[derive(Clone, Copy, Debug, PartialEq, Eq)]
+pub struct PasswordAlgorithm {
+    algorithm: PasswordAlgorithmValue,
+}
+
+impl Model for PasswordAlgorithm {
+    ghost use Rattle.stun_types.specs.declared.attribute.password_algorithm.PasswordAlgorithmValue.{PasswordAlgorithmValue};
+
+    ghost Value = { PasswordAlgorithmValue };
+
+    ghost view = { λ chosen. chosen.algorithm };
+
+    ghost inverse = { λ algorithm. record { algorithm = algorithm } };
+}
+
+impl PasswordAlgorithm {
+    /// The attribute of this algorithm.
+    pub fn new(algorithm: PasswordAlgorithmValue) -> Self
+        ensures { result ≡ algorithm }
+    {
+        PasswordAlgorithm { algorithm }
+    }
+
+    /// The algorithm.
+    pub fn algorithm(&self) -> PasswordAlgorithmValue
+        ensures { result ≡ self.now }
+    {
+        self.algorithm
+    }
+}
+
+impl AttributeStaticType for PasswordAlgorithm {
+    const TYPE: AttributeType = AttributeType::PASSWORD_ALGORITHM;
+
+    ghost static_kind = { PASSWORD_ALGORITHM };
+
+    fn static_type() -> AttributeType
+        ensures { result.0 ≡ PASSWORD_ALGORITHM }
+    {
+        Self::TYPE
+    }
+}
+
+impl Attribute for PasswordAlgorithm {
+    ghost kind = { λ _. PASSWORD_ALGORITHM };
+
+    ghost value = { λ algorithm. spelled_entry algorithm };
+
+    ghost is_well_formed = { λ _. Unit {0} };
+
+    fn get_type(&self) -> AttributeType {
+        Self::TYPE
+    }
+
+    fn length(&self) -> usize {
+        self.algorithm.entry().as_slice().len()
+    }
+
+    fn write_into<W: MessageWrite>(&self, writer: &mut W) {
+        append_attribute(writer, Self::TYPE, &self.algorithm.entry());
+    }
+}
+
+impl<'a> AttributeFromRaw<'a> for PasswordAlgorithm {
+    ghost reading = { algorithm_of };
+
+    ghost reads_back = { algorithm_of-written };
+
+    fn from_raw(raw: RawAttribute<'a>) -> Result<Self, StunParseError> {
+        if raw.get_type() != Self::TYPE || raw.length() != ENTRY_LENGTH {
+            return Err(StunParseError::InvalidAttributeData);
+        }
+        match read_entry(raw.value()) {
+            Some(algorithm) => Ok(PasswordAlgorithm { algorithm }),
+            None => Err(StunParseError::InvalidAttributeData),
+        }
+    }
+}

@@ -1,0 +1,210 @@
+//! PASSWORD-ALGORITHMS (RFC 8489, section 14.11).
+
+ghost use Rattle.std.specs.Prelude.{◌≡◌, ◌≤◌, ◌<◌, ◌+◌, ◌*◌, ◌/◌, ◌++◌, ◌↔◌, [], IsTrue, length};
+ghost use Rattle.std.specs.List.{Contains, slice_get};
+ghost use Rattle.stun_base.specs.Attributes.{PASSWORD_ALGORITHMS};
+ghost use Rattle.stun_types.specs.PasswordAlgorithms.{algorithms_of, algorithms_of-written, are_entries, entry_list, spelled_entries};
+
+use crate::append::{append_header, append_padding};
+use crate::attribute::password_algorithm::{ENTRY_LENGTH, read_entry};
+use crate::attribute::{
+    Attribute, AttributeFromRaw, AttributeStaticType, AttributeType, PasswordAlgorithmValue,
+    RawAttribute,
+};
+use crate::write::MessageWrite;
+use std::marker::Model;
+use stun_base::error::StunParseError;
+
+/// Where the algorithms stand.
+#[derive(Clone, Copy, Debug)]
+enum Source<'a> {
+    /// A program's own list.
+    Listed(&'a [PasswordAlgorithmValue]),
+    /// Entries in a message.
+    Received(&'a [u8]),
+}
+
+/// The algorithms that a server offers, the most preferred first, in a list or in a message, which it borrows. Contracts
+/// see the list.
+#[derive(Debug, Drop)]
+pub struct PasswordAlgorithms<'a> {
+    source: Source<'a>,
+}
+
+impl<'a> Model for PasswordAlgorithms<'a> {
+    ghost use Rattle.std.specs.Prelude.{List};
+    ghost use Rattle.stun_types.specs.declared.attribute.password_algorithm.PasswordAlgorithmValue.{PasswordAlgorithmValue};
+
+    ghost Value = { List PasswordAlgorithmValue };
+
+    ghost use Rattle.stun_types.specs.AlgorithmSource.{list_of, IsKnown};
+
+    ghost view = { λ algorithms. list_of algorithms.source };
+
+    ghost invariant = { λ algorithms. IsKnown algorithms.source };
+}
+
+/// Whether bytes are entries of known algorithms without parameters.
+fn are_known(bytes: &[u8]) -> bool
+    ensures { result ≡ are_entries bytes.now }
+{
+    let mut rest = bytes;
+    while !rest.is_empty() {
+        if rest.len() < ENTRY_LENGTH || read_entry(rest).is_none() {
+            return false;
+        }
+        rest = &rest[ENTRY_LENGTH..];
+    }
+    true
+}
+
+/// The algorithm of the entry of this index, where there are so many.
+fn entry_at(bytes: &[u8], i: usize) -> Option<PasswordAlgorithmValue>
+    requires { IsTrue (are_entries bytes.now) }
+    ensures { result ≡ slice_get (entry_list bytes.now) i }
+{
+    if i >= bytes.len() / ENTRY_LENGTH {
+        return None;
+    }
+    read_entry(&bytes[ENTRY_LENGTH * i..])
+}
+
+/// The number of entries.
+fn entry_count(bytes: &[u8]) -> usize
+    requires { IsTrue (are_entries bytes.now) }
+    ensures { result ≡ length (entry_list bytes.now) }
+{
+    bytes.len() / ENTRY_LENGTH
+}
+
+impl<'a> PasswordAlgorithms<'a> {
+    /// The attribute of these algorithms. It takes no memory.
+    pub fn new(algorithms: &'a [PasswordAlgorithmValue]) -> Self
+        ensures { result ≡ algorithms.now }
+    {
+        PasswordAlgorithms {
+            source: Source::Listed(algorithms),
+        }
+    }
+
+    /// The number of algorithms.
+    pub fn len(&self) -> usize
+        ensures { result ≡ length self.now }
+    {
+        match self.source {
+            Source::Listed(list) => list.len(),
+            Source::Received(bytes) => entry_count(bytes),
+        }
+    }
+
+    /// Whether there is no algorithm.
+    pub fn is_empty(&self) -> bool
+        ensures { IsTrue result ↔ (self.now ≡ []) }
+    {
+        self.len() == 0
+    }
+
+    /// The algorithm of this index, counted from 0.
+    pub fn get(&self, i: usize) -> Option<PasswordAlgorithmValue>
+        ensures { result ≡ slice_get self.now i }
+    {
+        match self.source {
+            Source::Listed(list) => list.get(i).copied(),
+            Source::Received(bytes) => entry_at(bytes, i),
+        }
+    }
+
+    /// Whether the algorithm is in the list.
+    pub fn contains(&self, algorithm: PasswordAlgorithmValue) -> bool
+        ensures { IsTrue result ↔ Contains self.now algorithm }
+    {
+        for i in 0..self.len() {
+            if self.get(i) == Some(algorithm) {
+                return true;
+            }
+        }
+        false
+    }
+
+    /// Whether these are the algorithms of the list, in the same order.
+    pub fn equals(&self, algorithms: &[PasswordAlgorithmValue]) -> bool
+        ensures { IsTrue result ↔ (self.now ≡ algorithms.now) }
+    {
+        if self.len() != algorithms.len() {
+            return false;
+        }
+        for (i, algorithm) in algorithms.iter().enumerate() {
+            if self.get(i) != Some(*algorithm) {
+                return false;
+            }
+        }
+        true
+    }
+
+    /// Appends the entries of the algorithms.
+    fn append_entries<W: MessageWrite>(&self, writer: &mut W)
+        requires { 4 * length self.now ≤ W.reserved writer.old }
+        ensures bytes { W.bytes writer.new ≡ W.bytes writer.old ++ spelled_entries self.now }
+        ensures room { W.room writer.new + 4 * length self.now ≡ W.room writer.old }
+        ensures reserved { W.reserved writer.new + 4 * length self.now ≡ W.reserved writer.old }
+    {
+        for i in 0..self.len() {
+            if let Some(algorithm) = self.get(i) {
+                writer.append(&algorithm.entry());
+            }
+        }
+    }
+}
+
+impl<'a> AttributeStaticType for PasswordAlgorithms<'a> {
+    const TYPE: AttributeType = AttributeType::PASSWORD_ALGORITHMS;
+
+    ghost static_kind = { PASSWORD_ALGORITHMS };
+
+    fn static_type() -> AttributeType
+        ensures { result.0 ≡ PASSWORD_ALGORITHMS }
+    {
+        Self::TYPE
+    }
+}
+
+impl<'a> Attribute for PasswordAlgorithms<'a> {
+    ghost kind = { λ _. PASSWORD_ALGORITHMS };
+
+    ghost value = { λ algorithms. spelled_entries algorithms };
+
+    ghost is_well_formed = { λ _. Unit {0} };
+
+    fn get_type(&self) -> AttributeType {
+        Self::TYPE
+    }
+
+    #[tactic(auto, using(crate::proofs::EntryLemmas::length_of_entries))]
+    fn length(&self) -> usize {
+        self.len().saturating_mul(ENTRY_LENGTH)
+    }
+
+    #[tactic(auto, using(crate::proofs::EntryLemmas::length_of_entries))]
+    fn write_into<W: MessageWrite>(&self, writer: &mut W) {
+        let value_length = ENTRY_LENGTH * self.len();
+        append_header(writer, Self::TYPE, value_length);
+        self.append_entries(writer);
+        append_padding(writer, value_length);
+    }
+}
+
+impl<'a> AttributeFromRaw<'a> for PasswordAlgorithms<'a> {
+    ghost reading = { algorithms_of };
+
+    ghost reads_back = { algorithms_of-written };
+
+    fn from_raw(raw: RawAttribute<'a>) -> Result<Self, StunParseError> {
+        let bytes = raw.value();
+        if raw.get_type() != Self::TYPE || !are_known(bytes) {
+            return Err(StunParseError::InvalidAttributeData);
+        }
+        Ok(PasswordAlgorithms {
+            source: Source::Received(bytes),
+        })
+    }
+}

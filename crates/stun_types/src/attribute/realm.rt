@@ -1,0 +1,96 @@
+//! REALM (RFC 8489, section 14.9).
+
+ghost use Rattle.std.specs.Prelude.{◌≡◌, ◌≤◌, ◌<◌, ◌↔◌, IfOk, IsOkUnless, IsErrOf, IsUtf8, length};
+ghost use Rattle.stun_base.specs.Attributes.{REALM};
+ghost use Rattle.stun_types.specs.Text.{text_of, text_of-written};
+
+use crate::append::append_attribute;
+use crate::attribute::text::{read_text, within_limit};
+use crate::attribute::{
+    Attribute, AttributeFromRaw, AttributeStaticType, AttributeType, RawAttribute,
+};
+use crate::write::MessageWrite;
+use std::marker::Model;
+use stun_base::error::{StunParseError, StunWriteError};
+
+/// The bytes of the longest realm.
+const MAX_LENGTH: usize = 763;
+
+/// The realm that credentials belong to. Contracts see its bytes.
+#[derive(Debug, Drop)]
+pub struct Realm<'a> {
+    text: &'a str,
+}
+
+impl<'a> Model for Realm<'a> {
+    ghost use Rattle.std.specs.Prelude.{ℕ, List, ◌≤◌, length};
+
+    ghost Value = { List ℕ };
+
+    ghost view = { λ realm. realm.text.now };
+
+    ghost invariant = { λ realm. length realm.text.now ≤ 763 };
+}
+
+impl<'a> Realm<'a> {
+    /// The attribute of this realm, or `TooLarge` where it has more than 763 bytes. It takes no memory.
+    pub fn new(text: &'a str) -> Result<Self, StunWriteError>
+        ensures ok { IfOk result (λ realm. realm ≡ text.now) }
+        ensures only_too_large { IsOkUnless result StunWriteError.TooLarge }
+        ensures too_large { IsErrOf result StunWriteError.TooLarge ↔ (763 < length text.now) }
+    {
+        let text = within_limit(text, MAX_LENGTH)?;
+        Ok(Realm { text })
+    }
+
+    /// The realm.
+    pub fn realm(&self) -> &'a str
+        ensures text { result.now ≡ self.now }
+        ensures within_limit { length result.now ≤ 763 }
+    {
+        self.text
+    }
+}
+
+impl<'a> AttributeStaticType for Realm<'a> {
+    const TYPE: AttributeType = AttributeType::REALM;
+
+    ghost static_kind = { REALM };
+
+    fn static_type() -> AttributeType
+        ensures { result.0 ≡ REALM }
+    {
+        Self::TYPE
+    }
+}
+
+impl<'a> Attribute for Realm<'a> {
+    ghost kind = { λ _. REALM };
+
+    ghost value = { λ realm. realm };
+
+    ghost is_well_formed = { λ realm. IsUtf8 realm × (length realm ≤ 763) };
+
+    fn get_type(&self) -> AttributeType {
+        Self::TYPE
+    }
+
+    fn length(&self) -> usize {
+        self.text.as_bytes().len()
+    }
+
+    fn write_into<W: MessageWrite>(&self, writer: &mut W) {
+        append_attribute(writer, Self::TYPE, self.text.as_bytes());
+    }
+}
+
+impl<'a> AttributeFromRaw<'a> for Realm<'a> {
+    ghost reading = { text_of REALM 763 };
+
+    ghost reads_back = { text_of-written REALM 763 };
+
+    fn from_raw(raw: RawAttribute<'a>) -> Result<Self, StunParseError> {
+        let text = read_text(raw, Self::TYPE, MAX_LENGTH)?;
+        Ok(Realm { text })
+    }
+}

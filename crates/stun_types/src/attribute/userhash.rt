@@ -1,0 +1,104 @@
+//! USERHASH (RFC 8489, section 14.4).
+
+ghost use Rattle.std.specs.Prelude.{◌≡◌, length};
+ghost use Rattle.stun_base.specs.Attributes.{USERHASH};
+ghost use Rattle.stun_base.specs.Keys as keys;
+ghost use Rattle.stun_types.specs.Userhash.{hash_of, hash_of-written};
+
+use crate::append::append_attribute;
+use crate::attribute::{
+    Attribute, AttributeFromRaw, AttributeStaticType, AttributeType, RawAttribute,
+};
+use crate::write::MessageWrite;
+use std::marker::Model;
+use stun_base::error::StunParseError;
+use stun_base::key::userhash;
+
+/// The bytes of a hash.
+const LENGTH: usize = 32;
+
+/// The hash that stands for a user name at a realm. Contracts see its bytes.
+#[derive(Clone, Copy, Debug, PartialEq, Eq)]
+pub struct Userhash {
+    hash: [u8; LENGTH],
+}
+
+impl Model for Userhash {
+    ghost use Rattle.std.specs.Prelude.{ℕ, List};
+
+    ghost Value = { List ℕ };
+
+    ghost view = { λ userhash. userhash.hash };
+
+    ghost inverse = { λ hash. record { hash = hash } };
+}
+
+impl Userhash {
+    /// The attribute of this hash.
+    pub fn new(hash: [u8; 32]) -> Self
+        ensures { result ≡ hash }
+    {
+        Userhash { hash }
+    }
+
+    /// The hash of a user name at a realm: SHA-256 of the two with a colon between them. It takes no memory.
+    pub fn compute(user: &str, realm: &str) -> [u8; 32]
+        ensures { result ≡ keys.userhash user.now realm.now }
+    {
+        userhash(user, realm)
+    }
+
+    /// The bytes of the hash.
+    pub fn hash(&self) -> &[u8; 32]
+        ensures { result.now ≡ self.now }
+    {
+        &self.hash
+    }
+}
+
+impl AttributeStaticType for Userhash {
+    const TYPE: AttributeType = AttributeType::USERHASH;
+
+    ghost static_kind = { USERHASH };
+
+    fn static_type() -> AttributeType
+        ensures { result.0 ≡ USERHASH }
+    {
+        Self::TYPE
+    }
+}
+
+impl Attribute for Userhash {
+    ghost kind = { λ _. USERHASH };
+
+    ghost value = { λ userhash. userhash };
+
+    ghost is_well_formed = { λ userhash. length userhash ≡ 32 };
+
+    fn get_type(&self) -> AttributeType {
+        Self::TYPE
+    }
+
+    fn length(&self) -> usize {
+        self.hash.as_slice().len()
+    }
+
+    fn write_into<W: MessageWrite>(&self, writer: &mut W) {
+        append_attribute(writer, Self::TYPE, &self.hash);
+    }
+}
+
+impl<'a> AttributeFromRaw<'a> for Userhash {
+    ghost reading = { hash_of };
+
+    ghost reads_back = { hash_of-written };
+
+    fn from_raw(raw: RawAttribute<'a>) -> Result<Self, StunParseError> {
+        if raw.get_type() != Self::TYPE || raw.length() != LENGTH {
+            return Err(StunParseError::InvalidAttributeData);
+        }
+        let mut hash = [0; LENGTH];
+        hash.copy_from_slice(raw.value());
+        Ok(Userhash { hash })
+    }
+}

@@ -1,0 +1,96 @@
+//! USERNAME (RFC 8489, section 14.3).
+
+ghost use Rattle.std.specs.Prelude.{◌≡◌, ◌≤◌, ◌<◌, ◌↔◌, IfOk, IsOkUnless, IsErrOf, IsUtf8, length};
+ghost use Rattle.stun_base.specs.Attributes.{USERNAME};
+ghost use Rattle.stun_types.specs.Text.{text_of, text_of-written};
+
+use crate::append::append_attribute;
+use crate::attribute::text::{read_text, within_limit};
+use crate::attribute::{
+    Attribute, AttributeFromRaw, AttributeStaticType, AttributeType, RawAttribute,
+};
+use crate::write::MessageWrite;
+use std::marker::Model;
+use stun_base::error::{StunParseError, StunWriteError};
+
+/// The bytes of the longest user name.
+const MAX_LENGTH: usize = 513;
+
+/// The name of a user. Contracts see its bytes.
+#[derive(Debug, Drop)]
+pub struct Username<'a> {
+    text: &'a str,
+}
+
+impl<'a> Model for Username<'a> {
+    ghost use Rattle.std.specs.Prelude.{ℕ, List, ◌≤◌, length};
+
+    ghost Value = { List ℕ };
+
+    ghost view = { λ username. username.text.now };
+
+    ghost invariant = { λ username. length username.text.now ≤ 513 };
+}
+
+impl<'a> Username<'a> {
+    /// The attribute of this user name, or `TooLarge` where it has more than 513 bytes. It takes no memory.
+    pub fn new(text: &'a str) -> Result<Self, StunWriteError>
+        ensures ok { IfOk result (λ username. username ≡ text.now) }
+        ensures only_too_large { IsOkUnless result StunWriteError.TooLarge }
+        ensures too_large { IsErrOf result StunWriteError.TooLarge ↔ (513 < length text.now) }
+    {
+        let text = within_limit(text, MAX_LENGTH)?;
+        Ok(Username { text })
+    }
+
+    /// The user name.
+    pub fn username(&self) -> &'a str
+        ensures text { result.now ≡ self.now }
+        ensures within_limit { length result.now ≤ 513 }
+    {
+        self.text
+    }
+}
+
+impl<'a> AttributeStaticType for Username<'a> {
+    const TYPE: AttributeType = AttributeType::USERNAME;
+
+    ghost static_kind = { USERNAME };
+
+    fn static_type() -> AttributeType
+        ensures { result.0 ≡ USERNAME }
+    {
+        Self::TYPE
+    }
+}
+
+impl<'a> Attribute for Username<'a> {
+    ghost kind = { λ _. USERNAME };
+
+    ghost value = { λ username. username };
+
+    ghost is_well_formed = { λ username. IsUtf8 username × (length username ≤ 513) };
+
+    fn get_type(&self) -> AttributeType {
+        Self::TYPE
+    }
+
+    fn length(&self) -> usize {
+        self.text.as_bytes().len()
+    }
+
+    fn write_into<W: MessageWrite>(&self, writer: &mut W) {
+        append_attribute(writer, Self::TYPE, self.text.as_bytes());
+    }
+}
+
+impl<'a> AttributeFromRaw<'a> for Username<'a> {
+    ghost reading = { text_of USERNAME 513 };
+
+    ghost reads_back = { text_of-written USERNAME 513 };
+
+    fn from_raw(raw: RawAttribute<'a>) -> Result<Self, StunParseError> {
+        let text = read_text(raw, Self::TYPE, MAX_LENGTH)?;
+        Ok(Username { text })
+    }
+}

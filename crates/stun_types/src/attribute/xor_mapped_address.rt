@@ -1,0 +1,230 @@
+//! XOR-MAPPED-ADDRESS (RFC 8489, section 14.2).
+
+ghost use Rattle.std.specs.Prelude.{◌≡◌, ◌≤◌, ◌+◌, ◌%◌, ◌++◌, false, true, MatchOption, length};
+ghost use Rattle.std.specs.Net.Socket.{IsPlainSocket, socket_ip, socket_port};
+ghost use Rattle.stun_base.specs.Attributes.{XOR_MAPPED_ADDRESS};
+ghost use Rattle.stun_types.specs.Grammar.{spelled_attribute};
+ghost use Rattle.stun_types.specs.XorMappedAddress.{IsHidden, IsXored, has_octets, xor_bytes, xor_key, xor_port, xored, xored_of, xored_value};
+ghost use Rattle.stun_types.specs.XorMappedAddressLaws.{xored_of-written};
+ghost use Rattle.stun_types.specs.XoredOctets.{IsWhole, family_of, octets_of};
+
+use crate::append::append_header;
+use crate::attribute::{
+    Attribute, AttributeFromRaw, AttributeStaticType, AttributeType, RawAttribute,
+};
+use crate::write::MessageWrite;
+use byteorder::{BigEndian, ByteOrder};
+use std::marker::Model;
+use std::net::{IpAddr, Ipv4Addr, Ipv6Addr, SocketAddr};
+use stun_base::error::StunParseError;
+use stun_base::header::MAGIC_COOKIE;
+use stun_base::transaction_id::TransactionId;
+
+/// The first half of the magic cookie, which the port is hidden by.
+const PORT_KEY: u16 = 0x2112;
+
+/// The bytes of the value before the octets.
+const FAMILY_AND_PORT_LENGTH: usize = 4;
+
+/// The family of IPv4.
+const IPV4: u8 = 1;
+
+/// The family of IPv6.
+const IPV6: u8 = 2;
+
+/// The octets of an address, each hidden by the key.
+#[derive(Clone, Copy, Debug)]
+enum XoredOctets {
+    V4([u8; 4]),
+    V6([u8; 16]),
+}
+
+/// The address that a request came from, as it stands in a message: port and octets are hidden by the magic cookie and the
+/// transaction id. Contracts see its parts as they stand there.
+#[derive(Debug, Drop)]
+pub struct XorMappedAddress {
+    port: u16,
+    octets: XoredOctets,
+}
+
+impl Model for XorMappedAddress {
+    ghost use Rattle.stun_types.specs.XorMappedAddress.{XoredAddress};
+
+    ghost Value = { XoredAddress };
+
+    ghost use Rattle.stun_types.specs.XoredOctets.{family_of, octets_of, IsWhole};
+
+    ghost view = { λ address. record {
+      family = family_of address.octets;
+      port = address.port;
+      octets = octets_of address.octets;
+    } };
+
+    ghost invariant = { λ address. IsWhole address.octets };
+}
+
+/// Each octet xor the byte of the key at its place.
+fn xor_with(octets: &mut [u8], key: &[u8])
+    requires { length octets.old ≤ length key.now }
+    ensures { octets.new ≡ xor_bytes octets.old key.now }
+{
+    for i in 0..octets.len() {
+        octets[i] ^= key[i];
+    }
+}
+
+/// The magic cookie, then the transaction id.
+fn xor_key(id: TransactionId) -> [u8; 16]
+    ensures { result ≡ xor_key id }
+{
+    let mut key = id.as_u128().to_be_bytes();
+    key[..4].copy_from_slice(&MAGIC_COOKIE.to_be_bytes());
+    key
+}
+
+/// The octets of an address of this family, where there are as many as it has.
+fn read_octets(family: u8, octets: &[u8]) -> Option<XoredOctets>
+    ensures { MatchOption result (has_octets family (length octets.now) ≡ false)
+        (λ read. (has_octets family (length octets.now) ≡ true)
+        × (family_of read ≡ family) × (octets_of read ≡ octets.now) × IsWhole read) }
+{
+    if family == IPV4 && octets.len() == 4 {
+        let mut ipv4 = [0; 4];
+        ipv4.copy_from_slice(octets);
+        return Some(XoredOctets::V4(ipv4));
+    }
+    if family == IPV6 && octets.len() == 16 {
+        let mut ipv6 = [0; 16];
+        ipv6.copy_from_slice(octets);
+        return Some(XoredOctets::V6(ipv6));
+    }
+    None
+}
+
+impl XorMappedAddress {
+    /// The attribute of this address in a message of this transaction. Flow information and scope of an IPv6 address are
+    /// not kept.
+    pub fn new(addr: SocketAddr, id: TransactionId) -> Self
+        ensures { result ≡ xored (socket_ip addr) (socket_port addr) id }
+    {
+        let key = xor_key(id);
+        let octets = match addr.ip() {
+            IpAddr::V4(ip) => {
+                let mut octets = ip.octets();
+                xor_with(&mut octets, &key);
+                XoredOctets::V4(octets)
+            }
+            IpAddr::V6(ip) => {
+                let mut octets = ip.octets();
+                xor_with(&mut octets, &key);
+                XoredOctets::V6(octets)
+            }
+        };
+        XorMappedAddress {
+            port: addr.port() ^ PORT_KEY,
+            octets,
+        }
+    }
+
+    /// The address, where the attribute stands in a message of this transaction. Flow information and scope of an IPv6
+    /// address are 0.
+    pub fn addr(&self, id: TransactionId) -> SocketAddr
+        ensures ip { IsHidden id self.now (socket_ip result) }
+        ensures port { IsPlainSocket result (xor_port self.now.port) }
+    {
+        let key = xor_key(id);
+        let ip = match self.octets {
+            XoredOctets::V4(octets) => {
+                let mut octets = octets;
+                xor_with(&mut octets, &key);
+                IpAddr::V4(Ipv4Addr::from_octets(octets))
+            }
+            XoredOctets::V6(octets) => {
+                let mut octets = octets;
+                xor_with(&mut octets, &key);
+                IpAddr::V6(Ipv6Addr::from_octets(octets))
+            }
+        };
+        SocketAddr::new(ip, self.port ^ PORT_KEY)
+    }
+}
+
+impl AttributeStaticType for XorMappedAddress {
+    const TYPE: AttributeType = AttributeType::XOR_MAPPED_ADDRESS;
+
+    ghost static_kind = { XOR_MAPPED_ADDRESS };
+
+    fn static_type() -> AttributeType
+        ensures { result.0 ≡ XOR_MAPPED_ADDRESS }
+    {
+        Self::TYPE
+    }
+}
+
+impl Attribute for XorMappedAddress {
+    ghost kind = { λ _. XOR_MAPPED_ADDRESS };
+
+    ghost value = { xored_value };
+
+    ghost is_well_formed = { IsXored };
+
+    fn get_type(&self) -> AttributeType {
+        Self::TYPE
+    }
+
+    fn length(&self) -> usize {
+        let _port = self.port;
+        match &self.octets {
+            XoredOctets::V4(octets) => FAMILY_AND_PORT_LENGTH + octets.as_slice().len(),
+            XoredOctets::V6(octets) => FAMILY_AND_PORT_LENGTH + octets.as_slice().len(),
+        }
+    }
+
+    fn write_into<W: MessageWrite>(&self, writer: &mut W) {
+        match &self.octets {
+            XoredOctets::V4(octets) => append_address(writer, IPV4, self.port, octets),
+            XoredOctets::V6(octets) => append_address(writer, IPV6, self.port, octets),
+        }
+    }
+}
+
+/// Appends the attribute of an address in this family.
+fn append_address<W: MessageWrite>(writer: &mut W, family: u8, port: u16, octets: &[u8])
+    requires whole { length octets.now % 4 ≡ 0 }
+    requires short { length octets.now ≤ 16 }
+    requires reserved { 8 + length octets.now ≤ W.reserved writer.old }
+    ensures bytes { W.bytes writer.new ≡ W.bytes writer.old
+        ++ spelled_attribute (record {
+          kind = XOR_MAPPED_ADDRESS;
+          value = xored_value (record { family = family; port = port; octets = octets.now });
+        }) }
+    ensures room { W.room writer.new + (8 + length octets.now) ≡ W.room writer.old }
+    ensures reserved { W.reserved writer.new + (8 + length octets.now) ≡ W.reserved writer.old }
+{
+    append_header(
+        writer,
+        AttributeType::XOR_MAPPED_ADDRESS,
+        FAMILY_AND_PORT_LENGTH + octets.len(),
+    );
+    writer.append(&[0, family]);
+    writer.append(&port.to_be_bytes());
+    writer.append(octets);
+}
+
+impl<'a> AttributeFromRaw<'a> for XorMappedAddress {
+    ghost reading = { xored_of };
+
+    ghost reads_back = { xored_of-written };
+
+    fn from_raw(raw: RawAttribute<'a>) -> Result<Self, StunParseError> {
+        let value = raw.value();
+        if raw.get_type() != Self::TYPE || value.len() < FAMILY_AND_PORT_LENGTH {
+            return Err(StunParseError::InvalidAttributeData);
+        }
+        let port = BigEndian::read_u16(&value[2..]);
+        match read_octets(value[1], &value[FAMILY_AND_PORT_LENGTH..]) {
+            Some(octets) => Ok(XorMappedAddress { port, octets }),
+            None => Err(StunParseError::InvalidAttributeData),
+        }
+    }
+}

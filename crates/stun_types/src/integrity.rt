@@ -1,0 +1,172 @@
+//! The check of a message's integrity (RFC 8489, sections 14.5, 14.6 and 9.2.4).
+ghost use Rattle.std.specs.Prelude.{◌≡◌, ◌+◌, ◌-◌, ◌^◌, ◌<◌, ◌≤◌, true, false, List, ℕ, length, IfOk, OnOk, IfErr, IfSome, Some, None};
+ghost use Rattle.stun_base.specs.Algorithm.{digest_length};
+ghost use Rattle.stun_base.specs.Header.{HEADER_LENGTH as header_length};
+ghost use Rattle.stun_base.specs.Keys.OfCredentials.{keys_of};
+ghost use Rattle.stun_types.specs.Visible.{visible};
+ghost use Rattle.stun_types.specs.Walk.{IsWithin};
+ghost use Rattle.stun_types.specs.Integrity.{first_of as first_member_of, algorithm_of, deciding, is_digest, is_well_formed, stands, stands_by, integrity_refusal};
+
+use crate::attribute::{AttributeType, RawAttribute};
+use crate::message::{Message, StunParseError, ValidateError};
+use std::alloc::Allocator;
+use stun_base::algorithm::IntegrityAlgorithm;
+use stun_base::credentials::MessageIntegrityCredentials;
+use stun_base::header::HEADER_LENGTH;
+use stun_base::hmac::{hmac_sha1, hmac_sha256};
+use stun_base::key::IntegrityKey;
+
+/// The first attribute of a type, with its place.
+pub(crate) fn first_of<'a>(
+    message: &Message<'a>,
+    kind: AttributeType,
+) -> Option<(usize, RawAttribute<'a>)>
+    ensures first { result ≡ first_member_of kind.0 (visible message.now) }
+    ensures within { IfSome result (IsWithin message.now) }
+{
+    message
+        .iter_attributes()
+        .find(|found| found.1.get_type() == kind)
+}
+
+/// The attribute whose digest decides, with its place.
+fn deciding_attribute<'a>(message: &Message<'a>) -> Option<(usize, RawAttribute<'a>)>
+    ensures deciding { result ≡ deciding message.now }
+    ensures within { IfSome result (IsWithin message.now) }
+{
+    match first_of(message, AttributeType::MESSAGE_INTEGRITY_SHA256) {
+        Some(found) => Some(found),
+        None => first_of(message, AttributeType::MESSAGE_INTEGRITY),
+    }
+}
+
+/// The algorithm of an integrity attribute.
+fn algorithm_of(attribute: &RawAttribute<'_>) -> IntegrityAlgorithm
+    ensures { result ≡ algorithm_of attribute.now }
+{
+    if attribute.get_type() == AttributeType::MESSAGE_INTEGRITY_SHA256 {
+        IntegrityAlgorithm::Sha256
+    } else {
+        IntegrityAlgorithm::Sha1
+    }
+}
+
+/// The bytes of a whole digest.
+pub(crate) fn digest_length(algorithm: IntegrityAlgorithm) -> usize
+    ensures { result ≡ digest_length algorithm }
+{
+    match algorithm {
+        IntegrityAlgorithm::Sha1 => 20,
+        IntegrityAlgorithm::Sha256 => 32,
+    }
+}
+
+/// Whether the value of an integrity attribute has a length that its type may have.
+fn is_well_formed(attribute: &RawAttribute<'_>) -> bool
+    ensures { result ≡ is_well_formed attribute.now }
+{
+    let length = attribute.length();
+    match algorithm_of(attribute) {
+        IntegrityAlgorithm::Sha1 => length == 20,
+        IntegrityAlgorithm::Sha256 => length >= 16 && length <= 32 && length % 4 == 0,
+    }
+}
+
+/// The attribute whose digest is to be compared, with its place, or why no digest can stand.
+fn claimed_digest<'a>(message: &Message<'a>) -> Result<(usize, RawAttribute<'a>), ValidateError>
+    ensures deciding { IfOk result (λ m. deciding message.now ≡ Some m) }
+    ensures whole { IfOk result (λ m. length m.1.value ≡ digest_length (algorithm_of m.1)) }
+    ensures within { IfOk result (IsWithin message.now) }
+    ensures compared { OnOk result (integrity_refusal message.now ≡ ValidateError.IntegrityFailed) }
+    ensures refused { IfErr result (λ error. error ≡ integrity_refusal message.now) }
+    ensures none { IfErr result (λ _. (keys : IntegrityAlgorithm → List ℕ) → stands_by keys message.now ≡ None) }
+{
+    let Some((place, attribute)) = deciding_attribute(message) else {
+        return Err(ValidateError::Parse(StunParseError::MissingAttribute(
+            AttributeType::MESSAGE_INTEGRITY,
+        )));
+    };
+    if !is_well_formed(&attribute) {
+        return Err(ValidateError::Parse(StunParseError::InvalidAttributeData));
+    }
+    if attribute.length() != digest_length(algorithm_of(&attribute)) {
+        return Err(ValidateError::IntegrityFailed);
+    }
+    Ok((place, attribute))
+}
+
+/// What the length field is to hold for the digest of an attribute at this place: the message ends behind it.
+fn covered_length(place: usize, value_length: usize) -> u16
+    requires behind_header { header_length ≤ place }
+    requires fits { place + 4 + value_length < header_length + 2 ^ 16 }
+    ensures { result ≡ place + 4 + value_length - header_length }
+{
+    (place + 4 + value_length - HEADER_LENGTH) as u16
+}
+
+/// Whether the value of the integrity attribute at this place is the digest of what it covers, which is not copied.
+fn is_digest(message: &[u8], key: &[u8], place: usize, attribute: &RawAttribute<'_>) -> bool
+    requires behind_header { header_length ≤ place }
+    requires within { place + 4 + length attribute.now.value ≤ length message.now }
+    requires limit { length message.now < header_length + 2 ^ 16 }
+    requires whole { length attribute.now.value ≡ digest_length (algorithm_of attribute.now) }
+    ensures { result ≡ is_digest message.now key.now (place, attribute.now) }
+{
+    let length = covered_length(place, attribute.length()).to_be_bytes();
+    let pieces = [&message[..2], &length, &message[4..place]];
+    match algorithm_of(attribute) {
+        IntegrityAlgorithm::Sha1 => attribute.value() == hmac_sha1(key, &pieces).as_slice(),
+        IntegrityAlgorithm::Sha256 => attribute.value() == hmac_sha256(key, &pieces).as_slice(),
+    }
+}
+
+impl Message<'_> {
+    /// The algorithm whose digest stands under these credentials: under the password of a short-term one, or under the
+    /// long-term key of the deciding attribute's algorithm. It takes no memory, and makes no key where no digest is to be
+    /// compared. It refuses as `validate_integrity_with_key` does.
+    pub fn validate_integrity<A: Allocator>(
+        &self,
+        credentials: &MessageIntegrityCredentials<A>,
+    ) -> Result<IntegrityAlgorithm, ValidateError>
+        ensures ok { IfOk result (λ algorithm. stands_by (keys_of credentials.now) self.now ≡ Some algorithm) }
+        ensures refused { IfErr result (λ error. (stands_by (keys_of credentials.now) self.now ≡ None) × (error ≡ integrity_refusal self.now)) }
+    {
+        let (place, attribute) = claimed_digest(self)?;
+        let algorithm = algorithm_of(&attribute);
+        let key = credentials.key(algorithm);
+        if !is_digest(self.as_bytes(), key.as_bytes(), place, &attribute) {
+            return Err(ValidateError::IntegrityFailed);
+        }
+        Ok(algorithm)
+    }
+
+    /// The algorithm whose digest stands under the key. It takes no memory.
+    ///
+    /// MESSAGE-INTEGRITY-SHA256 decides where it counts, and MESSAGE-INTEGRITY where it does not. Without both it answers
+    /// `MissingAttribute` of MESSAGE-INTEGRITY, where the deciding one has a wrong length `InvalidAttributeData`, and where
+    /// its value is another or a cut digest `IntegrityFailed`.
+    pub fn validate_integrity_with_key<A: Allocator>(
+        &self,
+        key: &IntegrityKey<A>,
+    ) -> Result<IntegrityAlgorithm, ValidateError>
+        ensures ok { IfOk result (λ algorithm. stands self.now key.now ≡ Some algorithm) }
+        ensures refused { IfErr result (λ error. (stands self.now key.now ≡ None) × (error ≡ integrity_refusal self.now)) }
+    {
+        self.validate_integrity_with_key_bytes(key.as_bytes())
+    }
+
+    /// The same under a key that is borrowed, of any length. It takes no memory.
+    pub fn validate_integrity_with_key_bytes(
+        &self,
+        key: &[u8],
+    ) -> Result<IntegrityAlgorithm, ValidateError>
+        ensures ok { IfOk result (λ algorithm. stands self.now key.now ≡ Some algorithm) }
+        ensures refused { IfErr result (λ error. (stands self.now key.now ≡ None) × (error ≡ integrity_refusal self.now)) }
+    {
+        let (place, attribute) = claimed_digest(self)?;
+        if !is_digest(self.as_bytes(), key, place, &attribute) {
+            return Err(ValidateError::IntegrityFailed);
+        }
+        Ok(algorithm_of(&attribute))
+    }
+}

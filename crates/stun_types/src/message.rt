@@ -1,0 +1,257 @@
+//! Messages, read from bytes.
+ghost use Rattle.std.specs.Prelude.{◌≡◌, ◌+◌, ◌^◌, ◌<◌, ◌↔◌, ◌≤◌, length, [], IsTrue, IsOk, IfOk, OnOk, IfErr, IfSome, IsErrOf, IsOkUnless, MatchOption, Some, None};
+ghost use Rattle.stun_base.specs.Header.{HEADER_LENGTH as header_length, type_field, transaction_id_field};
+ghost use Rattle.stun_base.specs.MessageType.{class_of, method_of, type_number, IsResponse};
+ghost use Rattle.stun_types.specs.Grammar.{spelled};
+ghost use Rattle.stun_types.specs.Integrity.{first_of as first_member_of};
+ghost use Rattle.stun_types.specs.Message.{IsMessage, LENGTH_LIMIT, refusal};
+ghost use Rattle.stun_types.specs.Reading.{attribute_answer};
+ghost use Rattle.stun_types.specs.Visible.{visible};
+ghost use Rattle.stun_types.specs.Walk.{walk};
+ghost use Rattle.stun_types.specs.Writing.{IsOpen};
+
+use crate::attribute::{AttributeFromRaw, AttributeStaticType, RawAttribute};
+pub use crate::attributes_iter::MessageAttributesIter;
+use crate::integrity::first_of;
+use crate::write::MessageWrite;
+pub use crate::write::{MessageWriteMutSlice, MessageWriteVec};
+use std::marker::Model;
+pub use stun_base::algorithm::IntegrityAlgorithm;
+pub use stun_base::credentials::{
+    LongTermCredentials, LongTermKeyCredentials, MessageIntegrityCredentials, ShortTermCredentials,
+};
+pub use stun_base::error::{StunParseError, StunWriteError, ValidateError};
+pub use stun_base::header::MessageHeader;
+use stun_base::header::{HEADER_LENGTH, MAGIC_COOKIE};
+pub use stun_base::hmac::{hmac_sha1, hmac_sha256};
+pub use stun_base::key::IntegrityKey;
+pub use stun_base::message_type::{BINDING, MessageClass, MessageType, Method};
+pub use stun_base::transaction_id::TransactionId;
+
+/// A message, seen as its bytes, which it borrows.
+#[derive(Debug, Drop)]
+pub struct Message<'a> {
+    header: MessageHeader,
+    bytes: &'a [u8],
+}
+
+impl<'a> Model for Message<'a> {
+    ghost use Rattle.std.specs.Prelude.{ℕ, List};
+    ghost use Rattle.stun_types.specs.Message.{IsRead};
+
+    ghost Value = { List ℕ };
+
+    ghost view = { λ message. message.bytes.now };
+
+    ghost invariant = { λ message. IsRead message.header message.bytes.now };
+}
+
+impl<'a> Message<'a> {
+    /// The message that these bytes are.
+    pub fn from_bytes(bytes: &'a [u8]) -> Result<Message<'a>, StunParseError>
+        ensures ok { IsOk result ↔ IsMessage bytes.now }
+        ensures value { IfOk result (λ message. message ≡ bytes.now) }
+        ensures accepted { OnOk result (refusal bytes.now ≡ None) }
+        ensures refused { IfErr result (λ error. refusal bytes.now ≡ Some error) }
+    {
+        let header = MessageHeader::from_bytes(bytes)?;
+        let end = HEADER_LENGTH + usize::from(header.data_length());
+        if bytes.len() < end {
+            return Err(StunParseError::Truncated);
+        }
+        if end < bytes.len() {
+            return Err(StunParseError::TooLarge);
+        }
+        let mut place = HEADER_LENGTH;
+        while place < end {
+            let Some(attribute) = RawAttribute::at(bytes, place) else {
+                return Err(StunParseError::Truncated);
+            };
+            place += attribute.padded_len();
+        }
+        Ok(Message { header, bytes })
+    }
+
+    /// A message without attributes, in an empty writer: `TooSmall` where it has no room for the 20 bytes of a header.
+    pub fn builder<W: MessageWrite>(
+        message_type: MessageType,
+        id: TransactionId,
+        mut writer: W,
+    ) -> Result<W, StunWriteError>
+        requires { W.bytes writer ≡ [] }
+        ensures bytes { IfOk result (λ built. W.bytes built ≡ spelled message_type id []) }
+        ensures open { IfOk result (λ built. IsOpen (W.bytes built)) }
+        ensures empty { IfOk result (λ built. walk (W.bytes built) ≡ []) }
+        ensures room { IfOk result (λ built. W.room built + header_length ≡ W.room writer) }
+        ensures too_small { IsErrOf result StunWriteError.TooSmall ↔ (W.room writer < header_length) }
+        ensures otherwise_memory { header_length ≤ W.room writer → IsOkUnless result StunWriteError.OutOfMemory }
+        ensures succeeds { header_length ≤ W.reserved writer → IsOk result }
+    {
+        writer.reserve(HEADER_LENGTH)?;
+        writer.append(&message_type.value().to_be_bytes());
+        writer.append(&[0, 0]);
+        writer.append(&MAGIC_COOKIE.to_be_bytes());
+        writer.append(&id.as_u128().to_be_bytes()[4..]);
+        Ok(writer)
+    }
+
+    /// A request without attributes, in an empty writer. It refuses as `builder` does.
+    pub fn builder_request<W: MessageWrite>(
+        method: Method,
+        id: TransactionId,
+        writer: W,
+    ) -> Result<W, StunWriteError>
+        requires { W.bytes writer ≡ [] }
+        ensures bytes { IfOk result (λ built. W.bytes built ≡ spelled (type_number MessageClass.Request method) id []) }
+        ensures open { IfOk result (λ built. IsOpen (W.bytes built)) }
+        ensures empty { IfOk result (λ built. walk (W.bytes built) ≡ []) }
+        ensures room { IfOk result (λ built. W.room built + header_length ≡ W.room writer) }
+        ensures too_small { IsErrOf result StunWriteError.TooSmall ↔ (W.room writer < header_length) }
+        ensures otherwise_memory { header_length ≤ W.room writer → IsOkUnless result StunWriteError.OutOfMemory }
+        ensures succeeds { header_length ≤ W.reserved writer → IsOk result }
+    {
+        Message::builder(
+            MessageType::from_class_method(MessageClass::Request, method),
+            id,
+            writer,
+        )
+    }
+
+    /// An indication without attributes, in an empty writer. It refuses as `builder` does.
+    pub fn builder_indication<W: MessageWrite>(
+        method: Method,
+        id: TransactionId,
+        writer: W,
+    ) -> Result<W, StunWriteError>
+        requires { W.bytes writer ≡ [] }
+        ensures bytes { IfOk result (λ built. W.bytes built ≡ spelled (type_number MessageClass.Indication method) id []) }
+        ensures open { IfOk result (λ built. IsOpen (W.bytes built)) }
+        ensures empty { IfOk result (λ built. walk (W.bytes built) ≡ []) }
+        ensures room { IfOk result (λ built. W.room built + header_length ≡ W.room writer) }
+        ensures too_small { IsErrOf result StunWriteError.TooSmall ↔ (W.room writer < header_length) }
+        ensures otherwise_memory { header_length ≤ W.room writer → IsOkUnless result StunWriteError.OutOfMemory }
+        ensures succeeds { header_length ≤ W.reserved writer → IsOk result }
+    {
+        Message::builder(
+            MessageType::from_class_method(MessageClass::Indication, method),
+            id,
+            writer,
+        )
+    }
+
+    /// A success response to a message, with its method and id and without attributes, in an empty writer. It refuses as `builder` does.
+    pub fn builder_success<W: MessageWrite>(
+        message: &Message<'_>,
+        writer: W,
+    ) -> Result<W, StunWriteError>
+        requires { W.bytes writer ≡ [] }
+        ensures bytes { IfOk result (λ built. W.bytes built ≡ spelled (type_number MessageClass.Success (method_of (type_field message.now))) (transaction_id_field message.now) []) }
+        ensures open { IfOk result (λ built. IsOpen (W.bytes built)) }
+        ensures empty { IfOk result (λ built. walk (W.bytes built) ≡ []) }
+        ensures room { IfOk result (λ built. W.room built + header_length ≡ W.room writer) }
+        ensures too_small { IsErrOf result StunWriteError.TooSmall ↔ (W.room writer < header_length) }
+        ensures otherwise_memory { header_length ≤ W.room writer → IsOkUnless result StunWriteError.OutOfMemory }
+        ensures succeeds { header_length ≤ W.reserved writer → IsOk result }
+    {
+        Message::builder(
+            MessageType::from_class_method(MessageClass::Success, message.method()),
+            message.transaction_id(),
+            writer,
+        )
+    }
+
+    /// An error response to a message, with its method and id and without attributes, in an empty writer. It refuses as
+    /// `builder` does.
+    pub fn builder_error<W: MessageWrite>(
+        message: &Message<'_>,
+        writer: W,
+    ) -> Result<W, StunWriteError>
+        requires { W.bytes writer ≡ [] }
+        ensures bytes { IfOk result (λ built. W.bytes built ≡ spelled (type_number MessageClass.Error (method_of (type_field message.now))) (transaction_id_field message.now) []) }
+        ensures open { IfOk result (λ built. IsOpen (W.bytes built)) }
+        ensures empty { IfOk result (λ built. walk (W.bytes built) ≡ []) }
+        ensures room { IfOk result (λ built. W.room built + header_length ≡ W.room writer) }
+        ensures too_small { IsErrOf result StunWriteError.TooSmall ↔ (W.room writer < header_length) }
+        ensures otherwise_memory { header_length ≤ W.room writer → IsOkUnless result StunWriteError.OutOfMemory }
+        ensures succeeds { header_length ≤ W.reserved writer → IsOk result }
+    {
+        Message::builder(
+            MessageType::from_class_method(MessageClass::Error, message.method()),
+            message.transaction_id(),
+            writer,
+        )
+    }
+
+    /// The bytes of the message.
+    pub fn as_bytes(&self) -> &'a [u8]
+        ensures bytes { result.now ≡ self.now }
+        ensures message { IsMessage result.now }
+        ensures limit { length result.now ≤ LENGTH_LIMIT }
+    {
+        self.bytes
+    }
+
+    /// The type of the message.
+    pub fn get_type(&self) -> MessageType
+        ensures { result ≡ type_field self.now }
+    {
+        self.header.get_type()
+    }
+
+    /// The class of the message.
+    pub fn class(&self) -> MessageClass
+        ensures { result ≡ class_of (type_field self.now) }
+    {
+        self.get_type().class()
+    }
+
+    /// The method of the message.
+    pub fn method(&self) -> Method
+        ensures { result ≡ method_of (type_field self.now) }
+    {
+        self.get_type().method()
+    }
+
+    /// The id of the message's transaction.
+    pub fn transaction_id(&self) -> TransactionId
+        ensures { result ≡ transaction_id_field self.now }
+    {
+        self.header.transaction_id()
+    }
+
+    /// Whether the message has this class.
+    pub fn has_class(&self, class: MessageClass) -> bool
+        ensures { IsTrue result ↔ (class_of (type_field self.now) ≡ class) }
+    {
+        self.class() == class
+    }
+
+    /// Whether the message is a response.
+    pub fn is_response(&self) -> bool
+        ensures { IsTrue result ↔ IsResponse (class_of (type_field self.now)) }
+    {
+        self.class().is_response()
+    }
+
+    /// The attributes that count, each with the place of its first byte.
+    pub fn iter_attributes(&self) -> MessageAttributesIter<'a>
+        ensures visible { result ≡ visible self.now }
+        ensures few { length result < 2 ^ 14 }
+    {
+        MessageAttributesIter::new(self.as_bytes())
+    }
+
+    /// The first attribute of its type that counts, read.
+    pub fn attribute<A: AttributeFromRaw<'a> + AttributeStaticType>(
+        &self,
+    ) -> Result<A, StunParseError>
+        ensures { MatchOption (first_member_of A.static_kind (visible self.now))
+            (result ≡ Err (StunParseError.MissingAttribute (record { 0 = A.static_kind })))
+            (λ m. result ≡ attribute_answer (A.reading m.1)) }
+    {
+        match first_of(self, A::static_type()) {
+            Some((_, attribute)) => A::from_raw(attribute),
+            None => Err(StunParseError::MissingAttribute(A::static_type())),
+        }
+    }
+}

@@ -1,0 +1,91 @@
+//! Messages in memory that grows.
+
+ghost use Rattle.std.specs.Prelude.{◌≡◌, [], IfOk};
+ghost use Rattle.stun_types.specs.WriteVec.{Written};
+
+use crate::write::MessageWrite;
+use byteorder::{BigEndian, ByteOrder};
+use std::alloc::{Allocator, Global};
+use std::marker::Model;
+use stun_base::error::StunWriteError;
+
+/// The bytes of the longest message with its header.
+const MAX_LENGTH: usize = 65552;
+
+/// Writes a message to a `Vec`.
+#[derive(Drop)]
+#[derive_where(Debug)]
+pub struct MessageWriteVec<A: Allocator = Global> {
+    bytes: Vec<u8, A>,
+    // How many bytes more are promised to fit the capacity.
+    reserved: usize,
+}
+
+impl<A: Allocator> Model for MessageWriteVec<A> {
+    ghost use Rattle.std.specs.Prelude.{◌+◌, ◌≤◌, vec_len, vec_capacity};
+    ghost use Rattle.stun_types.specs.WriteVec.{Written, IsWithin};
+
+    ghost Value = { Written };
+
+    ghost view = { λ writer. record { bytes = writer.bytes.items; reserved = writer.reserved } };
+
+    ghost invariant = { λ writer. IsWithin (vec_len writer.bytes) writer.reserved (vec_capacity writer.bytes) };
+}
+
+impl<A: Allocator> MessageWriteVec<A> {
+    /// An empty message. It takes no memory.
+    pub fn new(alloc: A) -> Self
+        ensures { result ≡ record { bytes = []; reserved = 0 } }
+    {
+        MessageWriteVec {
+            bytes: Vec::new(alloc),
+            reserved: 0,
+        }
+    }
+}
+
+impl<A: Allocator> MessageWrite for MessageWriteVec<A> {
+    ghost use Rattle.std.specs.Prelude.{◌-◌, ◌≤◌, length};
+
+    type Output = Vec<u8, A>;
+
+    ghost bytes = { λ writer. writer.bytes };
+
+    ghost room = { λ writer. 65552 - length writer.bytes };
+
+    ghost reserved = { λ writer. writer.reserved };
+
+    fn data(&self) -> &[u8] {
+        self.bytes.as_slice()
+    }
+
+    fn room(&self) -> usize {
+        MAX_LENGTH - self.bytes.len()
+    }
+
+    fn reserve(&mut self, additional: usize) -> Result<(), StunWriteError> {
+        if self.room() < additional {
+            return Err(StunWriteError::TooSmall);
+        }
+        if additional <= self.reserved {
+            return Ok(());
+        }
+        self.bytes.reserve(additional)?;
+        self.reserved = additional;
+        Ok(())
+    }
+
+    fn append(&mut self, tail: &[u8]) {
+        self.bytes.extend_from_slice(tail).unwrap();
+        self.reserved -= tail.len();
+    }
+
+    fn set_length(&mut self, message_length: u16) {
+        let bytes = self.bytes.as_mut_slice();
+        BigEndian::write_u16(&mut bytes[2..], message_length);
+    }
+
+    fn finish(self) -> Vec<u8, A> {
+        self.bytes
+    }
+}

@@ -1,0 +1,353 @@
+//! What can be written to every writer.
+
+ghost use Rattle.std.specs.Prelude.{◌≡◌, ℕ, List, [], ◌∷◌, ◌≤◌, ◌+◌, ◌-◌, ◌^◌, ◌↔◌, ◌++◌, false, min, length, None, Some, IsTrue, IsOk, IsOkUnless, MatchOption, OnErr, OnOk};
+ghost use Rattle.stun_base.specs.Algorithm.{digest, digest_length};
+ghost use Rattle.stun_base.specs.Header.{BeginsWithHeader, header_of, type_field, transaction_id_field};
+ghost use Rattle.stun_base.specs.Keys.OfCredentials.{keys_of};
+ghost use Rattle.stun_base.specs.MessageType.{class_of, IsResponse};
+ghost use Rattle.stun_types.specs.Attribute.{TypedValue, attribute_length};
+ghost use Rattle.stun_types.specs.Grammar.{spelled, spelled_attribute};
+ghost use Rattle.stun_types.specs.Integrity.{stands_by};
+ghost use Rattle.stun_types.specs.Visible.{has_kind};
+ghost use Rattle.stun_types.specs.Walk.{walk};
+ghost use Rattle.stun_types.specs.Writing.{HasOneMore, IsOpen, attribute_refusal, has_integrity, integrity_attribute, integrity_kind, is_set_apart, length_with, signing_refusal, with_attribute, with_integrity};
+
+use crate::append::append_attribute;
+use crate::attribute::{Attribute, AttributeType};
+use crate::integrity::digest_length;
+use crate::walk::has_attribute;
+use crate::write::MessageWrite;
+use std::alloc::{AllocError, Allocator};
+use stun_base::algorithm::IntegrityAlgorithm;
+use stun_base::credentials::MessageIntegrityCredentials;
+use stun_base::error::StunWriteError;
+use stun_base::header::{HEADER_LENGTH, MessageHeader};
+use stun_base::hmac::{hmac_sha1, hmac_sha256};
+use stun_base::key::IntegrityKey;
+use stun_base::message_type::MessageClass;
+use stun_base::transaction_id::TransactionId;
+
+/// The greatest message length that is a multiple of four and fits its field.
+const MAX_LENGTH: usize = 65532;
+
+/// Whether only the calls for integrity write attributes of this type, or nobody.
+fn is_set_apart(kind: AttributeType) -> bool
+    ensures { result ≡ is_set_apart kind.0 }
+{
+    kind == AttributeType::MESSAGE_INTEGRITY
+        || kind == AttributeType::MESSAGE_INTEGRITY_SHA256
+        || kind == AttributeType::FINGERPRINT
+}
+
+/// What can be written to every writer.
+///
+/// The writer is to hold a message without FINGERPRINT, as the builders leave it and each of these calls keeps it. Their
+/// conditions ask for less: as many bytes as a header has, or a header.
+pub trait MessageWriteExt: MessageWrite {
+    /// Whether the message has an attribute of this type.
+    final fn has_attribute(&self, kind: AttributeType) -> bool
+    where
+        Self: Sized,
+        requires { 20 ≤ length (Self.bytes self.now) }
+        ensures { result ≡ has_kind kind.0 (walk (Self.bytes self.now)) }
+    {
+        has_attribute(self.data(), kind)
+    }
+
+    /// Whether the message has this class.
+    final fn has_class(&self, class: MessageClass) -> bool
+    where
+        Self: Sized,
+        requires { BeginsWithHeader (Self.bytes self.now) }
+        ensures { IsTrue result ↔ (class_of (type_field (Self.bytes self.now)) ≡ class) }
+    {
+        header(self.data()).get_type().has_class(class)
+    }
+
+    /// Whether the message is a response.
+    final fn is_response(&self) -> bool
+    where
+        Self: Sized,
+        requires { BeginsWithHeader (Self.bytes self.now) }
+        ensures { IsTrue result ↔ IsResponse (class_of (type_field (Self.bytes self.now))) }
+    {
+        header(self.data()).get_type().is_response()
+    }
+
+    /// The id of the message's transaction.
+    final fn transaction_id(&self) -> TransactionId
+    where
+        Self: Sized,
+        requires { BeginsWithHeader (Self.bytes self.now) }
+        ensures { result ≡ transaction_id_field (Self.bytes self.now) }
+    {
+        header(self.data()).transaction_id()
+    }
+
+    /// Adds an attribute at the end.
+    ///
+    /// It refuses by the first of these: a type that this call does not write (`NotAllowed`: the two integrity attributes and
+    /// FINGERPRINT), an integrity attribute stands there (`MessageIntegrityExists`), the type stands there
+    /// (`AttributeExists`), the message would be longer than 65532 bytes behind its header (`TooLarge`), no room
+    /// (`TooSmall`), no memory (`OutOfMemory`). A refusal leaves the bytes and the room.
+    final fn add_attribute<A: Attribute>(&mut self, attribute: &A) -> Result<(), StunWriteError>
+    where
+        Self: Sized,
+        requires { 20 ≤ length (Self.bytes self.old) }
+
+        // The first reason that holds is answered, and with no reason only memory can be missing.
+        ensures refused { MatchOption (attribute_refusal (Self.bytes self.old) (Self.room self.old) (A.kind attribute.now) (length (A.value attribute.now)))
+            (IsOkUnless result StunWriteError.OutOfMemory) (λ reason. result ≡ Err reason) }
+        ensures bytes { OnOk result (Self.bytes self.new ≡ with_attribute (Self.bytes self.old) (record { kind = A.kind attribute.now; value = A.value attribute.now })) }
+
+        // What is reserved already takes no memory.
+        ensures succeeds { attribute_refusal (Self.bytes self.old) (Self.room self.old) (A.kind attribute.now) (length (A.value attribute.now)) ≡ None
+            → attribute_length (length (A.value attribute.now)) ≤ Self.reserved self.old → IsOk result }
+
+        // Reading finds what it found before, and this attribute behind it.
+        ensures added { OnOk result (IsOpen (Self.bytes self.old) → HasOneMore (Self.bytes self.old) (Self.bytes self.new) (record { kind = A.kind attribute.now; value = A.value attribute.now })) }
+        ensures open { OnOk result (IsOpen (Self.bytes self.old) → IsOpen (Self.bytes self.new)) }
+        ensures spelled { OnOk result ((kind id : ℕ) (list : List TypedValue) → Self.bytes self.old ≡ spelled kind id list
+            → Self.bytes self.new ≡ spelled kind id (list ++ record { kind = A.kind attribute.now; value = A.value attribute.now } ∷ [])) }
+        ensures room { OnOk result (Self.room self.new + attribute_length (length (A.value attribute.now)) ≡ Self.room self.old) }
+        ensures reserved { OnOk result (Self.reserved self.old ≤ Self.reserved self.new + attribute_length (length (A.value attribute.now))) }
+        ensures err { OnErr result ((Self.bytes self.new ≡ Self.bytes self.old) × (Self.room self.new ≡ Self.room self.old)) }
+    {
+        let kind = attribute.get_type();
+        if is_set_apart(kind) {
+            return Err(StunWriteError::NotAllowed);
+        }
+        if has_integrity(self.data()) {
+            return Err(StunWriteError::MessageIntegrityExists);
+        }
+        if has_attribute(self.data(), kind) {
+            return Err(StunWriteError::AttributeExists(kind));
+        }
+        let message_length = length_with(self.data(), attribute.padded_len());
+        if message_length > MAX_LENGTH {
+            return Err(StunWriteError::TooLarge);
+        }
+        self.reserve(attribute.padded_len())?;
+        self.set_length(message_length as u16);
+        attribute.write_into(self);
+        Ok(())
+    }
+
+    /// Adds the integrity attribute of an algorithm, whose digest is made under the key that the credentials have for it:
+    /// the bytes of a password, or a long-term key. No memory is taken for the key. It refuses as
+    /// `add_message_integrity_with_key` does.
+    final fn add_message_integrity<A: Allocator>(
+        &mut self,
+        credentials: &MessageIntegrityCredentials<A>,
+        algorithm: IntegrityAlgorithm,
+    ) -> Result<(), StunWriteError>
+    where
+        Self: Sized,
+        requires { 20 ≤ length (Self.bytes self.old) }
+        ensures refused { MatchOption (signing_refusal (Self.bytes self.old) (Self.room self.old) algorithm)
+            (IsOkUnless result StunWriteError.OutOfMemory) (λ reason. result ≡ Err reason) }
+        ensures succeeds { signing_refusal (Self.bytes self.old) (Self.room self.old) algorithm ≡ None
+            → attribute_length (digest_length algorithm) ≤ Self.reserved self.old → IsOk result }
+        ensures bytes { OnOk result (Self.bytes self.new ≡ with_integrity (Self.bytes self.old) algorithm (keys_of credentials.now algorithm)) }
+        ensures added { OnOk result (IsOpen (Self.bytes self.old) → HasOneMore (Self.bytes self.old) (Self.bytes self.new) (integrity_attribute (Self.bytes self.old) algorithm (keys_of credentials.now algorithm))) }
+        ensures stands { OnOk result (IsOpen (Self.bytes self.old) → (keys : IntegrityAlgorithm → List ℕ) → keys algorithm ≡ (keys_of credentials.now algorithm) → stands_by keys (Self.bytes self.new) ≡ Some algorithm) }
+        ensures room { OnOk result (Self.room self.new + attribute_length (digest_length algorithm) ≡ Self.room self.old) }
+        ensures err { OnErr result ((Self.bytes self.new ≡ Self.bytes self.old) × (Self.room self.new ≡ Self.room self.old)) }
+    {
+        add_integrity(self, credentials.key(algorithm).as_bytes(), algorithm)
+    }
+
+    /// Adds the integrity attribute of an algorithm, whose digest is made under this key.
+    ///
+    /// It refuses by the first of these: an integrity attribute stands there (`MessageIntegrityExists`), the message would be
+    /// longer than 65532 bytes behind its header (`TooLarge`), no room (`TooSmall`), no memory (`OutOfMemory`). A refusal
+    /// leaves the bytes and the room.
+    final fn add_message_integrity_with_key<A: Allocator>(
+        &mut self,
+        key: &IntegrityKey<A>,
+        algorithm: IntegrityAlgorithm,
+    ) -> Result<(), StunWriteError>
+    where
+        Self: Sized,
+        requires { 20 ≤ length (Self.bytes self.old) }
+        ensures refused { MatchOption (signing_refusal (Self.bytes self.old) (Self.room self.old) algorithm)
+            (IsOkUnless result StunWriteError.OutOfMemory) (λ reason. result ≡ Err reason) }
+        ensures succeeds { signing_refusal (Self.bytes self.old) (Self.room self.old) algorithm ≡ None
+            → attribute_length (digest_length algorithm) ≤ Self.reserved self.old → IsOk result }
+        ensures bytes { OnOk result (Self.bytes self.new ≡ with_integrity (Self.bytes self.old) algorithm key.now) }
+        ensures added { OnOk result (IsOpen (Self.bytes self.old) → HasOneMore (Self.bytes self.old) (Self.bytes self.new) (integrity_attribute (Self.bytes self.old) algorithm key.now)) }
+        ensures stands { OnOk result (IsOpen (Self.bytes self.old) → (keys : IntegrityAlgorithm → List ℕ) → keys algorithm ≡ key.now → stands_by keys (Self.bytes self.new) ≡ Some algorithm) }
+        ensures room { OnOk result (Self.room self.new + attribute_length (digest_length algorithm) ≡ Self.room self.old) }
+        ensures err { OnErr result ((Self.bytes self.new ≡ Self.bytes self.old) × (Self.room self.new ≡ Self.room self.old)) }
+    {
+        add_integrity(self, key.as_bytes(), algorithm)
+    }
+
+    /// The same under a key that is borrowed, of any length.
+    final fn add_message_integrity_with_key_bytes(
+        &mut self,
+        key: &[u8],
+        algorithm: IntegrityAlgorithm,
+    ) -> Result<(), StunWriteError>
+    where
+        Self: Sized,
+        requires { 20 ≤ length (Self.bytes self.old) }
+        ensures refused { MatchOption (signing_refusal (Self.bytes self.old) (Self.room self.old) algorithm)
+            (IsOkUnless result StunWriteError.OutOfMemory) (λ reason. result ≡ Err reason) }
+        ensures succeeds { signing_refusal (Self.bytes self.old) (Self.room self.old) algorithm ≡ None
+            → attribute_length (digest_length algorithm) ≤ Self.reserved self.old → IsOk result }
+        ensures bytes { OnOk result (Self.bytes self.new ≡ with_integrity (Self.bytes self.old) algorithm key.now) }
+        ensures added { OnOk result (IsOpen (Self.bytes self.old) → HasOneMore (Self.bytes self.old) (Self.bytes self.new) (integrity_attribute (Self.bytes self.old) algorithm key.now)) }
+        ensures stands { OnOk result (IsOpen (Self.bytes self.old) → (keys : IntegrityAlgorithm → List ℕ) → keys algorithm ≡ key.now → stands_by keys (Self.bytes self.new) ≡ Some algorithm) }
+        ensures room { OnOk result (Self.room self.new + attribute_length (digest_length algorithm) ≡ Self.room self.old) }
+        ensures err { OnErr result ((Self.bytes self.new ≡ Self.bytes self.old) × (Self.room self.new ≡ Self.room self.old)) }
+    {
+        add_integrity(self, key, algorithm)
+    }
+
+    /// Adds the integrity attribute of an algorithm to a message of which the caller knows that it can have it.
+    final fn add_message_integrity_with_key_unchecked<A: Allocator>(
+        &mut self,
+        key: &IntegrityKey<A>,
+        algorithm: IntegrityAlgorithm,
+    ) -> Result<(), AllocError>
+    where
+        Self: Sized,
+        requires header { 20 ≤ length (Self.bytes self.old) }
+        requires unsigned { has_integrity (Self.bytes self.old) ≡ false }
+        requires short { length_with (Self.bytes self.old) (digest_length algorithm) ≤ 65532 }
+        requires room { attribute_length (digest_length algorithm) ≤ Self.room self.old }
+        ensures succeeds { attribute_length (digest_length algorithm) ≤ Self.reserved self.old → IsOk result }
+        ensures bytes { OnOk result (Self.bytes self.new ≡ with_integrity (Self.bytes self.old) algorithm key.now) }
+        ensures added { OnOk result (IsOpen (Self.bytes self.old) → HasOneMore (Self.bytes self.old) (Self.bytes self.new) (integrity_attribute (Self.bytes self.old) algorithm key.now)) }
+        ensures stands { OnOk result (IsOpen (Self.bytes self.old) → (keys : IntegrityAlgorithm → List ℕ) → keys algorithm ≡ key.now → stands_by keys (Self.bytes self.new) ≡ Some algorithm) }
+        ensures room { OnOk result (Self.room self.new + attribute_length (digest_length algorithm) ≡ Self.room self.old) }
+        ensures err { OnErr result ((Self.bytes self.new ≡ Self.bytes self.old) × (Self.room self.new ≡ Self.room self.old)) }
+    {
+        sign(self, key.as_bytes(), algorithm)
+    }
+}
+
+impl<W: MessageWrite> MessageWriteExt for W {}
+
+/// The header of a message.
+fn header(message: &[u8]) -> MessageHeader
+    requires { BeginsWithHeader message.now }
+    ensures { result ≡ header_of message.now }
+{
+    MessageHeader::from_bytes(message).unwrap()
+}
+
+/// Whether a message has an integrity attribute.
+fn has_integrity(message: &[u8]) -> bool
+    requires { 20 ≤ length message.now }
+    ensures { result ≡ has_integrity message.now }
+{
+    has_attribute(message, AttributeType::MESSAGE_INTEGRITY)
+        || has_attribute(message, AttributeType::MESSAGE_INTEGRITY_SHA256)
+}
+
+/// The message length after so many bytes more, as far as a `usize` reaches.
+fn length_with(message: &[u8], more: usize) -> usize
+    requires { 20 ≤ length message.now }
+    ensures { result ≡ min (length message.now - 20 + more) (2 ^ 64 - 1) }
+{
+    (message.len() - HEADER_LENGTH).saturating_add(more)
+}
+
+/// The bytes of the integrity attribute of an algorithm with its header.
+fn integrity_length(algorithm: IntegrityAlgorithm) -> usize
+    ensures { result ≡ attribute_length (digest_length algorithm) }
+{
+    4 + digest_length(algorithm)
+}
+
+/// Adds the integrity attribute of an algorithm, or answers the first reason against it.
+fn add_integrity<W: MessageWrite>(
+    writer: &mut W,
+    key: &[u8],
+    algorithm: IntegrityAlgorithm,
+) -> Result<(), StunWriteError>
+    requires { 20 ≤ length (W.bytes writer.old) }
+    ensures refused { MatchOption (signing_refusal (W.bytes writer.old) (W.room writer.old) algorithm)
+        (IsOkUnless result StunWriteError.OutOfMemory) (λ reason. result ≡ Err reason) }
+    ensures succeeds { signing_refusal (W.bytes writer.old) (W.room writer.old) algorithm ≡ None
+        → attribute_length (digest_length algorithm) ≤ W.reserved writer.old → IsOk result }
+    ensures bytes { OnOk result (W.bytes writer.new ≡ with_integrity (W.bytes writer.old) algorithm key.now) }
+    ensures added { OnOk result (IsOpen (W.bytes writer.old) → HasOneMore (W.bytes writer.old) (W.bytes writer.new) (integrity_attribute (W.bytes writer.old) algorithm key.now)) }
+    ensures stands { OnOk result (IsOpen (W.bytes writer.old) → (keys : IntegrityAlgorithm → List ℕ) → keys algorithm ≡ key.now → stands_by keys (W.bytes writer.new) ≡ Some algorithm) }
+    ensures room { OnOk result (W.room writer.new + attribute_length (digest_length algorithm) ≡ W.room writer.old) }
+    ensures err { OnErr result ((W.bytes writer.new ≡ W.bytes writer.old) × (W.room writer.new ≡ W.room writer.old)) }
+{
+    if has_integrity(writer.data()) {
+        return Err(StunWriteError::MessageIntegrityExists);
+    }
+    let padded_length = integrity_length(algorithm);
+    if length_with(writer.data(), padded_length) > MAX_LENGTH {
+        return Err(StunWriteError::TooLarge);
+    }
+    if writer.room() < padded_length {
+        return Err(StunWriteError::TooSmall);
+    }
+    sign(writer, key, algorithm)?;
+    Ok(())
+}
+
+/// Raises the length of a message and appends its integrity attribute.
+fn sign<W: MessageWrite>(
+    writer: &mut W,
+    key: &[u8],
+    algorithm: IntegrityAlgorithm,
+) -> Result<(), AllocError>
+    requires header { 20 ≤ length (W.bytes writer.old) }
+    requires short { length_with (W.bytes writer.old) (digest_length algorithm) ≤ 65532 }
+    requires room { attribute_length (digest_length algorithm) ≤ W.room writer.old }
+    ensures succeeds { attribute_length (digest_length algorithm) ≤ W.reserved writer.old → IsOk result }
+    ensures bytes { OnOk result (W.bytes writer.new ≡ with_integrity (W.bytes writer.old) algorithm key.now) }
+    ensures added { OnOk result (IsOpen (W.bytes writer.old) → HasOneMore (W.bytes writer.old) (W.bytes writer.new) (integrity_attribute (W.bytes writer.old) algorithm key.now)) }
+    ensures stands { OnOk result (IsOpen (W.bytes writer.old) → (keys : IntegrityAlgorithm → List ℕ) → keys algorithm ≡ key.now → stands_by keys (W.bytes writer.new) ≡ Some algorithm) }
+    ensures room { OnOk result (W.room writer.new + attribute_length (digest_length algorithm) ≡ W.room writer.old) }
+    ensures err { OnErr result ((W.bytes writer.new ≡ W.bytes writer.old) × (W.room writer.new ≡ W.room writer.old)) }
+{
+    let padded_length = integrity_length(algorithm);
+    let message_length = length_with(writer.data(), padded_length);
+    if writer.reserve(padded_length).is_err() {
+        return Err(AllocError);
+    }
+    writer.set_length(message_length as u16);
+    append_integrity(writer, key, algorithm);
+    Ok(())
+}
+
+/// Appends the integrity attribute whose digest is that of all bytes before it.
+fn append_integrity<W: MessageWrite>(writer: &mut W, key: &[u8], algorithm: IntegrityAlgorithm)
+    requires { attribute_length (digest_length algorithm) ≤ W.reserved writer.old }
+    ensures bytes { W.bytes writer.new ≡ W.bytes writer.old
+        ++ spelled_attribute (record { kind = integrity_kind algorithm; value = digest algorithm key.now (W.bytes writer.old) }) }
+    ensures room { W.room writer.new + attribute_length (digest_length algorithm) ≡ W.room writer.old }
+{
+    match algorithm {
+        IntegrityAlgorithm::Sha1 => {
+            let digest = digest_sha1(key, writer.data());
+            append_attribute(writer, AttributeType::MESSAGE_INTEGRITY, &digest);
+        }
+        IntegrityAlgorithm::Sha256 => {
+            let digest = digest_sha256(key, writer.data());
+            append_attribute(writer, AttributeType::MESSAGE_INTEGRITY_SHA256, &digest);
+        }
+    }
+}
+
+/// HMAC-SHA1 of a text.
+fn digest_sha1(key: &[u8], text: &[u8]) -> [u8; 20]
+    ensures { result ≡ digest IntegrityAlgorithm.Sha1 key.now text.now }
+{
+    hmac_sha1(key, &[text])
+}
+
+/// HMAC-SHA256 of a text.
+fn digest_sha256(key: &[u8], text: &[u8]) -> [u8; 32]
+    ensures { result ≡ digest IntegrityAlgorithm.Sha256 key.now text.now }
+{
+    hmac_sha256(key, &[text])
+}

@@ -1,0 +1,15 @@
+pub mod AddressLemmas
+pub mod Ascending
+pub mod CountLemmas
+pub mod EntryLemmas
+pub mod LastLemmas
+pub mod LookupLemmas
+pub mod NamedLemmas
+pub mod OnceLemmas
+pub mod PeerLemmas
+pub mod QuietLemmas
+pub mod RepeatLemmas
+pub mod ResponseLemmas
+pub mod StatisticsLemmas
+pub mod TimingLemmas
+pub mod TransactionLemmas

@@ -1,0 +1,52 @@
+-- An address that is there stays there, and no other comes.
+use Rattle.std.proofs.Common.{◌≡◌, Bool, true, false, [], ◌∷◌, refl, sym, ap, ◌∙◌}
+use Rattle.std.specs.Prelude.{not, ◌||◌, IsTrue}
+use Rattle.std.specs.Bool.{OnFalse}
+use Rattle.std.specs.Ordering.{is_eq, match_ordering, ordering_reverse}
+use Rattle.std.specs.declared.cmp.Ordering.{Ordering}
+use Rattle.std.specs.declared.cmp.Ordering.TheVariants.{Less, Equal, Greater}
+use Rattle.std.specs.declared.net.socket_addr.SocketAddr.{SocketAddr}
+use Rattle.stun_base.specs.Address.{address_cmp, same_address}
+use Rattle.stun_agent.specs.Peers.{Peers, is_peer, with_peer}
+use Rattle.stun_agent.proofs.AddressLemmas.{address_total, address_exact}
+
+-- what `insert` answers where the address was there
+pub same_peers : (was added : Bool) (peers new : Peers) → added ≡ not was → OnFalse added (new ≡ peers) → IsTrue was → new ≡ peers
+same_peers true true peers new is stays there = cc
+same_peers true false peers new is stays there = stays
+same_peers false added peers new is stays there = cc
+
+-- ---- a set
+twice : (s r : Bool) → (s || r) ≡ (s || (s || r))
+twice true r = refl
+twice false r = refl
+
+turned : (s t r : Bool) → (s || (t || r)) ≡ (t || (s || r))
+turned true true r = refl
+turned true false r = refl
+turned false true r = refl
+turned false false r = refl
+
+-- addresses that tie are told from others alike
+same_to : (a x b : SocketAddr) → address_cmp a x ≡ Equal → same_address b a ≡ same_address b x
+same_to a x b tie =
+    ap is_eq (address_total.antisymm b a ∙ ap ordering_reverse (address_total.congr a x b tie) ∙ sym (address_total.antisymm b x))
+
+-- an address is there once it is put in, and no other comes
+pub is_peer-with_peer : (a b : SocketAddr) (peers : Peers) → is_peer b (with_peer a peers) ≡ (same_address b a || is_peer b peers)
+is_peer-with_peer a b [] = refl
+is_peer-with_peer a b (x ∷ xs) = by (address_cmp a x) refl (is_peer-with_peer a b xs)
+  where
+    by : (r : Ordering) → address_cmp a x ≡ r → is_peer b (with_peer a xs) ≡ (same_address b a || is_peer b xs)
+        → is_peer b (match_ordering r (a ∷ x ∷ xs) (x ∷ xs) (x ∷ with_peer a xs)) ≡ (same_address b a || (same_address b x || is_peer b xs))
+    by Less is rest = refl
+    by Equal is rest = ap (λ s. s || is_peer b xs) (sym (same_to a x b is)) ∙ twice (same_address b a) (is_peer b xs) ∙ ap (λ s. same_address b a || (s || is_peer b xs)) (same_to a x b is)
+    by Greater is rest = ap (λ r. same_address b x || r) rest ∙ turned (same_address b x) (same_address b a) (is_peer b xs)
+
+pub same_address-exact : (a b : SocketAddr) → same_address a b ≡ true → a ≡ b
+same_address-exact a b h = by (address_cmp a b) refl h
+  where
+    by : (r : Ordering) → address_cmp a b ≡ r → is_eq r ≡ true → a ≡ b
+    by Less is h = cc
+    by Equal is h = address_exact a b is
+    by Greater is h = cc

@@ -1,0 +1,42 @@
+-- A response to no request, and the ends of plans.
+use Rattle.std.proofs.Common.{ℕ, ◌≡◌, ◌+◌, ◌-◌, ◌^◌, List, length, ap, refl, arith, false, min}
+use Rattle.std.specs.Prelude.{Option, Some, None}
+use Rattle.std.specs.Duration.{max_nanos}
+use Rattle.std.specs.Option.{is_some, option_map_or}
+use Rattle.std.specs.declared.net.socket_addr.SocketAddr.{SocketAddr}
+use Rattle.stun_base.specs.Header.{transaction_id_field}
+use Rattle.stun_base.specs.MessageType.{IsResponse}
+use Rattle.stun_base.specs.declared.message_type.MessageClass.{MessageClass}
+use Rattle.stun_base.specs.declared.message_type.MessageClass.TheVariants.{Request, Indication, Success, Error}
+use Rattle.stun_base.specs.declared.transport.TransportType.TheVariants.{Udp, Tcp}
+use Rattle.stun_agent.specs.Agent.{Agent, takes, after_class, after_response, tallied, with_validated, with_transactions}
+use Rattle.stun_agent.specs.Laws.{planned_end}
+use Rattle.stun_agent.specs.Statistics.{response_received}
+use Rattle.stun_agent.specs.Timing.{Settings, sum_of_timeouts, repetitions}
+use Rattle.stun_agent.specs.Transactions.{Transaction, at, without, round_trip}
+use Rattle.stun_agent.proofs.TimingLemmas.{sum_of_timeouts-zero}
+
+ignored : (moment : Option ℕ) (bytes : List ℕ) (from : SocketAddr) (agent : Agent) → at (transaction_id_field bytes) agent.transactions ≡ None
+    → (is_some (at (transaction_id_field bytes) agent.transactions) ≡ false) × (after_response moment bytes from agent ≡ agent)
+ignored moment bytes from agent none = (ap is_some none, by (at (transaction_id_field bytes) agent.transactions) none)
+  where
+    by : (found : Option Transaction) → found ≡ None
+        → option_map_or
+        (λ t. tallied (response_received (length bytes) (round_trip moment t)) (with_validated from (with_transactions agent (without (transaction_id_field bytes) agent.transactions))))
+        found agent
+        ≡ agent
+    by None h = refl
+    by (Some t) h = cc
+
+pub unknown_ignored : (class : MessageClass) (moment : Option ℕ) (bytes : List ℕ) (from : SocketAddr) (agent : Agent) → IsResponse class
+    → at (transaction_id_field bytes) agent.transactions ≡ None → (takes class bytes agent ≡ false) × (after_class class moment bytes from agent ≡ agent)
+unknown_ignored Request moment bytes from agent response none = absurd response
+unknown_ignored Indication moment bytes from agent response none = absurd response
+unknown_ignored Success moment bytes from agent response none = ignored moment bytes from agent none
+unknown_ignored Error moment bytes from agent response none = ignored moment bytes from agent none
+
+capped : (start sum last : ℕ) → min (start + (sum + last)) (2 ^ 64 - 1) ≡ min (start + (0 + min (last + sum) max_nanos)) (2 ^ 64 - 1)
+capped start sum last = omega arith
+
+pub same_end : (settings : Settings) (start : ℕ) → planned_end Udp settings start ≡ planned_end Tcp settings start
+same_end settings start = rw sum_of_timeouts-zero (capped start (sum_of_timeouts settings (repetitions settings)) settings.last_wait)

@@ -1,0 +1,170 @@
+-- An agent, and what each call makes of it (RFC 8489, sections 6.2 and 6.3).
+use Rattle.std.specs.Prelude.{ℕ, Bool, true, false, List, [], length, if◌then◌else◌, Option, Some, None}
+use Rattle.std.specs.Option.{option_map_or, option_map, is_some}
+use Rattle.std.specs.declared.net.socket_addr.SocketAddr.{SocketAddr}
+use Rattle.stun_base.specs.declared.message_type.MessageClass.{MessageClass}
+use Rattle.stun_base.specs.declared.message_type.MessageClass.TheVariants.{Request, Indication, Success, Error}
+use Rattle.stun_base.specs.declared.transport.TransportType.{TransportType}
+use Rattle.stun_base.specs.Header.{type_field, transaction_id_field, header_refusal}
+use Rattle.stun_base.specs.MessageType.{class_of}
+use Rattle.stun_agent.specs.declared.agent.StunAgentPollRet.{StunAgentPollRet}
+use Rattle.stun_agent.specs.declared.agent.StunAgentPollRet.TheVariants.{TransactionTimedOut, TransactionCancelled, WaitUntil}
+use Rattle.stun_agent.specs.declared.error.StunError.{StunError}
+use Rattle.stun_agent.specs.declared.error.StunError.TheVariants.{AlreadyInProgress, ProtocolViolation, ParseError}
+use Rattle.stun_agent.specs.Datagrams.{Datagram}
+use Rattle.stun_agent.specs.Integrity.{integrity_of}
+use Rattle.stun_agent.specs.Peers.{Peers, with_peer}
+use Rattle.stun_agent.specs.Statistics.{Statistics, Tally, new_statistics, counted, request_sent, request_sent_again, response_sent, indication_sent, request_received, response_received, indication_received, timed_out as one_timed_out, cancelled as one_cancelled}
+use Rattle.stun_agent.specs.Timing.{Settings, default_settings}
+use Rattle.stun_agent.specs.Transactions.{Transaction, Transactions, repeats, new_transaction, at, with, without, first_over, wake_up, next_sent, after_slots, round_trip}
+
+-- an agent. It counts where it has statistics
+pub record Agent : Type 0 where
+  pub transport : TransportType
+  pub local_addr : SocketAddr
+  pub remote_addr : Option SocketAddr
+  pub settings : Settings
+  pub transactions : Transactions
+  pub peers : Peers
+  pub statistics : Option Statistics
+
+-- an agent that has sent nothing: no fixed peer, the default settings, and nothing is counted
+abbrev pub new_agent : TransportType → SocketAddr → Agent
+new_agent transport local_addr = record {
+  transport = transport;
+  local_addr = local_addr;
+  remote_addr = None;
+  settings = default_settings;
+  transactions = [];
+  peers = [];
+  statistics = None;
+}
+
+-- the statistics that are kept from the start, or none
+abbrev pub statistics_if : Bool → Option Statistics
+statistics_if wanted = if wanted then Some new_statistics else None
+
+-- the agent with other transactions
+abbrev pub with_transactions : Agent → Transactions → Agent
+with_transactions agent all = record agent { transactions = all }
+
+-- the agent once an address is validated
+abbrev pub with_validated : SocketAddr → Agent → Agent
+with_validated address agent = record agent { peers = with_peer address agent.peers }
+
+-- the agent once a tally is counted
+abbrev pub tallied : Tally → Agent → Agent
+tallied tally agent = record agent { statistics = option_map (counted tally) agent.statistics }
+
+-- ---- messages
+abbrev pub class_of_bytes : List ℕ → MessageClass
+class_of_bytes bytes = class_of (type_field bytes)
+
+abbrev pub is_request : MessageClass → Bool
+is_request Request = true
+is_request Indication = false
+is_request Success = false
+is_request Error = false
+
+-- what sending a message of a class counts
+abbrev pub sending_tally : MessageClass → ℕ → Tally
+sending_tally Request count = request_sent count
+sending_tally Indication count = indication_sent count
+sending_tally Success count = response_sent count
+sending_tally Error count = response_sent count
+
+-- ---- sending
+-- why bytes are not sent as a message that wants no answer, the first reason that holds
+abbrev pub sending_refusal : List ℕ → Option StunError
+sending_refusal bytes =
+    option_map_or (λ error. Some (ParseError error)) (header_refusal bytes)
+    (if is_request (class_of_bytes bytes) then Some ProtocolViolation else None)
+
+abbrev pub after_send : List ℕ → Agent → Agent
+after_send bytes agent = tallied (sending_tally (class_of_bytes bytes) (length bytes)) agent
+
+-- why bytes are not sent as a request, the first reason that holds
+abbrev pub request_refusal : Agent → List ℕ → Option StunError
+request_refusal agent bytes =
+    option_map_or (λ error. Some (ParseError error)) (header_refusal bytes)
+    (if is_request (class_of_bytes bytes) then
+    (if is_some (at (transaction_id_field bytes) agent.transactions) then Some AlreadyInProgress else None)
+    else Some ProtocolViolation)
+
+-- the transaction of a request
+abbrev pub request_of : Agent → List ℕ → SocketAddr → ℕ → Transaction
+request_of agent bytes to now = new_transaction bytes to (integrity_of bytes) agent.settings now
+
+abbrev pub after_send_request : Agent → List ℕ → SocketAddr → ℕ → Agent
+after_send_request agent bytes to now =
+    tallied (request_sent (length bytes))
+    (with_transactions agent (with (transaction_id_field bytes) (request_of agent bytes to now) agent.transactions))
+
+-- what is sent of a transaction: bytes, transport, and the addresses from and to
+abbrev pub datagram_of : Agent → Transaction → Datagram
+datagram_of agent t = (t.bytes, agent.transport, agent.local_addr, t.to)
+
+-- ---- receiving
+-- a response ends its transaction and validates its sender, and changes nothing where there is no such transaction
+abbrev pub after_response : Option ℕ → List ℕ → SocketAddr → Agent → Agent
+after_response moment bytes from agent =
+    option_map_or
+    (λ t. tallied (response_received (length bytes) (round_trip moment t))
+    (with_validated from (with_transactions agent (without (transaction_id_field bytes) agent.transactions))))
+    (at (transaction_id_field bytes) agent.transactions)
+    agent
+
+-- whether a message is taken, by its class: a response only where its transaction is outstanding
+abbrev pub takes : MessageClass → List ℕ → Agent → Bool
+takes Request bytes agent = true
+takes Indication bytes agent = true
+takes Success bytes agent = is_some (at (transaction_id_field bytes) agent.transactions)
+takes Error bytes agent = is_some (at (transaction_id_field bytes) agent.transactions)
+
+-- the agent after a message, by its class
+abbrev pub after_class : MessageClass → Option ℕ → List ℕ → SocketAddr → Agent → Agent
+after_class Request moment bytes from agent = tallied (request_received (length bytes)) (with_validated from agent)
+after_class Indication moment bytes from agent = tallied (indication_received (length bytes)) (with_validated from agent)
+after_class Success moment bytes from agent = after_response moment bytes from agent
+after_class Error moment bytes from agent = after_response moment bytes from agent
+
+abbrev pub takes_message : List ℕ → Agent → Bool
+takes_message bytes agent = takes (class_of_bytes bytes) bytes agent
+
+abbrev pub after_message : Option ℕ → List ℕ → SocketAddr → Agent → Agent
+after_message moment bytes from agent = after_class (class_of_bytes bytes) moment bytes from agent
+
+-- ---- ends
+-- how a transaction ends that no response took: cancelled where its user has stopped its retransmissions or itself
+abbrev pub end_of : ℕ × Transaction → StunAgentPollRet
+end_of e = if repeats e.1.sending then TransactionTimedOut e.0 else TransactionCancelled e.0
+
+abbrev pub tally_of_end : Transaction → Tally
+tally_of_end t = if repeats t.sending then one_timed_out else one_cancelled
+
+-- the one that ends at a poll: of the least id among those that are over
+abbrev pub ended_by_poll : ℕ → Agent → Option (ℕ × Transaction)
+ended_by_poll now agent = first_over agent.transport now agent.transactions
+
+-- what a poll answers: the end, or until when to wait
+abbrev pub poll_answer : ℕ → Agent → StunAgentPollRet
+poll_answer now agent =
+    option_map_or end_of (ended_by_poll now agent) (WaitUntil (wake_up agent.transport now agent.transactions))
+
+abbrev pub after_poll : ℕ → Agent → Agent
+after_poll now agent =
+    option_map_or (λ e. tallied (tally_of_end e.1) (with_transactions agent (without e.0 agent.transactions))) (ended_by_poll now agent) agent
+
+-- ---- retransmission
+-- the one that is sent again: of the least id among those that are due and repeat
+abbrev pub sent_by_poll : ℕ → Agent → Option (ℕ × Transaction)
+sent_by_poll now agent = next_sent agent.transport now agent.transactions
+
+-- what sending again counts
+abbrev pub tally_of_sent : Option (ℕ × Transaction) → Agent → Agent
+tally_of_sent sent agent = option_map_or (λ e. tallied (request_sent_again (length e.1.bytes)) agent) sent agent
+
+abbrev pub after_poll_transmit : ℕ → Agent → Agent
+after_poll_transmit now agent =
+    tally_of_sent (sent_by_poll now agent)
+    (with_transactions agent (after_slots agent.transport now (option_map (λ e. e.0) (sent_by_poll now agent)) agent.transactions))

@@ -1,0 +1,24 @@
+-- What is sent: bytes, and the transport and addresses for them.
+use Rattle.std.specs.Prelude.{ℕ, List}
+use Rattle.std.specs.Borrow.{Bor}
+use Rattle.std.specs.declared.net.socket_addr.SocketAddr.{SocketAddr}
+use Rattle.stun_base.specs.Data.{data_bytes}
+use Rattle.stun_base.specs.declared.data.Data.{Data}
+use Rattle.stun_base.specs.declared.transport.TransportType.{TransportType}
+use Rattle.stun_agent.specs.declared.transmit.Transmit.{Transmit}
+
+-- the four parts of a `Transmit`
+abbrev pub parts : {T : Type 0} → Transmit T → T × TransportType × SocketAddr × SocketAddr
+parts t = (t.«data», t.transport, t.from, t.to)
+
+-- bytes, transport, and the addresses from and to
+abbrev pub Datagram : Type 0
+Datagram = List ℕ × TransportType × SocketAddr × SocketAddr
+
+-- the datagram whose bytes are lent
+abbrev pub lent_datagram : Transmit (Bor (List ℕ)) → Datagram
+lent_datagram t = (t.«data».now, t.transport, t.from, t.to)
+
+-- the datagram whose bytes are lent or owned
+abbrev pub datagram : {A : Type 0} → Transmit (Data A) → Datagram
+datagram t = (data_bytes t.«data», t.transport, t.from, t.to)

@@ -1,0 +1,75 @@
+-- What holds of an agent whatever is done to it, moments that go back included (RFC 8489, section 6.2).
+use Rattle.std.specs.Prelude.{◌≡◌, ◌≤◌, ◌<◌, ◌+◌, ℕ, false, max, List, [], Option, Some, None, IfSome, length}
+use Rattle.std.specs.declared.net.socket_addr.SocketAddr.{SocketAddr}
+use Rattle.stun_base.specs.Header.{transaction_id_field}
+use Rattle.stun_base.specs.MessageType.{IsResponse}
+use Rattle.stun_base.specs.Moments.{moment_after}
+use Rattle.stun_base.specs.declared.transport.TransportType.{TransportType}
+use Rattle.stun_base.specs.declared.transport.TransportType.TheVariants.{Udp, Tcp}
+use Rattle.stun_agent.specs.declared.agent.StunAgentPollRet.TheVariants.{WaitUntil}
+use Rattle.stun_agent.specs.Agent.{Agent, class_of_bytes, takes_message, after_message, poll_answer, after_poll, ended_by_poll, sent_by_poll, request_refusal, after_send_request}
+use Rattle.stun_agent.specs.Statistics.{LeavesOutstanding, IsNotFull}
+use Rattle.stun_agent.specs.Steps.{Step, after_step, after_steps, is_outstanding, begins, ends, once, count, repetitions_until_end, most_allowed}
+use Rattle.stun_agent.specs.Timing.{Settings, timeout, sum_of_timeouts, slots, final_wait}
+use Rattle.stun_agent.specs.Transactions.{Transaction, at, an_hour}
+
+-- a request is sent again no earlier than its timeout after the moment before
+abbrev pub IsNeverEarly : Type 0
+IsNeverEarly =
+    (now : ℕ) (agent : Agent) (e : ℕ × Transaction) → sent_by_poll now agent ≡ Some e
+    → moment_after e.1.last (timeout e.1.settings e.1.slot) ≤ now
+
+-- at a moment nothing is sent again and nothing ends
+pub record IsQuiet (moment : ℕ) (agent : Agent) : Type 0 where
+  pub sends_nothing : sent_by_poll moment agent ≡ None
+  pub ends_nothing : ended_by_poll moment agent ≡ None
+
+-- a moment to wait until lies in the next hour, and until then all is quiet
+pub record IsWait (now until : ℕ) (agent : Agent) : Type 0 where
+  pub not_past : now ≤ until
+  pub within_an_hour : until ≤ now + an_hour
+  pub quiet : (moment : ℕ) → now ≤ moment → moment < until → IsQuiet moment agent
+
+abbrev pub WaitsAsTold : Type 0
+WaitsAsTold =
+    (now until : ℕ) (agent : Agent) → poll_answer now agent ≡ WaitUntil until
+    → (after_poll now agent ≡ agent) × IsWait now until agent
+
+-- a response without its request is not taken, and changes nothing
+abbrev pub IgnoresUnknown : Type 0
+IgnoresUnknown =
+    (moment : Option ℕ) (bytes : List ℕ) (from : SocketAddr) (agent : Agent)
+    → IsResponse (class_of_bytes bytes) → at (transaction_id_field bytes) agent.transactions ≡ None
+    → (takes_message bytes agent ≡ false) × (after_message moment bytes from agent ≡ agent)
+
+-- the end of a request that is sent at a moment and never answered, and whose agent is asked at each moment that it awaits
+abbrev pub planned_end : TransportType → Settings → ℕ → ℕ
+planned_end transport settings start =
+    moment_after start (sum_of_timeouts settings (slots transport settings) + final_wait transport settings)
+
+abbrev pub EndsAlike : Type 0
+EndsAlike = (settings : Settings) (start : ℕ) → planned_end Udp settings start ≡ planned_end Tcp settings start
+
+-- over any calls, each request that was taken is outstanding or has ended once
+abbrev pub EndsOnce : Type 0
+EndsOnce =
+    (id : ℕ) (steps : List Step) (start : Agent) → start.transactions ≡ []
+    → count begins id steps start ≡ count ends id steps start + once (is_outstanding id (after_steps steps start))
+
+-- from a request that is sent at a moment over any calls until it ends, it is transmitted no more often than its settings
+-- ever allow, and over TCP once
+abbrev pub IsTransmittedAtMost : Type 0
+IsTransmittedAtMost =
+    (earlier later : List Step) (start : Agent) (bytes : List ℕ) (to : SocketAddr) (now : ℕ) → start.transactions ≡ []
+    → request_refusal (after_steps earlier start) bytes ≡ None
+    → let begun = after_send_request (after_steps earlier start) bytes to now in
+    let id = transaction_id_field bytes in
+    (1 + repetitions_until_end id later begun ≤ max 1 (most_allowed id later begun))
+    × (start.transport ≡ Tcp → repetitions_until_end id later begun ≡ 0)
+
+-- while no counter is full, the statistics tell how many requests are outstanding
+abbrev pub KeepsCount : Type 0
+KeepsCount =
+    (step : Step) (agent : Agent)
+    → IfSome agent.statistics (λ stats. LeavesOutstanding stats (length agent.transactions))
+    → IfSome (after_step step agent).statistics (λ stats. IsNotFull stats → LeavesOutstanding stats (length (after_step step agent).transactions))

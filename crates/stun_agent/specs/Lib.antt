@@ -1,0 +1,12 @@
+pub mod Agent
+pub mod AgentLends
+pub mod Datagrams
+pub mod Integrity
+pub mod Laws
+pub mod Peers
+pub mod Requests
+pub mod Statistics
+pub mod StatisticsFields
+pub mod Steps
+pub mod Timing
+pub mod Transactions

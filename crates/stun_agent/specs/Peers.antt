@@ -1,0 +1,17 @@
+-- The addresses that an agent has had messages from: a set, as its addresses in their order.
+use Rattle.std.specs.Prelude.{Bool, List}
+use Rattle.std.specs.List.{list_any}
+use Rattle.std.specs.declared.net.socket_addr.SocketAddr.{SocketAddr}
+use Rattle.std.specs.BTreeSet.{insert_key}
+use Rattle.stun_base.specs.Address.{address_cmp, same_address}
+
+abbrev pub Peers : Type 0
+Peers = List SocketAddr
+
+-- whether an address is among them
+abbrev pub is_peer : SocketAddr → Peers → Bool
+is_peer address peers = list_any (same_address address) peers
+
+-- an address more, at its place, where it is not there yet
+abbrev pub with_peer : SocketAddr → Peers → Peers
+with_peer address peers = insert_key address_cmp peers address

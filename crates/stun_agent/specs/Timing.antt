@@ -1,0 +1,45 @@
+-- When a request is sent again, and when it ends (RFC 8489, sections 6.2.1 and 6.2.2). Spans are in nanoseconds.
+use Rattle.std.specs.Prelude.{ℕ, zero, suc, ◌+◌, ◌-◌, ◌*◌, ◌^◌, min, max}
+use Rattle.std.specs.Duration.{as_nanos, max_nanos}
+use Rattle.stun_base.specs.declared.transport.TransportType.{TransportType}
+use Rattle.stun_base.specs.declared.transport.TransportType.TheVariants.{Udp, Tcp}
+use Rattle.stun_agent.specs.declared.rto.RequestRto.{RequestRto}
+
+-- the settings of a request, its spans in nanoseconds
+pub record Settings : Type 0 where
+  pub initial : ℕ
+  pub maximum : ℕ
+  pub transmissions : ℕ
+  pub last_wait : ℕ
+
+-- the settings of a request whose user has set none (section 6.2.1): 500 ms, no maximum, 7 transmissions, and 8 s
+abbrev pub default_settings : Settings
+default_settings = record { initial = 500_000_000; maximum = max_nanos; transmissions = 7; last_wait = 8_000_000_000 }
+
+-- the settings that a `RequestRto` holds
+abbrev pub settings_of : RequestRto → Settings
+settings_of rto =
+    record { initial = as_nanos rto.initial; maximum = as_nanos rto.max; transmissions = rto.retransmits; last_wait = as_nanos rto.last_retransmit }
+
+-- the wait after transmission i, counted from 0: it doubles each time, up to the maximum
+abbrev pub timeout : Settings → ℕ → ℕ
+timeout settings i = min (settings.initial * 2 ^ i) settings.maximum
+
+-- the first k timeouts together
+unfoldable pub sum_of_timeouts : Settings → ℕ → ℕ
+sum_of_timeouts settings zero = 0
+sum_of_timeouts settings (suc k) = sum_of_timeouts settings k + timeout settings k
+
+-- how often a request is sent again over UDP
+abbrev pub repetitions : Settings → ℕ
+repetitions settings = max 1 settings.transmissions - 1
+
+-- how many timeouts pass, each with a transmission at its end
+abbrev pub slots : TransportType → Settings → ℕ
+slots Udp settings = repetitions settings
+slots Tcp settings = 0
+
+-- the wait after the last transmission. A reliable transport sends once, and waits as long in all
+abbrev pub final_wait : TransportType → Settings → ℕ
+final_wait Udp settings = settings.last_wait
+final_wait Tcp settings = min (settings.last_wait + sum_of_timeouts settings (repetitions settings)) max_nanos

@@ -1,0 +1,172 @@
+-- Requests that wait for their responses (RFC 8489, section 6.2).
+use Rattle.std.specs.Prelude.{◌≡◌, ℕ, ◌+◌, ◌-◌, ◌*◌, ◌==◌, Bool, true, false, not, ◌&&◌, ◌||◌, nat_lt, nat_le, if◌then◌else◌, List, Option, Some, None, map, fold, find, filter, min, max}
+use Rattle.std.specs.Option.{option_map, option_map_or}
+use Rattle.std.specs.declared.net.socket_addr.SocketAddr.{SocketAddr}
+use Rattle.std.specs.Ordering.{nat_cmp}
+use Rattle.std.specs.Map.{lookup, keys_of, set_value, remove_entry}
+use Rattle.std.specs.List.{AllByRecursion}
+use Rattle.std.specs.List.Sorted.{IsStrictlySortedBy}
+use Rattle.std.specs.BTreeMap.{is_at, insert_entry}
+use Rattle.stun_base.specs.Header.{BeginsWithHeader, transaction_id_field}
+use Rattle.stun_base.specs.Moments.{moment_after}
+use Rattle.stun_base.specs.declared.algorithm.IntegrityAlgorithm.{IntegrityAlgorithm}
+use Rattle.stun_base.specs.declared.transport.TransportType.{TransportType}
+use Rattle.stun_agent.specs.declared.transaction.Sending.{Sending}
+use Rattle.stun_agent.specs.declared.transaction.Sending.TheVariants.{Repeats, Silent, Cancelled}
+use Rattle.stun_agent.specs.Timing.{Settings, timeout, slots, final_wait}
+
+-- a request that waits for its response. `slot` counts the timeouts that have passed, `last` is the moment of the last
+-- one, at first that of sending, and `sending` says what is still sent of it
+pub record Transaction : Type 0 where
+  pub bytes : List ℕ
+  pub to : SocketAddr
+  pub integrity : Option IntegrityAlgorithm
+  pub settings : Settings
+  pub slot : ℕ
+  pub last : ℕ
+  pub sending : Sending
+
+-- ---- what is still sent
+-- it is sent again while slots are left
+abbrev pub repeats : Sending → Bool
+repeats Repeats = true
+repeats Silent = false
+repeats Cancelled = false
+
+-- it ends at the next poll that reaches it
+abbrev pub is_cancelled : Sending → Bool
+is_cancelled Repeats = false
+is_cancelled Silent = false
+is_cancelled Cancelled = true
+
+-- it is sent no more, and what was cancelled stays so
+abbrev pub after_silence : Sending → Sending
+after_silence Repeats = Silent
+after_silence Silent = Silent
+after_silence Cancelled = Cancelled
+
+-- ---- one transaction
+-- a request that is sent for the first time
+abbrev pub new_transaction : List ℕ → SocketAddr → Option IntegrityAlgorithm → Settings → ℕ → Transaction
+new_transaction bytes to integrity settings now =
+    record { bytes = bytes; to = to; integrity = integrity; settings = settings; slot = 0; last = now; sending = Repeats }
+
+abbrev pub silenced : Transaction → Transaction
+silenced t = record t { sending = after_silence t.sending }
+
+abbrev pub cancelled : Transaction → Transaction
+cancelled t = record t { sending = Cancelled }
+
+abbrev pub configured : Settings → Transaction → Transaction
+configured settings t = record t { settings = settings }
+
+-- one timeout has passed
+abbrev pub after_slot : ℕ → Transaction → Transaction
+after_slot now t = record t { slot = t.slot + 1; last = now }
+
+-- timeouts are left
+abbrev pub has_slots : TransportType → Transaction → Bool
+has_slots transport t = nat_lt t.slot (slots transport t.settings)
+
+-- the moment at which it is sent again, or ends
+abbrev pub awaited : TransportType → Transaction → ℕ
+awaited transport t = moment_after t.last (if has_slots transport t then timeout t.settings t.slot else final_wait transport t.settings)
+
+-- its next timeout has passed
+abbrev pub is_due : TransportType → ℕ → Transaction → Bool
+is_due transport now t = not (is_cancelled t.sending) && (has_slots transport t && nat_le (awaited transport t) now)
+
+-- it has ended
+abbrev pub is_over : TransportType → ℕ → Transaction → Bool
+is_over transport now t = is_cancelled t.sending || (not (has_slots transport t) && nat_le (awaited transport t) now)
+
+-- the round trip of a response that is taken at a moment: only before any timeout has passed
+abbrev pub round_trip : Option ℕ → Transaction → Option ℕ
+round_trip moment t = if t.slot == 0 then option_map (λ now. now - t.last) moment else None
+
+-- ---- all of them
+-- each transaction under its id, in the order of the ids
+abbrev pub Transactions : Type 0
+Transactions = List (ℕ × Transaction)
+
+-- these, and the transport that carries them
+pub record Outstanding : Type 0 where
+  pub transport : TransportType
+  pub requests : Transactions
+
+-- the ids ascend
+abbrev pub IsAscending : Transactions → Type 0
+IsAscending all = IsStrictlySortedBy nat_cmp (keys_of all)
+
+-- the bytes begin with a header of this transaction
+pub record IsRequestOf (id : ℕ) (bytes : List ℕ) : Type 0 where
+  pub header : BeginsWithHeader bytes
+  pub id_is : transaction_id_field bytes ≡ id
+
+-- the request at an id is one of that transaction
+abbrev pub IsNamed : ℕ × Transaction → Type 0
+IsNamed e = IsRequestOf e.0 e.1.bytes
+
+-- the ids ascend, and each is that of its request
+pub record AreKept (all : Transactions) : Type 0 where
+  pub ascending : IsAscending all
+  pub named : AllByRecursion IsNamed all
+
+abbrev pub at : ℕ → Transactions → Option Transaction
+at id all = lookup (is_at (nat_cmp id)) all
+
+abbrev pub with : ℕ → Transaction → Transactions → Transactions
+with id t all = insert_entry nat_cmp all id t
+
+abbrev pub without : ℕ → Transactions → Transactions
+without id all = remove_entry (is_at (nat_cmp id)) all
+
+-- the one at an id is changed, if there is one
+abbrev pub changed : (Transaction → Transaction) → ℕ → Transactions → Transactions
+changed f id all = option_map_or (λ t. set_value (is_at (nat_cmp id)) all (f t)) (at id all) all
+
+-- ---- ends
+-- the one of the least id among those that are over
+abbrev pub first_over : TransportType → ℕ → Transactions → Option (ℕ × Transaction)
+first_over transport now all = find (λ e. is_over transport now e.1) all
+
+-- an hour, in nanoseconds
+abbrev pub an_hour : ℕ
+an_hour = 3600 * 1_000_000_000
+
+-- the least awaited moment, or in an hour, and never before `now`
+abbrev pub wake_up : TransportType → ℕ → Transactions → ℕ
+wake_up transport now all = max now (fold min (moment_after now an_hour) (map (λ e. awaited transport e.1) all))
+
+-- the moments that those which are not cancelled await
+abbrev pub awaited_moments : TransportType → Transactions → List ℕ
+awaited_moments transport all = map (λ e. awaited transport e.1) (filter (λ e. not (is_cancelled e.1.sending)) all)
+
+-- the lesser of a moment that may be there and another one
+abbrev pub sooner : Option ℕ → ℕ → Option ℕ
+sooner None moment = Some moment
+sooner (Some least) moment = Some (min least moment)
+
+-- the least of these moments, if there are any
+abbrev pub next_awaited : TransportType → Transactions → Option ℕ
+next_awaited transport all = fold sooner None (awaited_moments transport all)
+
+-- ---- retransmission
+-- the one of the least id among those that are due and repeat
+abbrev pub next_sent : TransportType → ℕ → Transactions → Option (ℕ × Transaction)
+next_sent transport now all = find (λ e. is_due transport now e.1 && repeats e.1.sending) all
+
+-- an id up to the one that is sent, and any id where none is
+abbrev pub is_reached : Option ℕ → ℕ → Bool
+is_reached sent id = option_map_or (λ last. nat_le id last) sent true
+
+-- a due one up to the one that is sent takes its slot
+abbrev pub slot_passed : TransportType → ℕ → Option ℕ → ℕ × Transaction → Transaction
+slot_passed transport now sent e = if is_reached sent e.0 && is_due transport now e.1 then after_slot now e.1 else e.1
+
+abbrev pub after_slots : TransportType → ℕ → Option ℕ → Transactions → Transactions
+after_slots transport now sent all = map (λ e. (e.0, slot_passed transport now sent e)) all
+
+-- what is sent of a transaction, and where
+abbrev pub contents : Transaction → List ℕ × SocketAddr
+contents t = (t.bytes, t.to)

@@ -1,0 +1,81 @@
+//! What is counted, where statistics are kept.
+ghost use Rattle.std.specs.Prelude.{◌≡◌, if◌then◌else◌};
+ghost use Rattle.std.specs.Option.{option_map};
+ghost use Rattle.stun_agent.specs.Agent.{sending_tally};
+ghost use Rattle.stun_agent.specs.Statistics.{counted, request_sent_again, request_received, indication_received, response_received, timed_out, cancelled};
+
+use crate::stats::StunAgentStats;
+use stun_base::message_type::MessageClass;
+
+/// Counts a message of a class and so many bytes that is sent for the first time.
+pub(crate) fn count_sent(stats: &mut Option<StunAgentStats>, class: MessageClass, bytes: usize)
+    ensures { stats.new ≡ option_map (counted (sending_tally class bytes)) stats.old }
+{
+    let Some(stats) = stats else {
+        return;
+    };
+    let bytes = bytes as u64;
+    match class {
+        MessageClass::Request => stats.count_request_sent(bytes),
+        MessageClass::Indication => stats.count_indication_sent(bytes),
+        MessageClass::Success | MessageClass::Error => stats.count_response_sent(bytes),
+    }
+}
+
+/// Counts the bytes of a request that is sent again.
+pub(crate) fn count_sent_again(stats: &mut Option<StunAgentStats>, bytes: usize)
+    ensures { stats.new ≡ option_map (counted (request_sent_again bytes)) stats.old }
+{
+    let Some(stats) = stats else {
+        return;
+    };
+    stats.count_request_sent_again(bytes as u64);
+}
+
+/// Counts a request of so many bytes that is received.
+pub(crate) fn count_request_received(stats: &mut Option<StunAgentStats>, bytes: usize)
+    ensures { stats.new ≡ option_map (counted (request_received bytes)) stats.old }
+{
+    let Some(stats) = stats else {
+        return;
+    };
+    stats.count_request_received(bytes as u64);
+}
+
+/// Counts an indication of so many bytes that is received.
+pub(crate) fn count_indication_received(stats: &mut Option<StunAgentStats>, bytes: usize)
+    ensures { stats.new ≡ option_map (counted (indication_received bytes)) stats.old }
+{
+    let Some(stats) = stats else {
+        return;
+    };
+    stats.count_indication_received(bytes as u64);
+}
+
+/// Counts a response of so many bytes to an outstanding request, and its round trip where it is known.
+pub(crate) fn count_response_received(
+    stats: &mut Option<StunAgentStats>,
+    bytes: usize,
+    round_trip: Option<u64>,
+)
+    ensures { stats.new ≡ option_map (counted (response_received bytes round_trip)) stats.old }
+{
+    let Some(stats) = stats else {
+        return;
+    };
+    stats.count_response_received(bytes as u64, round_trip);
+}
+
+/// Counts the end of a request that no response took: a time-out while it was still sent again.
+pub(crate) fn count_end(stats: &mut Option<StunAgentStats>, repeats: bool)
+    ensures { stats.new ≡ option_map (counted (if repeats then timed_out else cancelled)) stats.old }
+{
+    let Some(stats) = stats else {
+        return;
+    };
+    if repeats {
+        stats.count_timed_out();
+    } else {
+        stats.count_cancelled();
+    }
+}

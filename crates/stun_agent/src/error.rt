@@ -1,0 +1,66 @@
+//! Why an agent refuses a call.
+use std::alloc::{AllocError, AllocFailed};
+use stun_base::error::{StunParseError, StunWriteError};
+use thiserror::Error;
+
+/// Why an agent refuses a call. A refused call leaves the agent as it was.
+#[derive(Clone, Copy, Debug, PartialEq, Eq, Error)]
+pub enum StunError {
+    /// A request of this transaction is outstanding.
+    #[error("The operation is already in progress")]
+    AlreadyInProgress,
+    /// Never answered by an agent.
+    #[error("A required resource could not be found")]
+    ResourceNotFound,
+    /// Never answered by an agent.
+    #[error("An operation timed out")]
+    TimedOut,
+    /// The message has a class that this call does not send.
+    #[error("Unexpected data was received")]
+    ProtocolViolation,
+    /// Never answered by an agent.
+    #[error("Operation was aborted")]
+    Aborted,
+    /// The bytes do not begin with a header of STUN.
+    #[error(transparent)]
+    ParseError(StunParseError),
+    /// Never answered by an agent.
+    #[error(transparent)]
+    WriteError(StunWriteError),
+    /// Memory is wanting.
+    #[error("Out of memory")]
+    OutOfMemory,
+}
+
+impl From<StunParseError> for StunError {
+    ghost use Rattle.std.specs.Prelude.{◌≡◌};
+    ghost use Rattle.stun_agent.specs.declared.error.StunError.TheVariants.{ParseError};
+
+    ghost from_gives = { λ inner error. error ≡ ParseError inner };
+
+    fn from(error: StunParseError) -> StunError {
+        StunError::ParseError(error)
+    }
+}
+
+impl From<StunWriteError> for StunError {
+    ghost use Rattle.std.specs.Prelude.{◌≡◌};
+    ghost use Rattle.stun_agent.specs.declared.error.StunError.TheVariants.{WriteError};
+
+    ghost from_gives = { λ inner error. error ≡ WriteError inner };
+
+    fn from(error: StunWriteError) -> StunError {
+        StunError::WriteError(error)
+    }
+}
+
+impl From<AllocError> for StunError {
+    ghost use Rattle.std.specs.Prelude.{◌≡◌};
+    ghost use Rattle.stun_agent.specs.declared.error.StunError.TheVariants.{OutOfMemory};
+
+    ghost from_gives = { λ _ error. error ≡ OutOfMemory };
+
+    fn from(_error: AllocError) -> StunError {
+        StunError::OutOfMemory
+    }
+}

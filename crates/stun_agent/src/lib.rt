@@ -1,0 +1,19 @@
+//! A STUN agent without sockets and clocks: requests, their retransmissions and their ends.
+#![tactic(auto)]
+
+pub mod agent;
+mod builder;
+mod counting;
+mod error;
+mod integrity;
+pub mod laws;
+mod outstanding;
+mod poll;
+mod receive;
+mod request;
+mod rto;
+mod send;
+pub mod stats;
+mod transaction;
+mod transactions;
+mod transmit;

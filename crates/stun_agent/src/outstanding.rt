@@ -1,0 +1,134 @@
+//! The requests that wait for their responses.
+ghost use Rattle.std.specs.Prelude.{◌≡◌, [], length, Some, IfSome, OnOk, OnErr};
+ghost use Rattle.std.specs.Option.{option_map, option_copied, is_some};
+ghost use Rattle.stun_agent.specs.Timing.{settings_of};
+ghost use Rattle.stun_agent.specs.Transactions.{repeats, contents, AreKept, at, with, without, changed, silenced, cancelled, configured, first_over, wake_up, next_awaited, next_sent, after_slots, IsNamed};
+
+use crate::rto::RequestRto;
+use crate::transaction::Transaction;
+use crate::transactions::{self, Transactions};
+use std::alloc::{AllocError, Allocator, Global};
+use std::collections::BTreeMap;
+use std::marker::Model;
+use stun_base::instant::Instant;
+use stun_base::transaction_id::TransactionId;
+use stun_base::transport::TransportType;
+
+/// The requests that wait for their responses, by their ids, and the transport that carries them.
+#[derive(Drop)]
+#[derive_where(Debug)]
+pub(crate) struct Outstanding<A: Allocator = Global> {
+    transport: TransportType,
+    requests: Transactions<A>,
+}
+
+impl<A: Allocator> Model for Outstanding<A> {
+    ghost use Rattle.std.specs.List.{AllByRecursion};
+    ghost use Rattle.stun_agent.specs.Transactions.{Outstanding, IsNamed};
+
+    ghost Value = { Outstanding };
+
+    ghost view = { λ o. record { transport = o.transport; requests = o.requests.entries } };
+
+    ghost invariant = { λ o. AllByRecursion IsNamed o.requests.entries };
+}
+
+impl<A: Allocator + Copy> Outstanding<A> {
+    pub(crate) fn new(alloc: A, transport: TransportType) -> Self
+        ensures { result ≡ record { transport = transport; requests = [] } }
+    {
+        Outstanding {
+            transport,
+            requests: BTreeMap::new(alloc),
+        }
+    }
+
+    pub(crate) fn transport(&self) -> TransportType
+        ensures { result ≡ self.now.transport }
+    {
+        self.transport
+    }
+
+    pub(crate) fn get(&self, id: TransactionId) -> Option<&Transaction<A>>
+        ensures { option_copied result ≡ at id self.now.requests }
+    {
+        self.requests.get(&id)
+    }
+
+    /// Keeps a request at an id that has none. Nothing changes where memory is refused.
+    pub(crate) fn insert(
+        &mut self,
+        id: TransactionId,
+        request: Transaction<A>,
+    ) -> Result<(), AllocError>
+        requires { IsNamed (id, request) }
+        ensures ok { OnOk result (self.new ≡ record self.old { requests = with id request self.old.requests }) }
+        ensures there { OnOk result (at id self.new.requests ≡ Some request) }
+        ensures err { OnErr result (self.new ≡ self.old) }
+    {
+        self.requests.insert(id, request)?;
+        Ok(())
+    }
+
+    /// Takes a request out.
+    pub(crate) fn remove(&mut self, id: TransactionId) -> Option<Transaction<A>>
+        ensures answer { result ≡ at id self.old.requests }
+        ensures after { self.new ≡ record self.old { requests = without id self.old.requests } }
+    {
+        self.requests.remove(&id)
+    }
+
+    /// The id of the request that is to end, and whether it was still sent again.
+    pub(crate) fn first_over(&self, now: Instant) -> Option<(TransactionId, bool)>
+        ensures { result ≡ option_map (λ e. (e.0, repeats e.1.sending)) (first_over self.now.transport now self.now.requests) }
+    {
+        transactions::first_over(&self.requests, self.transport, now)
+    }
+
+    /// When to poll again, where nothing is over.
+    pub(crate) fn wake_up(&self, now: Instant) -> Instant
+        ensures { result ≡ wake_up self.now.transport now self.now.requests }
+    {
+        transactions::wake_up(&self.requests, self.transport, now)
+    }
+
+    /// The least moment that a request which is not cancelled awaits.
+    pub(crate) fn next_awaited(&self) -> Option<Instant>
+        ensures least { result ≡ next_awaited self.now.transport self.now.requests }
+        ensures kept { AreKept self.now.requests }
+    {
+        let _count = self.requests.len();
+        transactions::next_awaited(&self.requests, self.transport)
+    }
+
+    /// Passes the slots that are due, and tells of the request that is to be sent again its id and how many bytes it has.
+    pub(crate) fn pass_due_slots(&mut self, now: Instant) -> Option<(TransactionId, usize)>
+        ensures sent { result ≡ option_map (λ e. (e.0, length e.1.bytes)) (next_sent self.old.transport now self.old.requests) }
+        ensures after { self.new ≡ record self.old { requests = after_slots self.old.transport now (option_map (λ s. s.0) result) self.old.requests } }
+        ensures request { IfSome (next_sent self.old.transport now self.old.requests) IsNamed }
+        ensures kept { IfSome result (λ s. option_map contents (at s.0 self.new.requests) ≡ option_map (λ e. contents e.1) (next_sent self.old.transport now self.old.requests)) }
+    {
+        transactions::pass_due_slots(&mut self.requests, self.transport, now)
+    }
+
+    /// Stops the retransmissions of a request, where it is there.
+    pub(crate) fn cancel_retransmissions(&mut self, id: TransactionId)
+        ensures { self.new ≡ record self.old { requests = changed silenced id self.old.requests } }
+    {
+        transactions::cancel_retransmissions(&mut self.requests, id);
+    }
+
+    /// Lets a request end at the next poll that reaches it, where it is there.
+    pub(crate) fn cancel(&mut self, id: TransactionId)
+        ensures { self.new ≡ record self.old { requests = changed cancelled id self.old.requests } }
+    {
+        transactions::cancel(&mut self.requests, id);
+    }
+
+    /// Replaces the timeouts of a request, where it is there.
+    pub(crate) fn configure(&mut self, id: TransactionId, settings: RequestRto)
+        ensures { self.new ≡ record self.old { requests = changed (configured (settings_of settings)) id self.old.requests } }
+    {
+        transactions::configure(&mut self.requests, id, settings);
+    }
+}

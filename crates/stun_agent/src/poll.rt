@@ -1,0 +1,81 @@
+//! Ends and retransmissions.
+ghost use Rattle.std.specs.Prelude.{◌≡◌, IfSome};
+ghost use Rattle.std.specs.Borrow.{sem};
+ghost use Rattle.std.specs.Option.{option_map};
+ghost use Rattle.stun_agent.specs.Agent.{poll_answer, after_poll, sent_by_poll, after_poll_transmit, datagram_of};
+ghost use Rattle.stun_agent.specs.Datagrams.{lent_datagram};
+ghost use Rattle.stun_agent.specs.Transactions.{IsNamed, AreKept, next_awaited, contents, at};
+
+use crate::agent::{StunAgent, StunAgentPollRet};
+use crate::counting;
+use crate::transmit::Transmit;
+use std::alloc::Allocator;
+use stun_base::instant::Instant;
+use stun_base::transaction_id::TransactionId;
+
+impl<A: Allocator + Copy> StunAgent<A> {
+    ghost use Rattle.stun_agent.specs.AgentLends.{ends_as};
+
+    /// Ends at most one request, the one of the least id among those that are cancelled or past their end, and
+    /// else says when to poll again: at the least moment that a request awaits, at most an hour from `now`, and
+    /// never before `now`. Poll again after an end, after each other call, and at that moment. Takes no memory.
+    pub fn poll(&mut self, now: Instant) -> StunAgentPollRet
+        ensures answer { result ≡ poll_answer now self.old }
+        ensures after { self.new ≡ after_poll now self.old }
+    {
+        match self.outstanding.first_over(now) {
+            Some((id, repeats)) => {
+                let _ended = self.outstanding.remove(id);
+                counting::count_end(&mut self.stats, repeats);
+                if repeats {
+                    StunAgentPollRet::TransactionTimedOut(id)
+                } else {
+                    StunAgentPollRet::TransactionCancelled(id)
+                }
+            }
+            None => StunAgentPollRet::WaitUntil(self.outstanding.wake_up(now)),
+        }
+    }
+
+    /// The least moment that a request which is not cancelled awaits, to be sent again or to end, if there is any.
+    /// Takes no memory.
+    pub fn next_awaited(&self) -> Option<Instant>
+        ensures least { result ≡ next_awaited self.now.transport self.now.transactions }
+        ensures kept { AreKept self.now.transactions }
+    {
+        self.outstanding.next_awaited()
+    }
+
+    /// Lends the bytes of at most one request that is to be sent again: of the least id among those whose timeout
+    /// has passed and that are still sent. Ask again until it answers `None`. Takes no memory and copies nothing.
+    pub fn poll_transmit(&mut self, now: Instant) -> Option<Transmit<&[u8]>>
+        ensures* after { sem 𝓛 (ends_as A.row A.Allocator self.entry (after_poll_transmit now self.old)) }
+        ensures sent { option_map lent_datagram result ≡ option_map (λ e. datagram_of self.old e.1) (sent_by_poll now self.old) }
+        ensures request { IfSome (sent_by_poll now self.old) IsNamed }
+    {
+        let id = self.pass_due_slots(now)?;
+        let transport = self.outstanding.transport();
+        let from = self.local_addr;
+        let request = self.outstanding.get(id)?;
+        let to = request.to();
+        let data = request.bytes();
+        Some(Transmit {
+            data,
+            transport,
+            from,
+            to,
+        })
+    }
+
+    // Passes the slots that are due, and tells the id of the request that is to be sent again.
+    fn pass_due_slots(&mut self, now: Instant) -> Option<TransactionId>
+        ensures sent { result ≡ option_map (λ e. e.0) (sent_by_poll now self.old) }
+        ensures after { self.new ≡ after_poll_transmit now self.old }
+        ensures kept { IfSome result (λ id. option_map contents (at id self.new.transactions) ≡ option_map (λ e. contents e.1) (sent_by_poll now self.old)) }
+        ensures request { IfSome (sent_by_poll now self.old) IsNamed }
+    {
+        let (id, length) = self.outstanding.pass_due_slots(now)?;
+        counting::count_sent_again(&mut self.stats, length);
+        Some(id)
+    }
+}

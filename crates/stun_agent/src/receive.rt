@@ -1,0 +1,124 @@
+//! Receiving: responses end their requests, and senders are validated.
+ghost use Rattle.std.specs.Prelude.{◌≡◌, ◌||◌, not, IsTrue, IsOk, IfOk, OnOk, OnErr, Some, None};
+ghost use Rattle.stun_base.specs.Header.{transaction_id_field};
+ghost use Rattle.std.specs.Option.{is_some};
+ghost use Rattle.stun_agent.specs.Agent.{class_of_bytes, with_validated, takes_message, after_message, after_response};
+ghost use Rattle.stun_agent.specs.Peers.{is_peer};
+ghost use Rattle.stun_agent.specs.Transactions.{at};
+
+use crate::agent::StunAgent;
+use crate::counting;
+use std::alloc::{AllocError, Allocator};
+use std::net::SocketAddr;
+use stun_base::instant::Instant;
+use stun_base::message_type::MessageClass;
+use stun_types::message::Message;
+
+impl<A: Allocator + Copy> StunAgent<A> {
+    /// Whether a message from this address was taken, or the address was named by `validated_peer`.
+    pub fn is_validated_peer(&self, addr: SocketAddr) -> bool
+        ensures { result ≡ is_peer addr self.now.peers }
+    {
+        self.peers.contains(&addr)
+    }
+
+    /// Names an address as one whose messages were taken. Where memory is wanting, the agent is as before; an
+    /// address that is there already takes none.
+    pub fn validated_peer(&mut self, addr: SocketAddr) -> Result<(), AllocError>
+        ensures ok { OnOk result (self.new ≡ with_validated addr self.old) }
+        ensures err { OnErr result (self.new ≡ self.old) }
+        ensures there { IsTrue (is_peer addr self.old.peers) → IsOk result × (self.new ≡ self.old) }
+    {
+        self.peers.insert(addr)?;
+        Ok(())
+    }
+
+    /// Takes a message from an address, and tells whether it was taken.
+    ///
+    /// A response is taken where a request of its transaction is outstanding, whatever address it comes from. The
+    /// request ends, and the address is validated. Another response changes nothing. A request or an indication is
+    /// taken, and its address validated.
+    ///
+    /// Ask the authenticator before: the agent checks no digest. Whoever knows the id of an outstanding request,
+    /// and they stand in the clear, else ends it by a forged response and is taken for a validated peer.
+    ///
+    /// Where memory is wanting to note the address, the agent is as before, and a response's request is still
+    /// outstanding. An address that is noted already, and a message that is not taken, take no memory.
+    pub fn handle_stun_message(
+        &mut self,
+        msg: &Message<'_>,
+        from: SocketAddr,
+    ) -> Result<bool, AllocError>
+        ensures answer { IfOk result (λ taken. taken ≡ takes_message msg.now self.old) }
+        ensures ok { OnOk result (self.new ≡ after_message None msg.now from self.old) }
+        ensures err { OnErr result (self.new ≡ self.old) }
+        ensures no_memory { IsTrue (is_peer from self.old.peers || not (takes_message msg.now self.old)) → IsOk result }
+    {
+        self.receive(msg, from, None)
+    }
+
+    /// As `handle_stun_message`, at a moment: a response to a request that was sent once counts a round trip.
+    pub fn handle_stun_message_with_time(
+        &mut self,
+        msg: &Message<'_>,
+        from: SocketAddr,
+        now: Instant,
+    ) -> Result<bool, AllocError>
+        ensures answer { IfOk result (λ taken. taken ≡ takes_message msg.now self.old) }
+        ensures ok { OnOk result (self.new ≡ after_message (Some now) msg.now from self.old) }
+        ensures err { OnErr result (self.new ≡ self.old) }
+        ensures no_memory { IsTrue (is_peer from self.old.peers || not (takes_message msg.now self.old)) → IsOk result }
+    {
+        self.receive(msg, from, Some(now))
+    }
+
+    fn receive(
+        &mut self,
+        msg: &Message<'_>,
+        from: SocketAddr,
+        moment: Option<Instant>,
+    ) -> Result<bool, AllocError>
+        ensures answer { IfOk result (λ taken. taken ≡ takes_message msg.now self.old) }
+        ensures ok { OnOk result (self.new ≡ after_message moment msg.now from self.old) }
+        ensures err { OnErr result (self.new ≡ self.old) }
+        ensures no_memory { IsTrue (is_peer from self.old.peers || not (takes_message msg.now self.old)) → IsOk result }
+    {
+        let count = msg.as_bytes().len();
+        match msg.class() {
+            MessageClass::Request => {
+                self.validated_peer(from)?;
+                counting::count_request_received(&mut self.stats, count);
+                Ok(true)
+            }
+            MessageClass::Indication => {
+                self.validated_peer(from)?;
+                counting::count_indication_received(&mut self.stats, count);
+                Ok(true)
+            }
+            MessageClass::Success => self.receive_response(msg, from, moment),
+            MessageClass::Error => self.receive_response(msg, from, moment),
+        }
+    }
+
+    fn receive_response(
+        &mut self,
+        msg: &Message<'_>,
+        from: SocketAddr,
+        moment: Option<Instant>,
+    ) -> Result<bool, AllocError>
+        ensures answer { IfOk result (λ taken. taken ≡ is_some (at (transaction_id_field msg.now) self.old.transactions)) }
+        ensures ok { OnOk result (self.new ≡ after_response moment msg.now from self.old) }
+        ensures err { OnErr result (self.new ≡ self.old) }
+        ensures no_memory { IsTrue (is_peer from self.old.peers || not (is_some (at (transaction_id_field msg.now) self.old.transactions))) → IsOk result }
+    {
+        let id = msg.transaction_id();
+        let round_trip = match self.outstanding.get(id) {
+            Some(request) => request.round_trip(moment),
+            None => return Ok(false),
+        };
+        self.validated_peer(from)?;
+        let _ended = self.outstanding.remove(id);
+        counting::count_response_received(&mut self.stats, msg.as_bytes().len(), round_trip);
+        Ok(true)
+    }
+}

@@ -1,0 +1,111 @@
+//! When a request is sent again, and when it is given up.
+ghost use Rattle.std.specs.Prelude.{◌≡◌, ◌≤◌, ◌*◌, ◌^◌};
+ghost use Rattle.std.specs.Duration.{as_nanos, max_nanos};
+ghost use Rattle.stun_agent.specs.Timing.{settings_of, default_settings, timeout, slots, final_wait, repetitions, sum_of_timeouts};
+
+use std::time::Duration;
+use stun_base::transport::TransportType;
+
+/// After so many doublings even one nanosecond is past the longest `Duration`.
+const DOUBLINGS: u32 = 94;
+
+/// When a request is sent again, and when it is given up (RFC 8489, sections 6.2.1 and 6.2.2).
+#[derive(Clone, Copy, Debug, PartialEq, Eq)]
+pub struct RequestRto {
+    /// The wait after the first transmission. Each further wait is twice as long.
+    pub initial: Duration,
+    /// No wait between transmissions is longer.
+    pub max: Duration,
+    /// How many times the request is sent over UDP, the first time included. 0 counts as 1.
+    pub retransmits: u32,
+    /// The wait after the last transmission.
+    pub last_retransmit: Duration,
+}
+
+/// 500 ms, no maximum, 7 transmissions, and 8 s after the last one.
+impl Default for RequestRto {
+    ghost is_default = { λ rto. settings_of rto ≡ default_settings };
+
+    fn default() -> RequestRto {
+        RequestRto {
+            initial: Duration::from_millis(500),
+            max: Duration::MAX,
+            retransmits: 7,
+            last_retransmit: Duration::from_secs(8),
+        }
+    }
+}
+
+impl RequestRto {
+    /// How many times the request is sent again: never over TCP, which loses nothing.
+    pub fn slots(&self, transport: TransportType) -> u32
+        ensures { result ≡ slots transport (settings_of self.now) }
+    {
+        match transport {
+            TransportType::Udp => self.repetitions(),
+            TransportType::Tcp => 0,
+        }
+    }
+
+    /// The wait after transmission `i`, counted from 0: `initial * 2^i`, and at most `max`.
+    pub fn timeout(&self, i: u32) -> Duration
+        ensures { as_nanos result ≡ timeout (settings_of self.now) i }
+    {
+        Duration::from_nanos_u128(self.timeout_nanos(i))
+    }
+
+    /// The wait from the last transmission to the end. Over TCP it is as long as all waits over UDP together,
+    /// and at most `Duration::MAX`.
+    pub fn final_wait(&self, transport: TransportType) -> Duration
+        ensures { as_nanos result ≡ final_wait transport (settings_of self.now) }
+    {
+        match transport {
+            TransportType::Udp => self.last_retransmit,
+            TransportType::Tcp => {
+                let all = nanos_of(self.last_retransmit) + self.sum_of_timeouts();
+                Duration::from_nanos_u128(all.min(nanos_of(Duration::MAX)))
+            }
+        }
+    }
+
+    fn repetitions(&self) -> u32
+        ensures { result ≡ repetitions (settings_of self.now) }
+    {
+        self.retransmits.max(1) - 1
+    }
+
+    fn timeout_nanos(&self, i: u32) -> u128
+        ensures value { result ≡ timeout (settings_of self.now) i }
+        ensures bound { result ≤ max_nanos }
+    {
+        let initial = nanos_of(self.initial);
+        let max = nanos_of(self.max);
+        let doublings = i.min(DOUBLINGS);
+        if initial <= max >> doublings {
+            initial << doublings
+        } else {
+            max
+        }
+    }
+
+    // From transmission `DOUBLINGS` on the timeouts are all alike, so that few turns add them up.
+    fn sum_of_timeouts(&self) -> u128
+        ensures value { result ≡ sum_of_timeouts (settings_of self.now) (repetitions (settings_of self.now)) }
+        ensures bound { result ≤ 2 ^ 32 * max_nanos }
+    {
+        let all = self.repetitions();
+        let rising = all.min(DOUBLINGS);
+        let mut sum = 0;
+        for i in 0..rising {
+            sum += self.timeout_nanos(i);
+        }
+        sum + (all - rising) as u128 * self.timeout_nanos(DOUBLINGS)
+    }
+}
+
+fn nanos_of(span: Duration) -> u128
+    ensures value { result ≡ as_nanos span }
+    ensures bound { result ≤ max_nanos }
+{
+    span.as_nanos()
+}

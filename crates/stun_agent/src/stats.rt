@@ -1,0 +1,254 @@
+//! What an agent counts: messages, bytes, ends of requests and round trips.
+ghost use Rattle.std.specs.Prelude.{◌≡◌, ◌≤◌, ◌+◌, ℕ, List};
+ghost use Rattle.std.specs.Option.{option_map};
+ghost use Rattle.std.specs.Duration.{as_nanos};
+ghost use Rattle.stun_agent.specs.Statistics.{Statistics, Tally, new_statistics, counted, average, outstanding_requests, request_sent, request_sent_again, response_sent, indication_sent, request_received, response_received, indication_received, timed_out, cancelled};
+ghost use Rattle.stun_agent.specs.Statistics.{together, total, counted_in_turn, raised, last_count, IsLeast, IsGreatest, LeavesOutstanding, IsNotFull};
+
+use std::marker::Model;
+use std::time::Duration;
+
+/// What an agent has counted since it was built, or since `reset`.
+///
+/// Bytes are those of whole messages. No counter wraps: it stays at the greatest number of 64
+/// bits, and the sum of the round trips at the greatest number of 128 bits. No call takes memory.
+#[derive(Clone, Debug, Default, Drop, PartialEq, Eq)]
+pub struct StunAgentStats {
+    requests_sent: u64,
+    requests_received: u64,
+    responses_sent: u64,
+    responses_received: u64,
+    indications_sent: u64,
+    indications_received: u64,
+    transactions_timed_out: u64,
+    transactions_cancelled: u64,
+    bytes_sent: u64,
+    bytes_received: u64,
+    // Round trips are kept in nanoseconds.
+    rtt_count: u64,
+    rtt_min: Option<u64>,
+    rtt_max: Option<u64>,
+    rtt_total: u128,
+}
+
+impl Model for StunAgentStats {
+    ghost use Rattle.stun_agent.specs.Statistics.{Statistics};
+
+    ghost Value = { Statistics };
+
+    ghost use Rattle.stun_agent.specs.StatisticsFields.{FitsFields, statistics_of, fields_of};
+
+    ghost view = { statistics_of };
+
+    ghost invariant = { λ stats. FitsFields (statistics_of stats) };
+
+    ghost inverse = { fields_of };
+}
+
+impl StunAgentStats {
+    /// Requests sent, each counted once however often it was sent again.
+    pub fn requests_sent(&self) -> u64
+        ensures { result ≡ self.now.requests_sent }
+    {
+        self.requests_sent
+    }
+
+    /// Requests received.
+    pub fn requests_received(&self) -> u64
+        ensures { result ≡ self.now.requests_received }
+    {
+        self.requests_received
+    }
+
+    /// Responses sent, of success and of error.
+    pub fn responses_sent(&self) -> u64
+        ensures { result ≡ self.now.responses_sent }
+    {
+        self.responses_sent
+    }
+
+    /// Responses received for an outstanding request, of success and of error.
+    pub fn responses_received(&self) -> u64
+        ensures { result ≡ self.now.responses_received }
+    {
+        self.responses_received
+    }
+
+    /// Indications sent.
+    pub fn indications_sent(&self) -> u64
+        ensures { result ≡ self.now.indications_sent }
+    {
+        self.indications_sent
+    }
+
+    /// Indications received.
+    pub fn indications_received(&self) -> u64
+        ensures { result ≡ self.now.indications_received }
+    {
+        self.indications_received
+    }
+
+    /// Requests that ended without a response (RFC 8489, section 6.2).
+    pub fn transactions_timed_out(&self) -> u64
+        ensures { result ≡ self.now.transactions_timed_out }
+    {
+        self.transactions_timed_out
+    }
+
+    /// Requests that ended since the caller had cancelled them or their retransmissions.
+    pub fn transactions_cancelled(&self) -> u64
+        ensures { result ≡ self.now.transactions_cancelled }
+    {
+        self.transactions_cancelled
+    }
+
+    /// Bytes of the messages sent, those of retransmissions with them.
+    pub fn bytes_sent(&self) -> u64
+        ensures { result ≡ self.now.bytes_sent }
+    {
+        self.bytes_sent
+    }
+
+    /// Bytes of the messages received, but of responses to no outstanding request.
+    pub fn bytes_received(&self) -> u64
+        ensures { result ≡ self.now.bytes_received }
+    {
+        self.bytes_received
+    }
+
+    /// Round trips measured: of responses that came with a moment, to requests not sent again.
+    pub fn rtt_count(&self) -> u64
+        ensures { result ≡ self.now.rtt_count }
+    {
+        self.rtt_count
+    }
+
+    /// The shortest round trip, where one was measured.
+    pub fn rtt_min(&self) -> Option<Duration>
+        ensures { option_map as_nanos result ≡ self.now.rtt_min }
+    {
+        self.rtt_min.map(|nanos| Duration::from_nanos(nanos))
+    }
+
+    /// The longest round trip, where one was measured.
+    pub fn rtt_max(&self) -> Option<Duration>
+        ensures { option_map as_nanos result ≡ self.now.rtt_max }
+    {
+        self.rtt_max.map(|nanos| Duration::from_nanos(nanos))
+    }
+
+    /// The sum of all round trips divided by their count, rounded down to whole nanoseconds.
+    pub fn rtt_average(&self) -> Option<Duration>
+        ensures { option_map as_nanos result ≡ average self.now }
+    {
+        if self.rtt_count == 0 {
+            return None;
+        }
+        let nanos = self.rtt_total / u128::from(self.rtt_count);
+        Some(Duration::from_nanos_u128(nanos))
+    }
+
+    /// The requests sent less those that were answered, timed out or were cancelled, and 0 where
+    /// that is below it, as it can be after `reset`.
+    pub fn outstanding_requests(&self) -> u64
+        ensures { result ≡ outstanding_requests self.now }
+    {
+        self.requests_sent
+            .saturating_sub(self.responses_received)
+            .saturating_sub(self.transactions_timed_out)
+            .saturating_sub(self.transactions_cancelled)
+    }
+
+    /// Begins to count anew.
+    pub fn reset(&mut self)
+        ensures { self.new ≡ new_statistics }
+    {
+        *self = Self::default();
+    }
+
+    pub(crate) fn count_request_sent(&mut self, bytes: u64)
+        ensures { self.new ≡ counted (request_sent bytes) self.old }
+    {
+        self.requests_sent = self.requests_sent.saturating_add(1);
+        self.bytes_sent = self.bytes_sent.saturating_add(bytes);
+    }
+
+    pub(crate) fn count_request_sent_again(&mut self, bytes: u64)
+        ensures { self.new ≡ counted (request_sent_again bytes) self.old }
+    {
+        self.bytes_sent = self.bytes_sent.saturating_add(bytes);
+    }
+
+    pub(crate) fn count_response_sent(&mut self, bytes: u64)
+        ensures { self.new ≡ counted (response_sent bytes) self.old }
+    {
+        self.responses_sent = self.responses_sent.saturating_add(1);
+        self.bytes_sent = self.bytes_sent.saturating_add(bytes);
+    }
+
+    pub(crate) fn count_indication_sent(&mut self, bytes: u64)
+        ensures { self.new ≡ counted (indication_sent bytes) self.old }
+    {
+        self.indications_sent = self.indications_sent.saturating_add(1);
+        self.bytes_sent = self.bytes_sent.saturating_add(bytes);
+    }
+
+    pub(crate) fn count_request_received(&mut self, bytes: u64)
+        ensures { self.new ≡ counted (request_received bytes) self.old }
+    {
+        self.requests_received = self.requests_received.saturating_add(1);
+        self.bytes_received = self.bytes_received.saturating_add(bytes);
+    }
+
+    /// A response to an outstanding request, and its round trip in nanoseconds where that is known.
+    pub(crate) fn count_response_received(&mut self, bytes: u64, round_trip: Option<u64>)
+        ensures { self.new ≡ counted (response_received bytes round_trip) self.old }
+    {
+        self.responses_received = self.responses_received.saturating_add(1);
+        self.bytes_received = self.bytes_received.saturating_add(bytes);
+        if let Some(nanos) = round_trip {
+            self.rtt_count = self.rtt_count.saturating_add(1);
+            self.rtt_min = Some(self.rtt_min.map_or(nanos, |least| nanos.min(least)));
+            self.rtt_max = Some(self.rtt_max.map_or(nanos, |greatest| nanos.max(greatest)));
+            self.rtt_total = self.rtt_total.saturating_add(u128::from(nanos));
+        }
+    }
+
+    pub(crate) fn count_indication_received(&mut self, bytes: u64)
+        ensures { self.new ≡ counted (indication_received bytes) self.old }
+    {
+        self.indications_received = self.indications_received.saturating_add(1);
+        self.bytes_received = self.bytes_received.saturating_add(bytes);
+    }
+
+    pub(crate) fn count_timed_out(&mut self)
+        ensures { self.new ≡ counted timed_out self.old }
+    {
+        self.transactions_timed_out = self.transactions_timed_out.saturating_add(1);
+    }
+
+    pub(crate) fn count_cancelled(&mut self)
+        ensures { self.new ≡ counted cancelled self.old }
+    {
+        self.transactions_cancelled = self.transactions_cancelled.saturating_add(1);
+    }
+}
+
+/// Counting is adding: one tally behind another counts as both together, from the start any list
+/// of tallies counts as its sums, each capped once, with its shortest and longest round trip, and
+/// a full counter stays full.
+pub fn counting_is_adding()
+    ensures both { (first second : Tally) (statistics : Statistics) → counted second (counted first statistics) ≡ counted (together first second) statistics }
+    ensures all { (tallies : List Tally) → counted_in_turn tallies new_statistics ≡ counted (total tallies) new_statistics }
+    ensures shortest { (tallies : List Tally) → IsLeast (total tallies).round_trips (counted_in_turn tallies new_statistics).rtt_min }
+    ensures longest { (tallies : List Tally) → IsGreatest (total tallies).round_trips (counted_in_turn tallies new_statistics).rtt_max }
+    ensures full { (counter more : ℕ) → last_count ≤ counter → raised counter more ≡ last_count }
+{}
+
+/// While no counter is full, the requests outstanding are those sent that have met neither a
+/// response, nor a time-out, nor a cancellation. Before anything is counted there are none.
+pub fn outstanding_requests_are_those_left()
+    ensures none { LeavesOutstanding new_statistics 0 }
+    ensures left { (statistics : Statistics) (n : ℕ) → LeavesOutstanding statistics n → outstanding_requests statistics ≡ n }
+    ensures kept { (tally : Tally) (statistics : Statistics) (before after : ℕ) → LeavesOutstanding statistics before → IsNotFull (counted tally statistics) → before + tally.requests_sent ≡ after + (tally.responses_received + tally.timed_out + tally.cancelled) → LeavesOutstanding (counted tally statistics) after }
+{}

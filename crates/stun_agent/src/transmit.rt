@@ -1,0 +1,86 @@
+//! Bytes that the caller is to send.
+ghost use Rattle.std.specs.Prelude.{◌≡◌, IsOk, IfOk};
+ghost use Rattle.stun_base.specs.Data.{IsOwned};
+
+use std::alloc::{AllocError, Allocator};
+use std::fmt;
+use std::net::SocketAddr;
+use stun_base::data::{Data, OwnedBytes};
+use stun_base::transport::TransportType;
+
+/// Bytes that the caller is to send, by this transport, between these addresses.
+#[derive(Debug, Drop)]
+pub struct Transmit<T: OwnedBytes> {
+    /// The bytes, lent or owned.
+    pub data: T,
+    /// What carries them.
+    pub transport: TransportType,
+    /// The address that sends them.
+    pub from: SocketAddr,
+    /// The address that they go to.
+    pub to: SocketAddr,
+}
+
+impl<T: OwnedBytes> Transmit<T> {
+    ghost use Rattle.stun_agent.specs.Datagrams.{parts};
+
+    /// What is to be sent, of its four parts.
+    pub fn new(data: T, transport: TransportType, from: SocketAddr, to: SocketAddr) -> Self
+        ensures { parts result ≡ («data», transport, from, to) }
+    {
+        Transmit {
+            data,
+            transport,
+            from,
+            to,
+        }
+    }
+
+    /// The same by what a closure makes of the data.
+    pub fn reinterpret_data<O: OwnedBytes, F: FnOnce(T) -> O>(self, f: F) -> Transmit<O>
+        requires { F.pre f (parts self).0 }
+        ensures made { F.post f (parts self).0 (parts result).0 }
+        ensures transport { (parts result).1 ≡ (parts self).1 }
+        ensures from { (parts result).2 ≡ (parts self).2 }
+        ensures to { (parts result).3 ≡ (parts self).3 }
+    {
+        let Transmit {
+            data,
+            transport,
+            from,
+            to,
+        } = self;
+        Transmit::new(f(data), transport, from, to)
+    }
+}
+
+impl<'a, A: Allocator> Transmit<Data<'a, A>> {
+    ghost use Rattle.stun_agent.specs.Datagrams.{parts, datagram};
+
+    /// The same with owned bytes. Owned bytes move as they are and take no memory. Borrowed bytes are copied into
+    /// memory of `alloc`; the one error is that this memory is wanting, and then all is dropped.
+    pub fn into_owned<'b>(self, alloc: A) -> Result<Transmit<Data<'b, A>>, AllocError>
+        ensures same { IfOk result (λ owned. datagram owned ≡ datagram self.entry) }
+        ensures owned { IfOk result (λ owned. IsOwned (parts owned).0) }
+        ensures moves { IsOwned (parts self.entry).0 → IsOk result }
+    {
+        let Transmit {
+            data,
+            transport,
+            from,
+            to,
+        } = self;
+        Ok(Transmit::new(data.into_owned(alloc)?, transport, from, to))
+    }
+}
+
+impl<T: OwnedBytes> fmt::Display for Transmit<T> {
+    fn fmt<W: fmt::Write>(&self, f: &mut fmt::Formatter<W>) -> fmt::Result {
+        let count = self.data.bytes().len();
+        write!(
+            f,
+            "Transmit({}: {} -> {} of {} bytes)",
+            self.transport, self.from, self.to, count
+        )
+    }
+}

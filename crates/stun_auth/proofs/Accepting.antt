@@ -1,0 +1,205 @@
+-- The verdict is acceptance exactly where the conjunction holds.
+use Rattle.std.proofs.Common.{◌≡◌, ℕ, List, Option, Some, None, Bool, true, false, refl, sym, ◌∙◌, ap, Ok, Err}
+use Rattle.std.specs.Prelude.{cond, not, ◌||◌, ◌&&◌}
+use Rattle.std.specs.Option.{is_some, IsSome, option_and_then, option_map}
+use Rattle.std.specs.FinMap as fin
+use Rattle.std.specs.Str.{bytes_eq}
+use Rattle.std.specs.declared.result.Result.{Result}
+use Rattle.std.proofs.lemmas.Slice.Eq.{bytes_eq-Decides}
+use Rattle.stun_base.specs.declared.algorithm.IntegrityAlgorithm.{IntegrityAlgorithm}
+use Rattle.stun_base.specs.Credentials.{NameAndPassword}
+use Rattle.stun_base.specs.Keys.{long_term_key}
+use Rattle.stun_auth.specs.declared.algorithm_set.AlgorithmSet.{AlgorithmSet}
+use Rattle.stun_auth.specs.declared.feature.Feature.{Feature}
+use Rattle.stun_auth.specs.declared.server_reason.Refusal.{Refusal}
+use Rattle.stun_auth.specs.declared.server_reason.Refusal.TheVariants as Refused
+use Rattle.stun_auth.specs.declared.server_reason.LongTermServerAuthErrorReason.TheVariants.{BadRequest}
+use Rattle.stun_auth.specs.declared.server_reason.LongTermServerValidation.TheVariants.{Validated}
+use Rattle.stun_auth.specs.Algorithms.{contains}
+use Rattle.stun_auth.specs.Reading.{Reading, is_response, stands_under}
+use Rattle.stun_auth.specs.Registered.{Registered, key_at, key_if, key_of, user_named}
+use Rattle.stun_auth.specs.Seen.{ClientSeen}
+use Rattle.stun_auth.specs.Server.{Sight, IsAccepted, agreed, nonce_refusal, standing, verdict}
+use Rattle.stun_auth.specs.Validation.{AcceptedWith, ValidatesAccepted, answer, answer_to, client_verified, is_complete, is_malformed, validated_or_failed, verdict_at}
+use Rattle.stun_auth.specs.VerdictSteps.{by_attributes, by_choice, by_digest, by_name, name_by, name_in}
+use Rattle.stun_auth.proofs.VerdictLemmas.{by_steps-verdict, user_of}
+
+-- ---- from the verdict
+
+past : {X : Type 0} (b : Bool) (e : Refusal) (x : Result X Refusal) (c : X) → cond b (Err e) x ≡ Ok c → (b ≡ false) × (x ≡ Ok c)
+past true e x c h = cc
+past false e x c h = (refl, h)
+
+passed : {X : Type 0} (b : Bool) (e : Refusal) (x : Result X Refusal) (c : X) → cond b x (Err e) ≡ Ok c → (b ≡ true) × (x ≡ Ok c)
+passed true e x c h = (refl, h)
+passed false e x c h = cc
+
+unturned : (b : Bool) → not b ≡ false → b ≡ true
+unturned true h = refl
+unturned false h = cc
+
+front_true : (a b : Bool) → (a && b) ≡ true → a ≡ true
+front_true true b h = refl
+front_true false b h = cc
+
+-- a key that a digest stands under is that of a present user for a supported algorithm
+pub record HasKey (users : Registered) (r : Reading) (name : List ℕ) (a : IntegrityAlgorithm) : Type 0 where
+  pub password : List ℕ
+  pub present : fin.get users.passwords name ≡ Some password
+  pub supported : contains a users.algorithms ≡ true
+  pub digest : IsSome (stands_under r (long_term_key a name users.realm password))
+
+has_key : (users : Registered) (r : Reading) (name : List ℕ) (a : IntegrityAlgorithm) (o : Option (List ℕ)) (b : Bool)
+    → fin.get users.passwords name ≡ o → contains a users.algorithms ≡ b
+    → IsSome (option_and_then (stands_under r) (option_and_then (λ (user : NameAndPassword). key_if b a user.username users.realm user.password)
+    (option_map (λ password. record { username = name; password = password }) o)))
+    → HasKey users r name a
+has_key users r name a None b found there h = cc
+has_key users r name a (Some password) false found there h = cc
+has_key users r name a (Some password) true found there h = record { password = password; present = found; supported = there; digest = h }
+
+module _ (users : Registered) (feature : Feature) (ours : List ℕ) (offered : Option AlgorithmSet) (r : Reading) (client : ClientSeen) where
+  digests : (is_some r.realm ≡ true) → (theirs : List ℕ) → r.nonce ≡ Some theirs → theirs ≡ ours → (a : IntegrityAlgorithm)
+      → agreed r theirs offered ≡ Some a → (name : List ℕ) → name_in users feature r ≡ Some name → by_digest users r name a ≡ Ok client
+      → IsAccepted users feature ours offered r client
+  digests realm theirs nonce same a choice name user h =
+      let stood = passed (is_some (option_and_then (stands_under r) (key_at users name a))) _ _ client h in
+      let names : name ≡ client.name = cc in
+      let algorithms : a ≡ client.algorithm = cc in
+      let digest : IsSome (option_and_then (stands_under r) (key_at users client.name client.algorithm)) =
+      sym (ap (λ n. is_some (option_and_then (stands_under r) (key_at users n client.algorithm))) names)
+      ∙ sym (ap (λ x. is_some (option_and_then (stands_under r) (key_at users name x))) algorithms) ∙ stood.0 in
+      let key = has_key users r client.name client.algorithm (fin.get users.passwords client.name) (contains client.algorithm users.algorithms) refl refl digest in
+      record {
+        password = key.password;
+        realm = realm;
+        nonce = nonce ∙ ap Some same;
+        algorithm = sym (ap (λ n. agreed r n offered) same) ∙ choice ∙ ap Some algorithms;
+        named = user_of users feature r.userhash r.username ∙ ap (option_and_then (user_named users)) (user ∙ ap Some names)
+            ∙ ap (option_map (λ (password : List ℕ). record { username = client.name; password = password })) key.present;
+        present = key.present;
+        supported = key.supported;
+        digest = key.digest;
+      }
+
+  by_names : (is_some r.realm ≡ true) → (theirs : List ℕ) → r.nonce ≡ Some theirs → theirs ≡ ours → (a : IntegrityAlgorithm)
+      → agreed r theirs offered ≡ Some a → (o : Option (List ℕ)) → name_in users feature r ≡ o → by_name users r o a ≡ Ok client
+      → IsAccepted users feature ours offered r client
+  by_names realm theirs nonce same a choice None user h = cc
+  by_names realm theirs nonce same a choice (Some name) user h = digests realm theirs nonce same a choice name user h
+
+  by_choices : (is_some r.realm ≡ true) → (theirs : List ℕ) → r.nonce ≡ Some theirs → (o : Option IntegrityAlgorithm)
+      → agreed r theirs offered ≡ o → by_choice users feature ours r theirs o ≡ Ok client → IsAccepted users feature ours offered r client
+  by_choices realm theirs nonce None choice h = cc
+  by_choices realm theirs nonce (Some a) choice h =
+      let same = passed (bytes_eq theirs ours) _ _ client h in
+      by_names realm theirs nonce ((bytes_eq-Decides theirs ours).0 same.0) a choice (name_in users feature r) refl same.1
+
+  by_nonces : (is_some r.realm ≡ true) → (o : Option (List ℕ)) → r.nonce ≡ o → by_attributes users feature ours offered r o ≡ Ok client
+      → IsAccepted users feature ours offered r client
+  by_nonces realm None nonce h = cc
+  by_nonces realm (Some theirs) nonce h = by_choices realm theirs nonce (agreed r theirs offered) refl h
+
+  pub accepted_from_verdict : verdict users feature ours offered r ≡ Ok client → IsAccepted users feature ours offered r client
+  accepted_from_verdict judged =
+      let h = by_steps-verdict users feature ours offered r ∙ judged in
+      let some = past (not (is_some r.integrity)) _ _ client h in
+      let whole = past (not (is_complete r)) _ _ client some.1 in
+      let realm : is_some r.realm ≡ true = front_true _ _ (front_true _ _ (unturned (is_complete r) whole.0)) in
+      by_nonces realm r.nonce refl whole.1
+
+-- ---- to the verdict
+
+-- a digest that stands is there
+protected : (o : Option (List ℕ → Option IntegrityAlgorithm)) (key : List ℕ)
+    → IsSome (option_and_then (λ (verify : List ℕ → Option IntegrityAlgorithm). verify key) o) → is_some o ≡ true
+protected None key h = cc
+protected (Some verify) key h = refl
+
+all_there : (a b c : Bool) → a ≡ true → b ≡ true → c ≡ true → (a && b && c) ≡ true
+all_there true true true p q s = refl
+all_there false b c p q s = cc
+all_there true false c p q s = cc
+all_there true true false p q s = cc
+
+name_there : (users : Registered) (feature : Feature) (name : List ℕ) (hash username : Option (List ℕ))
+    → name_by hash username users feature ≡ Some name → (is_some hash || is_some username) ≡ true
+name_there users feature name None None h = cc
+name_there users feature name None (Some u) h = refl
+name_there users feature name (Some k) username h = refl
+
+-- the name of a present user is the name that was looked up
+looked_up : (users : Registered) (user : NameAndPassword) (name : Option (List ℕ)) → option_and_then (user_named users) name ≡ Some user → name ≡ Some user.username
+looked_up users user None h = cc
+looked_up users user (Some name) h = of_password (fin.get users.passwords name) h
+  where
+    of_password : (o : Option (List ℕ)) → option_map (λ (password : List ℕ). record { username = name; password = password }) o ≡ Some user → Some name ≡ Some user.username
+    of_password None e = cc
+    of_password (Some password) e = ap (option_map (λ (u : NameAndPassword). u.username)) e
+
+pub verdict_from_accepted : (users : Registered) (feature : Feature) (ours : List ℕ) (offered : Option AlgorithmSet) (r : Reading) (client : ClientSeen)
+    → IsAccepted users feature ours offered r client → verdict users feature ours offered r ≡ Ok client
+verdict_from_accepted users feature ours offered r client h =
+    let user : NameAndPassword = record { username = client.name; password = h.password } in
+    let name : name_in users feature r ≡ Some client.name =
+    looked_up users user (name_in users feature r) (sym (user_of users feature r.userhash r.username) ∙ h.named) in
+    let key : key_at users client.name client.algorithm ≡ Some (long_term_key client.algorithm client.name users.realm h.password) =
+    ap (λ o. option_and_then (λ (u : NameAndPassword). key_of users u client.algorithm) (option_map (λ (password : List ℕ). record { username = client.name; password = password }) o)) h.present
+    ∙ ap (λ b. key_if b client.algorithm client.name users.realm h.password) h.supported in
+    let whole : is_complete r ≡ true =
+    all_there (is_some r.realm) (is_some r.nonce) (is_some r.userhash || is_some r.username) h.realm (ap is_some h.nonce) (name_there users feature client.name r.userhash r.username name) in
+    let there : is_some r.integrity ≡ true = protected r.integrity (long_term_key client.algorithm client.name users.realm h.password) h.digest in
+    sym (by_steps-verdict users feature ours offered r)
+    ∙ ap (λ b. cond (not b) (Err Refused.Unauthorized) (cond (not (is_complete r)) (Err Refused.BadRequest) (by_attributes users feature ours offered r r.nonce))) there
+    ∙ ap (λ b. cond (not b) (Err Refused.BadRequest) (by_attributes users feature ours offered r r.nonce)) whole
+    ∙ ap (by_attributes users feature ours offered r) h.nonce
+    ∙ ap (by_choice users feature ours r ours) h.algorithm
+    ∙ ap (λ b. cond b (by_name users r (name_in users feature r) client.algorithm) (Err (nonce_refusal ours ours))) ((bytes_eq-Decides ours ours).1 refl)
+    ∙ ap (λ o. by_name users r o client.algorithm) name
+    ∙ ap (λ o. cond (is_some (option_and_then (stands_under r) o)) (Ok client) (Err Refused.Unauthorized)) key
+    ∙ ap (λ b. cond b (Ok client) (Err Refused.Unauthorized)) h.digest
+
+-- ---- the answer
+
+-- it is an acceptance exactly where the verdict is
+client_from : (v : Result ClientSeen Refusal) (a : IntegrityAlgorithm) → answer_to v ≡ Ok (Validated a) → (client : ClientSeen) × (v ≡ Ok client) × (client.algorithm ≡ a)
+client_from (Ok client) a h = (client, refl, cc)
+client_from (Err refusal) a h = cc
+
+formed : (b : Bool) (v : Result ClientSeen Refusal) (a : IntegrityAlgorithm) → cond b (Err BadRequest) (answer_to v) ≡ Ok (Validated a) → answer_to v ≡ Ok (Validated a)
+formed true v a h = cc
+formed false v a h = h
+
+unresponded : (s : Sight) (now : ℕ) (words : List ℕ) (r : Reading) → is_response r.class ≡ false
+    → answer s now words r ≡ cond (is_malformed r) (Err BadRequest) (answer_to (verdict_at s (standing s now words) r))
+unresponded s now words r h =
+    ap (λ b. cond b (validated_or_failed (client_verified s.registered r s.place)) (cond (is_malformed r) (Err BadRequest) (answer_to (verdict_at s (standing s now words) r)))) h
+
+-- what is accepted is not malformed
+whole : (protected complete : Bool) (rest : Result ClientSeen Refusal) (client : ClientSeen)
+    → cond (not protected) (Err Refused.Unauthorized) (cond (not complete) (Err Refused.BadRequest) rest) ≡ Ok client → (protected && not complete) ≡ false
+whole true true rest client h = refl
+whole true false rest client h = cc
+whole false complete rest client h = cc
+
+pub answer-accepted : (s : Sight) (now : ℕ) (words : List ℕ) (r : Reading) → ValidatesAccepted s now words r (answer s now words r)
+answer-accepted s now words r plain a = (forth, back)
+  where
+    forth : answer s now words r ≡ Ok (Validated a) → AcceptedWith s now words r a
+    forth h =
+        let p = standing s now words in
+        let found = client_from (verdict_at s p r) a (formed (is_malformed r) (verdict_at s p r) a (sym (unresponded s now words r plain) ∙ h)) in (
+          found.0.name,
+          accepted_from_verdict s.registered s.feature p.nonce p.offered r (record { name = found.0.name; algorithm = a })
+              (found.1 ∙ ap (λ x. Ok (record { name = found.0.name; algorithm = x })) found.2),
+        )
+
+    back : AcceptedWith s now words r a → answer s now words r ≡ Ok (Validated a)
+    back one =
+        let p = standing s now words in
+        let client : ClientSeen = record { name = one.0; algorithm = a } in
+        let judged = verdict_from_accepted s.registered s.feature p.nonce p.offered r client one.1 in
+        let well_formed : is_malformed r ≡ false = whole (is_some r.integrity) (is_complete r) _ client (by_steps-verdict s.registered s.feature p.nonce p.offered r ∙ judged) in
+        unresponded s now words r plain
+        ∙ ap (λ b. cond b (Err BadRequest) (answer_to (verdict_at s p r))) well_formed
+        ∙ ap answer_to judged

@@ -1,0 +1,61 @@
+-- What a look-up and a change of the tree map are to the finite map of places.
+use Rattle.std.proofs.Common.{◌≡◌, Option, Some, None, refl, sym, ◌∙◌, ap, subst}
+use Rattle.std.specs.Prelude.{cond}
+use Rattle.std.specs.Option.{option_map, IsSome}
+use Rattle.std.specs.Ordering.{is_eq}
+use Rattle.std.specs.declared.cmp.Ordering.{Ordering}
+use Rattle.std.specs.FinMap as fin
+use Rattle.std.specs.BTreeMap as tree
+use Rattle.std.specs.BTreeMap.{BTreeMap, UpdatesBy}
+use Rattle.std.specs.declared.net.socket_addr.SocketAddr.{SocketAddr}
+use Rattle.std.specs.declared.net.socket_addr.SocketAddr.TheVariants.{V4, V6}
+use Rattle.std.specs.contracts.net.socket_addr.SocketAddrOrd.TheImpl.{cmp-value}
+use Rattle.stun_base.specs.Address.{address_cmp}
+use Rattle.stun_auth.specs.Seen.{PlaceSeen}
+use Rattle.stun_auth.specs.Places.{PlacesSeen, place_seen, places_seen, at_place}
+use Rattle.stun_auth.specs.declared.places.Place.{Place}
+use Rattle.stun_auth.proofs.Addresses.{address_total, address_exact}
+use Rattle.stun_auth.proofs.Maps.{get-seen, seen_inserted}
+
+-- the order that `SocketAddr` derives
+abbrev pub derived : SocketAddr → SocketAddr → Ordering
+derived = cmp-value.it
+
+by_cases : (a b : SocketAddr) → derived a b ≡ address_cmp a b
+by_cases (V4 a) (V4 b) = refl
+by_cases (V4 a) (V6 b) = refl
+by_cases (V6 a) (V4 b) = refl
+by_cases (V6 a) (V6 b) = refl
+
+pub derived_is : derived ≡ address_cmp
+derived_is = λ i a b. by_cases a b i
+
+pub get-places_seen : {A : Type 0} (m : BTreeMap SocketAddr (Place A)) (q : SocketAddr) → option_map place_seen (tree.get_by (derived q) m) ≡ fin.get (places_seen m.entries) q
+get-places_seen m q = ap (λ R. option_map place_seen (tree.get_by (R q) m)) derived_is ∙ sym (get-seen address_total address_exact (λ a. a) place_seen m.entries q)
+
+pub places_seen-updated : {A : Type 0} (m n : BTreeMap SocketAddr (Place A)) (a : SocketAddr) (v : Place A) → UpdatesBy derived (derived a) m n (Some v) → places_seen n.entries ≡ fin.insert (places_seen m.entries) a (place_seen v)
+places_seen-updated m n a v updates =
+    let changed = subst (λ (R : SocketAddr → SocketAddr → Ordering). (q : SocketAddr) → tree.get R n q ≡ cond (is_eq (R a q)) (Some v) (tree.get R m q)) derived_is updates.0 in
+    seen_inserted address_total address_exact (λ x. x) place_seen m.entries n.entries a v changed
+
+-- what the finite map has there, where the tree map has it so
+pub found_there : {A : Type 0} (m : BTreeMap SocketAddr (Place A)) (a : SocketAddr) (places : PlacesSeen) (o : Option (Place A)) → places_seen m.entries ≡ places → o ≡ tree.get_by (derived a) m → option_map place_seen o ≡ fin.get places a
+found_there m a places o is found = ap (option_map place_seen) found ∙ get-places_seen m a ∙ ap (λ s. fin.get s a) is
+
+-- a place that is a function of the one before
+pub places_seen-changed : {A : Type 0} (m n : BTreeMap SocketAddr (Place A)) (a : SocketAddr) (places : PlacesSeen) (o : Option (Place A)) (new : Place A) (change : Option PlaceSeen → PlaceSeen) → places_seen m.entries ≡ places → o ≡ tree.get_by (derived a) m → UpdatesBy derived (derived a) m n (Some new) → place_seen new ≡ change (option_map place_seen o) → places_seen n.entries ≡ fin.insert places a (change (fin.get places a))
+places_seen-changed m n a places o new change is found updates seen =
+    places_seen-updated m n a new updates ∙ ap (λ s. fin.insert s a (place_seen new)) is
+    ∙ ap (fin.insert places a) (seen ∙ ap change (found_there m a places o is found))
+
+pub is_found : {A : Type 0} (m : BTreeMap SocketAddr (Place A)) (a : SocketAddr) (p : Place A) → Some p ≡ tree.get_by (derived a) m → IsSome (tree.get_by (derived a) m)
+is_found m a p found = subst (λ o. IsSome o) found refl
+
+-- a change of the place, where there is one
+pub places_seen-at : {A : Type 0} (m n : BTreeMap SocketAddr (Place A)) (a : SocketAddr) (places : PlacesSeen) (old new : Place A) (change : PlaceSeen → PlaceSeen) → places_seen m.entries ≡ places → Some old ≡ tree.get_by (derived a) m → UpdatesBy derived (derived a) m n (Some new) → place_seen new ≡ change (place_seen old) → places_seen n.entries ≡ at_place (fin.get places a) places a change
+places_seen-at m n a places old new change is found updates seen =
+    places_seen-updated m n a new updates ∙ ap (λ s. fin.insert s a (place_seen new)) is ∙ ap (fin.insert places a) seen
+    ∙ ap (λ o. at_place o places a change) (found_there m a places (Some old) is found)
+
+pub places_seen-none : {A : Type 0} (m : BTreeMap SocketAddr (Place A)) (a : SocketAddr) (places : PlacesSeen) (change : PlaceSeen → PlaceSeen) → places_seen m.entries ≡ places → None ≡ tree.get_by (derived a) m → places ≡ at_place (fin.get places a) places a change
+places_seen-none m a places change is found = ap (λ o. at_place o places a change) (found_there m a places None is found)

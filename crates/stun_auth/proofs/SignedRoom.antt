@@ -1,0 +1,154 @@
+-- Signing succeeds where there is room for what it adds.
+use Rattle.std.proofs.Common.{◌≡◌, ℕ, ◌+◌, ◌-◌, ◌≤◌, ◌<◌, ◌^◌, Bool, false, List, [], ◌∷◌, ◌++◌, length, Ok, refl, ◌∙◌, ap, arith}
+use Rattle.std.specs.Prelude.{Option, Some, None, nat_lt, sum_by, ◌==◌, if◌then◌else◌}
+use Rattle.std.specs.List.{AllByRecursion}
+use Rattle.std.specs.Option.{IfSome}
+use Rattle.std.proofs.lemmas.List.Folds.{list_any-append}
+use Rattle.std.proofs.lemmas.List.Sums.{sum_by-append, sum_by-cons}
+use Rattle.stun_base.specs.Algorithm.{digest_length}
+use Rattle.stun_base.specs.Attributes.{NONCE, PASSWORD_ALGORITHM, PASSWORD_ALGORITHMS, REALM, USERHASH, USERNAME}
+use Rattle.stun_base.specs.declared.error.StunWriteError.{StunWriteError}
+use Rattle.stun_base.specs.declared.error.StunWriteError.TheVariants.{NotAllowed, MessageIntegrityExists, AttributeExists, TooLarge, TooSmall}
+use Rattle.stun_types.specs.Attribute.{TypedValue, attribute_length}
+use Rattle.stun_types.specs.Message.{IsMessage}
+use Rattle.stun_types.specs.Visible.{has_kind}
+use Rattle.stun_types.specs.Walk.{Member, walk}
+use Rattle.stun_types.specs.Writing.{HasOneMore, IsAddable, IsOpen, has_integrity as has_integrity_attribute, is_set_apart, length_with, max_length, signing_refusal, size_refusal, with_attribute, with_integrity}
+use Rattle.stun_auth.specs.Additions.{Addition, attribute, integrity, Page, added_all, added_one, after, growth, growth_of, is_too_long, refusal_of, unless_refused}
+use Rattle.stun_auth.specs.Joined.{Protection, page_after}
+use Rattle.stun_auth.specs.Signed.{Added, HasRoomFor, IsUnsigned, IsWithinLimits, additions_of, if_there}
+use Rattle.stun_auth.proofs.JoinedLemmas.{WritingLaws}
+use Rattle.stun_auth.proofs.SignedReading.{entry, from_algorithm, from_algorithms, from_integrity, from_realm, from_userhash, from_username, listing, text, typed_as}
+
+-- additions that succeed
+abbrev Succeeds : List Addition → List ℕ → ℕ → Type 0
+Succeeds list message room =
+    added_all list (record { bytes = message; room = room }) ≡ Ok (page_after list (record { bytes = message; room = room }))
+
+-- what an attribute of one of these types finds: room and field for so many bytes, and none of the types
+record IsReady (message : List ℕ) (room : ℕ) (kinds : List ℕ) (count : ℕ) : Type 0 where
+  pub is_open : IsOpen message
+  pub fresh : AllByRecursion (λ kind. has_kind kind (walk message) ≡ false) kinds
+  pub field : length message - 20 + count ≤ 65532
+  pub room_is : count ≤ room
+
+-- a test that does not refuse is passed
+allowed : {E : Type 0} (refuses : Bool) (reason : E) (rest : Option E) → refuses ≡ false → rest ≡ None → (if refuses then Some reason else rest) ≡ None
+allowed refuses reason rest passes none = ap (λ b. if b then Some reason else rest) passes ∙ none
+
+below : (a b : ℕ) → b ≤ a → nat_lt a b ≡ false
+below a b within = grind (arith, within)
+
+fitting : (message : List ℕ) (room n : ℕ) → length message - 20 + attribute_length n ≤ 65532 → attribute_length n ≤ room → size_refusal message room n ≡ None
+fitting message room n field enough =
+    allowed (nat_lt max_length (length_with message n)) TooLarge (if nat_lt room (attribute_length n) then Some TooSmall else None)
+    (below 65532 (length message - 20 + attribute_length n) field) (allowed (nat_lt room (attribute_length n)) TooSmall None (below room (attribute_length n) enough) refl)
+
+-- an attribute more takes its bytes
+length-one_more : (before after : List ℕ) (a : TypedValue) → IsMessage before → HasOneMore before after a → length after ≡ length before + attribute_length (length a.value)
+length-one_more before after a is_message one =
+    let count = λ (m : Member). attribute_length (length m.1.value) in
+    let walked = ap (λ ms. sum_by count ms) one.walk_is in
+    let both = sum_by-append count (walk before) ((length before, a) ∷ []) in
+    omega (arith, one.is_message.filled, is_message.filled, walked, both)
+
+-- the other types are still not there
+still_fresh : (message longer : List ℕ) (a : TypedValue) (kinds : List ℕ) → walk longer ≡ walk message ++ (length message, a) ∷ []
+    → AllByRecursion (λ kind. has_kind kind (walk message) ≡ false) kinds → AllByRecursion (λ kind. (a.kind == kind) ≡ false) kinds
+    → AllByRecursion (λ kind. has_kind kind (walk longer) ≡ false) kinds
+still_fresh message longer a [] walked fresh other = tt
+still_fresh message longer a (kind ∷ kinds) walked fresh other =
+    let both = list_any-append (λ (m : Member). m.1.kind == kind) (walk message) ((length message, a) ∷ []) in
+    (rw (walked, both, fresh.0, other.0) refl, still_fresh message longer a kinds walked fresh.1 other.1)
+
+-- one attribute, if it is there, and then the others
+step : WritingLaws → {A : Type 0} (own : ℕ) (value : A → List ℕ) (o : Option A) (others : List Addition) (kinds : List ℕ) (message : List ℕ) (room : ℕ)
+    → IsReady message room (own ∷ kinds) (growth (if_there (λ x. attribute (typed_as own (value x))) o others))
+    → own < 2 ^ 16 → is_set_apart own ≡ false → AllByRecursion (λ kind. (own == kind) ≡ false) kinds
+    → IfSome o (λ x. is_too_long (typed_as own (value x)) ≡ false)
+    → ((m : List ℕ) (r : ℕ) → IsReady m r kinds (growth others) → Succeeds others m r)
+    → Succeeds (if_there (λ x. attribute (typed_as own (value x))) o others) message room
+unfolding added_one
+step laws own value None others kinds message room ready small apart other short rest =
+    rest message room (record { is_open = ready.is_open; fresh = ready.fresh.1; field = ready.field; room_is = ready.room_is })
+step laws own value (Some x) others kinds message room ready small apart other short rest =
+    let a : TypedValue = typed_as own (value x) in
+    let n = length (value x) in
+    let sum = sum_by-cons growth_of (attribute a) others in
+    let field : length message - 20 + attribute_length n ≤ 65532 = omega (arith, ready.field, sum) in
+    let enough : attribute_length n ≤ room = omega (arith, ready.room_is, sum) in
+    let size = size_refusal message room n in
+    let none = fitting message room n field enough in
+    let fresh : Option StunWriteError = if has_kind own (walk message) then Some (AttributeExists (record { 0 = own })) else size in
+    let unsigned : Option StunWriteError = if has_integrity_attribute message then Some MessageIntegrityExists else fresh in
+    let accepted : refusal_of (attribute a) (record { bytes = message; room = room }) ≡ None =
+    allowed (is_too_long a) TooLarge (if is_set_apart own then Some NotAllowed else unsigned) short
+    (allowed (is_set_apart own) NotAllowed unsigned apart
+    (allowed (has_integrity_attribute message) MessageIntegrityExists fresh ready.is_open.no_integrity
+    (allowed (has_kind own (walk message)) (AttributeExists (record { 0 = own })) size ready.fresh.0 none))) in
+    let addable : IsAddable message a = record { kind = small; value = field } in
+    let longer = with_attribute message a in
+    let left = room - attribute_length n in
+    let one = laws.added message a ready.is_open addable in
+    let long = length-one_more message longer a ready.is_open.is_message one in
+    let header = ready.is_open.is_message.header.is_whole in
+    let next : Page = record { bytes = longer; room = left } in
+    ap (λ refused. after (unless_refused refused next) (added_all others)) accepted
+    ∙ rest longer left (record {
+      is_open = laws.opened message a ready.is_open addable apart;
+      fresh = still_fresh message longer a kinds one.walk_is ready.fresh.1 other;
+      field = omega (arith, ready.field, sum, long, header);
+      room_is = omega (arith, ready.room_is, sum);
+    })
+
+-- the digest, if there is one
+last_step : (o : Option Protection) (message : List ℕ) (room : ℕ) → IsReady message room [] (growth (if_there (λ (p : Protection). integrity p.algorithm p.key) o []))
+    → Succeeds (if_there (λ (p : Protection). integrity p.algorithm p.key) o []) message room
+unfolding added_one
+last_step None message room ready = refl
+last_step (Some p) message room ready =
+    let n = digest_length p.algorithm in
+    let sum = sum_by-cons growth_of (integrity p.algorithm p.key) [] in
+    let size = size_refusal message room n in
+    let accepted : signing_refusal message room p.algorithm ≡ None =
+    allowed (has_integrity_attribute message) MessageIntegrityExists size ready.is_open.no_integrity
+    (fitting message room n (omega (arith, ready.field, sum)) (omega (arith, ready.room_is, sum))) in
+    let next : Page = record { bytes = with_integrity message p.algorithm p.key; room = room - attribute_length n } in
+    ap (λ refused. after (unless_refused refused next) (added_all [])) accepted
+
+-- texts within their limits
+short_nonce : (o : Option (List ℕ)) → IfSome o (λ bytes. length bytes ≤ 763) → IfSome o (λ x. is_too_long (typed_as NONCE (text x)) ≡ false)
+short_nonce None fits = tt
+short_nonce (Some bytes) fits = below 763 (length bytes) fits
+
+short_realm : (o : Option (List ℕ)) → IfSome o (λ bytes. length bytes ≤ 763) → IfSome o (λ x. is_too_long (typed_as REALM (text x)) ≡ false)
+short_realm None fits = tt
+short_realm (Some bytes) fits = below 763 (length bytes) fits
+
+short_username : (o : Option (List ℕ)) → IfSome o (λ bytes. length bytes ≤ 513) → IfSome o (λ x. is_too_long (typed_as USERNAME (text x)) ≡ false)
+short_username None fits = tt
+short_username (Some bytes) fits = rw (below 513 (length bytes) fits) refl
+
+short_other : {A : Type 0} (own : ℕ) (value : A → List ℕ) (o : Option A) → (own == USERNAME) ≡ false → (own == REALM) ≡ false → (own == NONCE) ≡ false
+    → IfSome o (λ x. is_too_long (typed_as own (value x)) ≡ false)
+short_other own value None username realm nonce = tt
+short_other own value (Some x) username realm nonce = rw (username, realm, nonce) refl
+
+-- the attributes one after another, and the digest
+pub signing_succeeds : WritingLaws → (a : Added) (message : List ℕ) (room : ℕ) → IsUnsigned message → IsWithinLimits a → HasRoomFor a message room
+    → Succeeds (additions_of a) message room
+signing_succeeds laws a message room unsigned limits has_room =
+    step laws NONCE text a.nonce (from_realm a) (REALM ∷ USERNAME ∷ USERHASH ∷ PASSWORD_ALGORITHMS ∷ PASSWORD_ALGORITHM ∷ []) message room
+    (record { is_open = unsigned.is_open; fresh = unsigned.none; field = has_room.field; room_is = has_room.enough })
+    (omega arith) refl (refl, (refl, (refl, (refl, (refl, tt))))) (short_nonce a.nonce limits.nonce)
+    (λ m r ready. step laws REALM text a.realm (from_username a) (USERNAME ∷ USERHASH ∷ PASSWORD_ALGORITHMS ∷ PASSWORD_ALGORITHM ∷ []) m r ready
+    (omega arith) refl (refl, (refl, (refl, (refl, tt)))) (short_realm a.realm limits.realm)
+    (λ m r ready. step laws USERNAME text a.username (from_userhash a) (USERHASH ∷ PASSWORD_ALGORITHMS ∷ PASSWORD_ALGORITHM ∷ []) m r ready
+    (omega arith) refl (refl, (refl, (refl, tt))) (short_username a.username limits.username)
+    (λ m r ready. step laws USERHASH text a.userhash (from_algorithms a) (PASSWORD_ALGORITHMS ∷ PASSWORD_ALGORITHM ∷ []) m r ready
+    (omega arith) refl (refl, (refl, tt)) (short_other USERHASH text a.userhash refl refl refl)
+    (λ m r ready. step laws PASSWORD_ALGORITHMS listing a.algorithms (from_algorithm a) (PASSWORD_ALGORITHM ∷ []) m r ready
+    (omega arith) refl (refl, tt) (short_other PASSWORD_ALGORITHMS listing a.algorithms refl refl refl)
+    (λ m r ready. step laws PASSWORD_ALGORITHM entry a.algorithm (from_integrity a) [] m r ready
+    (omega arith) refl tt (short_other PASSWORD_ALGORITHM entry a.algorithm refl refl refl)
+    (λ m r ready. last_step a.integrity m r ready))))))

@@ -1,0 +1,82 @@
+-- A place that is put back as it was.
+use Rattle.std.proofs.Common.{◌≡◌, ℕ, List, Option, Some, None, true, false, refl, sym, ◌∙◌, ap}
+use Rattle.std.specs.Prelude.{cond}
+use Rattle.std.specs.Ordering.{is_eq}
+use Rattle.std.specs.declared.cmp.Ordering.{Ordering}
+use Rattle.std.specs.declared.cmp.Ordering.TheVariants.{Less, Equal, Greater}
+use Rattle.std.specs.FinMap as fin
+use Rattle.std.specs.FinMap.{same_map, get-insert, get_tied}
+use Rattle.std.specs.declared.net.socket_addr.SocketAddr.{SocketAddr}
+use Rattle.stun_base.specs.Address.{address_cmp}
+use Rattle.stun_auth.specs.Seen.{PlaceSeen, renewed}
+use Rattle.stun_auth.specs.Places.{at_place}
+use Rattle.stun_auth.specs.Reading.{Reading}
+use Rattle.stun_auth.specs.Reasons.{OrMemory}
+use Rattle.stun_base.specs.Moments.{moment_after}
+use Rattle.stun_auth.specs.Server.{standing, standing_of, stands_at}
+use Rattle.stun_auth.specs.Validation.{ServerSeen, sight, with_accepted, put_place, needs_nonce, after_message, verdict_at}
+use Rattle.stun_auth.specs.declared.server_reason.LongTermServerAuthErrorReason.{LongTermServerAuthErrorReason}
+use Rattle.stun_auth.specs.declared.server_reason.LongTermServerAuthErrorReason.TheVariants.{Unauthorized, IntegrityFailed, UnsupportedFeature, BadRequest, StaleNonce, OutOfMemory}
+use Rattle.stun_auth.specs.Nonces.{nonce_of}
+use Rattle.std.specs.declared.result.Result.{Result}
+use Rattle.std.specs.declared.result.Result.TheVariants.{Ok, Err}
+use Rattle.stun_auth.proofs.Addresses.{address_total, address_exact}
+
+equal_or : (o : Ordering) (x : Option PlaceSeen) (y : Option PlaceSeen) → (o ≡ Equal → x ≡ y) → cond (is_eq o) x y ≡ y
+equal_or Less x y h = refl
+equal_or Equal x y h = h refl
+equal_or Greater x y h = refl
+
+pub insert-same : (places : fin.FinMap address_cmp PlaceSeen) (a : SocketAddr) (p : PlaceSeen) → fin.get places a ≡ Some p → fin.insert places a p ≡ places
+insert-same places a p is = same_map address_total address_exact (fin.insert places a p) places (λ q.
+    get-insert address_total places a p q ∙ equal_or (address_cmp q a) (Some p) (fin.get places q) (λ tied. sym is ∙ get_tied address_total places q a tied))
+
+pub at_place-same : (places : fin.FinMap address_cmp PlaceSeen) (a : SocketAddr) (change : PlaceSeen → PlaceSeen) → ((p : PlaceSeen) → change p ≡ p) → at_place (fin.get places a) places a change ≡ places
+at_place-same places a change same =
+    elim (fin.get places a) as (λ o. fin.get places a ≡ o → at_place o places a change ≡ places) [
+      | None ↦ λ e. refl
+      | Some p ↦ λ e. ap (fin.insert places a) (same p) ∙ insert-same places a p e
+    ] refl
+
+-- what holds in ample memory holds or memory ran out
+pub or_memory : {V P Q : Type 0} (r : Result V LongTermServerAuthErrorReason) → P → Q → OrMemory r P Q
+or_memory (Ok v) p q = p
+or_memory (Err Unauthorized) p q = p
+or_memory (Err IntegrityFailed) p q = p
+or_memory (Err UnsupportedFeature) p q = p
+or_memory (Err BadRequest) p q = p
+or_memory (Err StaleNonce) p q = p
+or_memory (Err OutOfMemory) p q = q
+
+pub or_memory_map : {V P P' : Type 0} (Q : Type 0) (r : Result V LongTermServerAuthErrorReason) → (P → P') → OrMemory r P Q → OrMemory r P' Q
+or_memory_map Q (Ok v) f h = f h
+or_memory_map Q (Err Unauthorized) f h = f h
+or_memory_map Q (Err IntegrityFailed) f h = f h
+or_memory_map Q (Err UnsupportedFeature) f h = f h
+or_memory_map Q (Err BadRequest) f h = f h
+or_memory_map Q (Err StaleNonce) f h = f h
+or_memory_map Q (Err OutOfMemory) f h = h
+
+pub put_place-same : (places : fin.FinMap address_cmp PlaceSeen) (a : SocketAddr) → put_place places a (fin.get places a) ≡ places
+put_place-same places a =
+    elim (fin.get places a) as (λ o. fin.get places a ≡ o → put_place places a o ≡ places) [ None ↦ λ e. refl | Some p ↦ λ e. insert-same places a p e ] refl
+
+-- a message that needs no nonce leaves the server as it was
+pub after_needless : (s : ServerSeen) (from : SocketAddr) (now : ℕ) (words : List ℕ) (r : Reading) → needs_nonce r ≡ false → s ≡ after_message s from now words r
+after_needless s from now words r h =
+    let left : PlaceSeen = with_accepted (standing (sight s from) now words) (verdict_at (sight s from) (standing (sight s from) now words) r) in
+    ap (λ m. record s { places = m }) (sym (put_place-same s.places from))
+    ∙ ap (λ b. record s { places = put_place s.places from (cond b (Some left) (fin.get s.places from)) }) (sym h)
+
+not_standing : (o : Option PlaceSeen) (nonce : List ℕ) (now end : ℕ) → stands_at now o ≡ false → standing_of o nonce now end ≡ renewed o nonce end None
+not_standing None nonce now end h = refl
+not_standing (Some p) nonce now end h = ap (λ b. cond b p (renewed (Some p) nonce end None)) h
+
+-- a message that needs a nonce where none stands leaves the renewed place
+pub after_renewal : (s : ServerSeen) (from : SocketAddr) (now : ℕ) (words : List ℕ) (r : Reading) (nonce : List ℕ) → needs_nonce r ≡ true → stands_at now (fin.get s.places from) ≡ false → nonce ≡ nonce_of s.registered.algorithms s.feature words → record s { places = fin.insert s.places from (with_accepted (renewed (fin.get s.places from) nonce (moment_after now s.expiry) None) (verdict_at (sight s from) (renewed (fin.get s.places from) nonce (moment_after now s.expiry) None) r)) } ≡ after_message s from now words r
+after_renewal s from now words r nonce needs expired made =
+    let at : PlaceSeen → PlaceSeen = λ place. with_accepted place (verdict_at (sight s from) place r) in
+    let o = fin.get s.places from in
+    ap (λ n. record s { places = fin.insert s.places from (at (renewed o n (moment_after now s.expiry) None)) }) made
+    ∙ ap (λ place. record s { places = fin.insert s.places from (at place) }) (sym (not_standing o (nonce_of s.registered.algorithms s.feature words) now (moment_after now s.expiry) expired))
+    ∙ ap (λ b. record s { places = put_place s.places from (cond b (Some (at (standing (sight s from) now words))) o) }) (sym needs)

@@ -1,0 +1,98 @@
+-- What signing adds to a message, one after another (RFC 8489, section 9): attributes, and last the integrity attribute.
+use Rattle.std.specs.Prelude.{◌≡◌, ℕ, ◌+◌, ◌-◌, ◌<◌, ◌≤◌, ◌==◌, nat_lt, Bool, ◌&&◌, ◌||◌, if◌then◌else◌, List, [], ◌∷◌, length, sum_by, Option, Some, None, Result, Ok, Err, OnOk}
+use Rattle.stun_base.specs.Algorithm.{digest_length}
+use Rattle.stun_base.specs.Attributes.{USERNAME, REALM, NONCE}
+use Rattle.stun_base.specs.declared.algorithm.IntegrityAlgorithm.{IntegrityAlgorithm}
+use Rattle.stun_base.specs.declared.error.StunWriteError.{StunWriteError}
+use Rattle.stun_base.specs.declared.error.StunWriteError.TheVariants.{NotAllowed, MessageIntegrityExists, AttributeExists, TooLarge, TooSmall, IntegrityFailed, OutOfMemory}
+use Rattle.stun_types.specs.Attribute.{TypedValue, attribute_length}
+use Rattle.stun_types.specs.Writing.{attribute_refusal, signing_refusal, with_attribute, with_integrity}
+
+-- an attribute, or the integrity attribute of an algorithm under a key
+pub data Addition : Type 0 where
+  attribute : TypedValue → Addition
+  integrity : IntegrityAlgorithm → List ℕ → Addition
+
+-- a message in a writer: its bytes, and the room behind them
+pub record Page : Type 0 where
+  pub bytes : List ℕ
+  pub room : ℕ
+
+-- how many bytes an addition takes
+abbrev pub growth_of : Addition → ℕ
+growth_of (attribute a) = attribute_length (length a.value)
+growth_of (integrity algorithm key) = attribute_length (digest_length algorithm)
+
+-- how many bytes additions take
+abbrev pub growth : List Addition → ℕ
+growth list = sum_by growth_of list
+
+-- whether a text has more bytes than its attribute takes (sections 14.3, 14.9 and 14.10)
+abbrev pub is_too_long : TypedValue → Bool
+is_too_long a =
+    (a.kind == USERNAME && nat_lt 513 (length a.value))
+    || ((a.kind == REALM || (a.kind == NONCE)) && nat_lt 763 (length a.value))
+
+-- why an addition is refused: an attribute is made before it is added
+abbrev pub refusal_of : Addition → Page → Option StunWriteError
+refusal_of (attribute a) page = if is_too_long a then Some TooLarge else attribute_refusal page.bytes page.room a.kind (length a.value)
+refusal_of (integrity algorithm key) page = signing_refusal page.bytes page.room algorithm
+
+-- a message with an addition
+abbrev pub with_addition : Addition → List ℕ → List ℕ
+with_addition (attribute a) message = with_attribute message a
+with_addition (integrity algorithm key) message = with_integrity message algorithm key
+
+abbrev pub unless_refused : Option StunWriteError → Page → Result Page StunWriteError
+unless_refused None page = Ok page
+unless_refused (Some reason) page = Err reason
+
+-- what one addition leaves, or why it is refused
+unfoldable pub added_one : Addition → Page → Result Page StunWriteError
+added_one addition page =
+    unless_refused (refusal_of addition page) (record { bytes = with_addition addition page.bytes; room = page.room - growth_of addition })
+
+-- the next step, unless the one before it is refused
+abbrev pub after : Result Page StunWriteError → (Page → Result Page StunWriteError) → Result Page StunWriteError
+after (Err reason) next = Err reason
+after (Ok page) next = next page
+
+-- what additions leave, or the first refusal in their order
+abbrev pub added_all : List Addition → Page → Result Page StunWriteError
+added_all [] page = Ok page
+added_all (addition ∷ others) page = after (added_one addition page) (added_all others)
+
+-- ---- what a call that adds answers
+
+-- the first fact holds, or the second where memory is wanting
+abbrev pub UnlessMemory : {V : Type 0} → Result V StunWriteError → Type 0 → Type 0 → Type 0
+UnlessMemory (Ok value) P Q = P
+UnlessMemory (Err NotAllowed) P Q = P
+UnlessMemory (Err MessageIntegrityExists) P Q = P
+UnlessMemory (Err (AttributeExists kind)) P Q = P
+UnlessMemory (Err TooLarge) P Q = P
+UnlessMemory (Err TooSmall) P Q = P
+UnlessMemory (Err IntegrityFailed) P Q = P
+UnlessMemory (Err OutOfMemory) P Q = Q
+
+-- an answer, with the page that success leaves
+abbrev pub outcome_of : {V : Type 0} → Result V StunWriteError → Page → Result Page StunWriteError
+outcome_of (Ok value) page = Ok page
+outcome_of (Err reason) page = Err reason
+
+-- the answer of a call that takes and gives a writer, with the page that success leaves
+abbrev pub page_in : {W : Type 0} → (W → List ℕ) → (W → ℕ) → W → Page
+page_in bytes room writer = record { bytes = bytes writer; room = room writer }
+
+abbrev pub written : {W : Type 0} → (W → List ℕ) → (W → ℕ) → Result W StunWriteError → Result Page StunWriteError
+written bytes room (Ok writer) = Ok (page_in bytes room writer)
+written bytes room (Err reason) = Err reason
+
+-- a call answers what the additions come to on the page before it, and want of memory only where less than they take was reserved
+abbrev pub IsOutcome : List Addition → Page → ℕ → Result (Unit {0}) StunWriteError → Page → Type 0
+IsOutcome list page reserved result page_after = UnlessMemory result (outcome_of result page_after ≡ added_all list page) (reserved < growth list)
+
+-- it does, and leaves reserved what it does not take
+pub record IsAdded (list : List Addition) (page : Page) (reserved : ℕ) (result : Result (Unit {0}) StunWriteError) (page_after : Page) (reserved_after : ℕ) : Type 0 where
+  pub outcome : IsOutcome list page reserved result page_after
+  pub kept : OnOk result (reserved ≤ reserved_after + growth list)

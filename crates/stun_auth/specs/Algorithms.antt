@@ -1,0 +1,88 @@
+-- Integrity algorithms, sets and lists of them (RFC 8489, sections 9.2.1 and 14.11).
+use Rattle.std.specs.Prelude.{◌≡◌, ℕ, zero, suc, Bool, true, false, ◌&&◌, List, [], ◌∷◌, Option, Some, None, refl}
+use Rattle.std.specs.List.{list_any}
+use Rattle.std.specs.Coded.{Coded, code_by, coded_ℕ, coded_bool}
+use Rattle.stun_base.specs.declared.algorithm.IntegrityAlgorithm.{IntegrityAlgorithm}
+use Rattle.stun_base.specs.declared.algorithm.IntegrityAlgorithm.TheVariants.{Sha1, Sha256}
+use Rattle.stun_auth.specs.declared.algorithm_set.AlgorithmSet.{AlgorithmSet}
+use Rattle.stun_auth.specs.declared.algorithm_set.AlgorithmSet.TheVariants.{OnlySha1, OnlySha256, Both}
+
+abbrev pub same_algorithm : IntegrityAlgorithm → IntegrityAlgorithm → Bool
+same_algorithm Sha1 Sha1 = true
+same_algorithm Sha256 Sha256 = true
+same_algorithm Sha1 Sha256 = false
+same_algorithm Sha256 Sha1 = false
+
+-- whether the algorithm is in the list
+abbrev pub has : IntegrityAlgorithm → List IntegrityAlgorithm → Bool
+has a list = list_any (λ b. same_algorithm b a) list
+
+-- whether the lists have the same algorithms in the same order
+abbrev pub same_list : List IntegrityAlgorithm → List IntegrityAlgorithm → Bool
+same_list [] [] = true
+same_list (x ∷ xs) (y ∷ ys) = same_algorithm x y && same_list xs ys
+same_list [] (y ∷ ys) = false
+same_list (x ∷ xs) [] = false
+
+-- the algorithms of a set, the strongest first
+abbrev pub listed : AlgorithmSet → List IntegrityAlgorithm
+listed OnlySha1 = Sha1 ∷ []
+listed OnlySha256 = Sha256 ∷ []
+listed Both = Sha256 ∷ Sha1 ∷ []
+
+-- the algorithms that were offered: none before the first offer
+abbrev pub offered_list : Option AlgorithmSet → List IntegrityAlgorithm
+offered_list None = []
+offered_list (Some set) = listed set
+
+-- whether the algorithm is in the set
+abbrev pub contains : IntegrityAlgorithm → AlgorithmSet → Bool
+contains a set = has a (listed set)
+
+-- the set of one algorithm
+abbrev pub only : IntegrityAlgorithm → AlgorithmSet
+only Sha1 = OnlySha1
+only Sha256 = OnlySha256
+
+-- the set with one more algorithm, or itself where it is there already
+abbrev pub with_algorithm : IntegrityAlgorithm → AlgorithmSet → AlgorithmSet
+with_algorithm Sha1 OnlySha1 = OnlySha1
+with_algorithm Sha1 OnlySha256 = Both
+with_algorithm Sha256 OnlySha1 = Both
+with_algorithm Sha256 OnlySha256 = OnlySha256
+with_algorithm Sha1 Both = Both
+with_algorithm Sha256 Both = Both
+
+-- ---- an algorithm and a set as data
+abbrev pub is_sha256 : IntegrityAlgorithm → Bool
+is_sha256 Sha1 = false
+is_sha256 Sha256 = true
+
+abbrev pub algorithm_by : Bool → IntegrityAlgorithm
+algorithm_by false = Sha1
+algorithm_by true = Sha256
+
+pub algorithm_again : (a : IntegrityAlgorithm) → algorithm_by (is_sha256 a) ≡ a
+algorithm_again Sha1 = refl
+algorithm_again Sha256 = refl
+
+abbrev pub coded_algorithm : Coded IntegrityAlgorithm
+coded_algorithm = code_by Bool coded_bool is_sha256 algorithm_by algorithm_again
+
+abbrev pub set_number : AlgorithmSet → ℕ
+set_number OnlySha1 = 0
+set_number OnlySha256 = 1
+set_number Both = 2
+
+abbrev pub set_of : ℕ → AlgorithmSet
+set_of zero = OnlySha1
+set_of (suc zero) = OnlySha256
+set_of (suc (suc n)) = Both
+
+pub set_again : (s : AlgorithmSet) → set_of (set_number s) ≡ s
+set_again OnlySha1 = refl
+set_again OnlySha256 = refl
+set_again Both = refl
+
+abbrev pub coded_set : Coded AlgorithmSet
+coded_set = code_by ℕ coded_ℕ set_number set_of set_again

@@ -1,0 +1,40 @@
+-- What a client keeps, as its settings and its state.
+use Rattle.std.specs.Prelude.{map, Result, Ok, Err, string_bytes}
+use Rattle.std.specs.Option.{option_map}
+use Rattle.stun_types.specs.PasswordAlgorithms.{integrity_of}
+use Rattle.stun_auth.specs.Client.{Naming, plain, hashed, Challenge, ClientState, initial, authenticating, authenticated}
+use Rattle.stun_auth.specs.ClientStep.{kept}
+use Rattle.stun_auth.specs.declared.challenge.Refusal.{Refusal}
+use Rattle.stun_auth.specs.declared.challenge.UserNaming.{UserNaming}
+use Rattle.stun_auth.specs.declared.challenge.UserNaming.TheVariants.{Plain, Hashed}
+use Rattle.stun_auth.specs.declared.challenge.KeptChallenge.{KeptChallenge}
+use Rattle.stun_auth.specs.declared.challenge.Offer.{Offer}
+use Rattle.stun_auth.specs.declared.client.State.{State}
+use Rattle.stun_auth.specs.declared.feature.Feature.{Feature}
+
+abbrev pub naming_seen : {A : Type 0} → UserNaming A → Naming
+naming_seen (Plain name) = plain (string_bytes name)
+naming_seen (Hashed hash) = hashed hash
+
+abbrev pub challenge_seen : {A : Type 0} → KeptChallenge A → Challenge
+challenge_seen c = record {
+  naming = naming_seen c.naming;
+  realm = string_bytes c.realm;
+  nonce = string_bytes c.nonce;
+  algorithms = map integrity_of c.algorithms.items;
+  algorithm = c.algorithm;
+  key = c.key;
+}
+
+abbrev pub state_seen : {A : Type 0} → State A → ClientState
+state_seen State.Initial = initial
+state_seen (State.Authenticating c) = authenticating (challenge_seen c)
+state_seen (State.Authenticated c) = authenticated (challenge_seen c)
+
+-- the challenge that an offer comes to
+abbrev pub offer_kept : Feature → Offer → Challenge
+offer_kept feature o = kept feature (record { username = o.username.now; password = o.password.now }) o.realm.now o.nonce.now (option_map (map integrity_of) o.list) o.algorithm
+
+abbrev pub offer_seen : Feature → Result Offer Refusal → Result Challenge Refusal
+offer_seen feature (Ok o) = Ok (offer_kept feature o)
+offer_seen feature (Err refusal) = Err refusal

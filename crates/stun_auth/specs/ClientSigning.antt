@@ -1,0 +1,53 @@
+-- What a client's signing adds to a message (RFC 8489, section 9.2.5).
+use Rattle.std.specs.Prelude.{List, [], ◌∷◌, ◌++◌, Bool, true, false, if◌then◌else◌, Option, Some, None}
+use Rattle.stun_base.specs.declared.algorithm.IntegrityAlgorithm.{IntegrityAlgorithm}
+use Rattle.stun_base.specs.declared.message_type.MessageClass.{MessageClass}
+use Rattle.stun_base.specs.declared.message_type.MessageClass.TheVariants.{Request, Indication, Success, Error}
+use Rattle.stun_types.specs.Attribute.{TypedValue}
+use Rattle.stun_auth.specs.Additions.{Addition, attribute, integrity}
+use Rattle.stun_auth.specs.AddedAttribute as added
+use Rattle.stun_auth.specs.Algorithms.{is_sha256}
+use Rattle.stun_auth.specs.Client.{Naming, plain, hashed, Challenge, ClientState, initial, authenticating, authenticated}
+
+abbrev pub is_request : MessageClass → Bool
+is_request Request = true
+is_request Indication = false
+is_request Success = false
+is_request Error = false
+
+-- the name of the user
+abbrev pub name_attribute : Naming → TypedValue
+name_attribute (plain name) = added.username name
+name_attribute (hashed hash) = added.userhash hash
+
+-- who asks: nonce, realm and name
+abbrev pub identity : Challenge → List Addition
+identity c = attribute (added.nonce c.nonce) ∷ attribute (added.realm c.realm) ∷ attribute (name_attribute c.naming) ∷ []
+
+-- the server's list as it was sent, if there is one, and the algorithm chosen from it; SHA-256 is named in any case
+abbrev pub algorithm_choice : List IntegrityAlgorithm → IntegrityAlgorithm → List Addition
+algorithm_choice [] algorithm = if is_sha256 algorithm then attribute (added.password_algorithm algorithm) ∷ [] else []
+algorithm_choice (a ∷ list) algorithm = attribute (added.password_algorithms (a ∷ list)) ∷ attribute (added.password_algorithm algorithm) ∷ []
+
+-- the digest under the kept key
+abbrev pub protection : Challenge → List Addition
+protection c = integrity c.algorithm c.key ∷ []
+
+-- a request says who asks; messages of every class name the algorithms, and have the digest
+abbrev pub challenge_additions : Bool → Challenge → List Addition
+challenge_additions request c = (if request then identity c else []) ++ algorithm_choice c.algorithms c.algorithm ++ protection c
+
+-- what a client keeps, if it has taken up a challenge
+abbrev pub kept_challenge : ClientState → Option Challenge
+kept_challenge initial = None
+kept_challenge (authenticating c) = Some c
+kept_challenge (authenticated c) = Some c
+
+-- without a key nothing is added
+abbrev pub kept_additions : Bool → Option Challenge → List Addition
+kept_additions request None = []
+kept_additions request (Some c) = challenge_additions request c
+
+-- what signing adds to a request, and to a message of another class
+abbrev pub client_additions : Bool → ClientState → List Addition
+client_additions request state = kept_additions request (kept_challenge state)

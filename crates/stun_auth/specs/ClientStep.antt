@@ -1,0 +1,198 @@
+-- What a client answers to a message and keeps after it (RFC 8489, sections 9.2.5 and 9.2.6), as a function of its settings,
+-- its state and what is read of the message.
+use Rattle.std.specs.Prelude.{ℕ, ◌==◌, List, [], find, Bool, true, false, not, ◌&&◌, if◌then◌else◌, Option, Some, None, Result, Ok, Err, is_some, ⊤}
+use Rattle.std.specs.Str.{bytes_eq}
+use Rattle.stun_base.specs.Credentials.{NameAndPassword}
+use Rattle.stun_base.specs.Keys.{long_term_key, userhash}
+use Rattle.stun_base.specs.declared.algorithm.IntegrityAlgorithm.{IntegrityAlgorithm}
+use Rattle.stun_base.specs.declared.algorithm.IntegrityAlgorithm.TheVariants.{Sha1}
+use Rattle.stun_auth.specs.Algorithms.{has}
+use Rattle.stun_auth.specs.Client.{ClientSettings, Naming, plain, hashed, Challenge, ClientState, initial, authenticating, authenticated}
+use Rattle.stun_auth.specs.Feature.{is_possible}
+use Rattle.stun_auth.specs.Nonces.{security_bits, asks_for_algorithms, asks_for_userhash}
+use Rattle.stun_auth.specs.Reading.{Reading, stands_under, is_success}
+use Rattle.stun_auth.specs.declared.feature.Feature.{Feature}
+use Rattle.stun_auth.specs.declared.feature.Feature.TheVariants.{Auto, Required, Disabled}
+use Rattle.stun_auth.specs.declared.challenge.Refusal.{Refusal}
+use Rattle.stun_auth.specs.declared.challenge.Refusal.TheVariants as Refused
+use Rattle.stun_auth.specs.declared.client_answer.LongTermClientAuthErrorReason.{LongTermClientAuthErrorReason}
+use Rattle.stun_auth.specs.declared.client_answer.LongTermClientAuthErrorReason.TheVariants.{Unauthorized, IntegrityFailed, UnsupportedFeature, OutOfMemory}
+use Rattle.stun_auth.specs.declared.client_answer.LongTermClientValidation.{LongTermClientValidation}
+use Rattle.stun_auth.specs.declared.client_answer.LongTermClientValidation.TheVariants.{ResendRequest, Validated}
+
+-- the refusals by their names
+abbrev pub ClientRefusal : Type 0
+ClientRefusal = Refusal
+
+abbrev pub unsupported_feature : ClientRefusal
+unsupported_feature = Refused.UnsupportedFeature
+
+abbrev pub ClientAnswer : Type 0
+ClientAnswer = Result LongTermClientValidation LongTermClientAuthErrorReason
+
+-- what a message is answered, and the state that is left
+pub record ClientStep : Type 0 where
+  pub answer : ClientAnswer
+  pub state : ClientState
+
+-- ---- the algorithm of a challenge
+
+-- the first algorithm of the server's list that the client supports
+abbrev pub first_supported : List IntegrityAlgorithm → List IntegrityAlgorithm → Option IntegrityAlgorithm
+first_supported supported list = find (λ a. has a supported) list
+
+-- a choice, and where there is none a feature is not supported
+abbrev pub or_unsupported : Option IntegrityAlgorithm → Result IntegrityAlgorithm Refusal
+or_unsupported None = Err Refused.UnsupportedFeature
+or_unsupported (Some algorithm) = Ok algorithm
+
+-- by the server's list; where there is none, the nonce must not ask for a choice, and SHA-1 is meant
+abbrev pub choose_by_list : List IntegrityAlgorithm → Bool → Option (List IntegrityAlgorithm) → Result IntegrityAlgorithm Refusal
+choose_by_list supported asks (Some list) = or_unsupported (first_supported supported list)
+choose_by_list supported asks None = if asks then Err Refused.Unauthorized else Ok Sha1
+
+abbrev pub is_required : Feature → Bool
+is_required Auto = false
+is_required Required = true
+is_required Disabled = false
+
+-- a choice, unless a required feature is missing
+abbrev pub unless : Bool → Result IntegrityAlgorithm Refusal → Result IntegrityAlgorithm Refusal
+unless missing (Err refusal) = Err refusal
+unless missing (Ok algorithm) = if missing then Err Refused.UnsupportedFeature else Ok algorithm
+
+-- without security bits names are not hashed and SHA-1 is meant
+abbrev pub choose_without_bits : List IntegrityAlgorithm → Feature → Result IntegrityAlgorithm Refusal
+choose_without_bits supported feature =
+    if is_required feature then Err Refused.UnsupportedFeature
+    else if has Sha1 supported then Ok Sha1 else Err Refused.UnsupportedFeature
+
+-- the algorithm by the nonce's security bits, if it has them, and by the server's list, if there is one
+abbrev pub choose : List IntegrityAlgorithm → Feature → List ℕ → Option (List IntegrityAlgorithm) → Result IntegrityAlgorithm Refusal
+choose supported feature nonce list =
+    if is_some (security_bits nonce) then
+    unless (is_required feature && not (asks_for_userhash nonce)) (choose_by_list supported (asks_for_algorithms nonce) list)
+    else choose_without_bits supported feature
+
+-- ---- what is kept of a challenge
+
+abbrev pub naming_of : Bool → List ℕ → List ℕ → Naming
+naming_of true username realm = hashed (userhash username realm)
+naming_of false username realm = plain username
+
+abbrev pub list_or_none : Option (List IntegrityAlgorithm) → List IntegrityAlgorithm
+list_or_none None = []
+list_or_none (Some list) = list
+
+-- a name is hashed where the nonce allows it and the client does it
+abbrev pub kept : Feature → NameAndPassword → List ℕ → List ℕ → Option (List IntegrityAlgorithm) → IntegrityAlgorithm → Challenge
+kept feature user realm nonce list algorithm = record {
+  naming = naming_of (asks_for_userhash nonce && is_possible feature) user.username realm;
+  realm = realm;
+  nonce = nonce;
+  algorithms = list_or_none list;
+  algorithm = algorithm;
+  key = long_term_key algorithm user.username realm user.password;
+}
+
+abbrev pub kept_if : Feature → NameAndPassword → List ℕ → List ℕ → Option (List IntegrityAlgorithm) → Result IntegrityAlgorithm Refusal → Result Challenge Refusal
+kept_if feature user realm nonce list (Err refusal) = Err refusal
+kept_if feature user realm nonce list (Ok algorithm) = Ok (kept feature user realm nonce list algorithm)
+
+-- the challenge that a client is answering already
+abbrev pub is_repeated : ClientState → List ℕ → List ℕ → Bool
+is_repeated initial realm nonce = false
+is_repeated (authenticating c) realm nonce = bytes_eq realm c.realm && bytes_eq nonce c.nonce
+is_repeated (authenticated c) realm nonce = false
+
+-- what is kept of a challenge with this realm, nonce and list, or why it is refused
+abbrev pub taken_up : ClientSettings → ClientState → Option NameAndPassword → Option (List ℕ) → Option (List ℕ) → Option (List IntegrityAlgorithm) → Result Challenge Refusal
+taken_up s state None _ _ list = Err Refused.Unauthorized
+taken_up s state (Some user) None _ list = Err Refused.Unauthorized
+taken_up s state (Some user) (Some realm) None list = Err Refused.Unauthorized
+taken_up s state (Some user) (Some realm) (Some nonce) list =
+    if is_repeated state realm nonce then Err Refused.Unauthorized
+    else kept_if s.feature user realm nonce list (choose s.supported s.feature nonce list)
+
+-- ---- what a message is answered, and the state that is left
+
+abbrev pub reason_of : Refusal → LongTermClientAuthErrorReason
+reason_of Refused.Unauthorized = Unauthorized
+reason_of Refused.UnsupportedFeature = UnsupportedFeature
+
+-- the algorithm whose digest stands under the kept key
+abbrev pub standing_digest : ClientState → Reading → Option IntegrityAlgorithm
+standing_digest initial r = None
+standing_digest (authenticating c) r = stands_under r c.key
+standing_digest (authenticated c) r = stands_under r c.key
+
+abbrev pub after_challenge : ClientState → Option IntegrityAlgorithm → Result Challenge Refusal → ClientStep
+after_challenge state digest (Err refusal) = record { answer = Err (reason_of refusal); state = state }
+after_challenge state digest (Ok c) = record { answer = Ok (ResendRequest digest); state = authenticating c }
+
+abbrev pub is_authenticated : ClientState → Bool
+is_authenticated initial = false
+is_authenticated (authenticating c) = false
+is_authenticated (authenticated c) = true
+
+-- the server is known to have the key
+abbrev pub confirmed : ClientState → ClientState
+confirmed initial = initial
+confirmed (authenticating c) = authenticated c
+confirmed (authenticated c) = authenticated c
+
+-- a message is as good as its digest, and a success confirms the challenge that is being answered
+abbrev pub after_digest : ClientState → Bool → Option IntegrityAlgorithm → ClientStep
+after_digest state success None = record { answer = Err IntegrityFailed; state = state }
+after_digest state success (Some algorithm) = record { answer = Ok (Validated algorithm); state = if success then confirmed state else state }
+
+-- the kept challenge with another realm and nonce, and the same key
+abbrev pub renewed : ClientState → List ℕ → List ℕ → ClientState
+renewed initial realm nonce = initial
+renewed (authenticating c) realm nonce = authenticating (record c { realm = realm; nonce = nonce })
+renewed (authenticated c) realm nonce = authenticated (record c { realm = realm; nonce = nonce })
+
+-- a stale nonce, which brings the next one
+abbrev pub after_stale : ClientState → Option IntegrityAlgorithm → Option (List ℕ) → Option (List ℕ) → ClientStep
+after_stale state digest (Some realm) (Some nonce) = record { answer = Ok (ResendRequest digest); state = renewed state realm nonce }
+after_stale state digest None _ = after_digest state false digest
+after_stale state digest (Some realm) None = after_digest state false digest
+
+-- the codes of a challenge and of a stale nonce (section 14.8)
+abbrev pub UNAUTHORIZED : ℕ
+UNAUTHORIZED = 401
+
+abbrev pub STALE_NONCE : ℕ
+STALE_NONCE = 438
+
+-- whether an error has a code
+abbrev pub is_code : ℕ → Option ℕ → Bool
+is_code code None = false
+is_code code (Some other) = other == code
+
+-- what a client answers to a message, and its state after it
+abbrev pub client_step : ClientSettings → ClientState → Reading → ClientStep
+client_step s state r =
+    if is_code UNAUTHORIZED r.error && not (is_authenticated state) then
+    after_challenge state (standing_digest state r) (taken_up s state s.credentials r.realm r.nonce r.algorithms)
+    else if is_code STALE_NONCE r.error then after_stale state (standing_digest state r) r.realm r.nonce
+    else after_digest state (is_success r.class) (standing_digest state r)
+
+-- ---- want of memory
+
+-- the request is to be sent again: these answers alone keep something new
+abbrev pub IsResend : ClientAnswer → Type 0
+IsResend (Ok (ResendRequest algorithm)) = ⊤
+IsResend (Ok (Validated algorithm)) = ⊥
+IsResend (Err reason) = ⊥
+
+-- the first fact holds, or the second where memory is wanting
+abbrev pub ForReason : LongTermClientAuthErrorReason → Type 0 → Type 0 → Type 0
+ForReason Unauthorized P Q = P
+ForReason IntegrityFailed P Q = P
+ForReason UnsupportedFeature P Q = P
+ForReason OutOfMemory P Q = Q
+
+abbrev pub OrMemory : {V : Type 0} → Result V LongTermClientAuthErrorReason → Type 0 → Type 0 → Type 0
+OrMemory (Ok value) P Q = P
+OrMemory (Err reason) P Q = ForReason reason P Q

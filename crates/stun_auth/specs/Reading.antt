@@ -1,0 +1,97 @@
+-- What an authenticator reads of a message (RFC 8489, sections 9.2.4 and 9.2.5).
+use Rattle.std.specs.Prelude.{ℕ, Bool, true, false, ◌&&◌, ◌||◌, ◌==◌, if◌then◌else◌, List, [], ◌∷◌, map, Option, Some, None}
+use Rattle.std.specs.List.{find}
+use Rattle.std.specs.Option.{is_some, option_and_then, option_map, option_or}
+use Rattle.stun_base.specs.declared.algorithm.IntegrityAlgorithm.{IntegrityAlgorithm}
+use Rattle.stun_base.specs.declared.message_type.MessageClass.{MessageClass}
+use Rattle.stun_base.specs.declared.message_type.MessageClass.TheVariants.{Request, Indication, Success, Error}
+use Rattle.stun_base.specs.Attributes.{ERROR_CODE, MESSAGE_INTEGRITY, MESSAGE_INTEGRITY_SHA256, NONCE, PASSWORD_ALGORITHM, PASSWORD_ALGORITHMS, REALM, USERHASH, USERNAME}
+use Rattle.stun_base.specs.Header.{type_field}
+use Rattle.stun_base.specs.MessageType.{class_of}
+use Rattle.stun_types.specs.Attribute.{TypedValue}
+use Rattle.stun_types.specs.ErrorCode.{CodeAndReason, error_of}
+use Rattle.stun_types.specs.Integrity.{is_well_formed, stands}
+use Rattle.stun_types.specs.PasswordAlgorithms.{algorithm_of, algorithms_of, integrity_of}
+use Rattle.stun_types.specs.Text.{text_of}
+use Rattle.stun_types.specs.Userhash.{hash_of}
+use Rattle.stun_types.specs.Walk.{Member}
+use Rattle.stun_types.specs.Visible.{visible}
+
+-- whether a class is that of a response
+abbrev pub is_response : MessageClass → Bool
+is_response Request = false
+is_response Indication = false
+is_response Success = true
+is_response Error = true
+
+abbrev pub is_success : MessageClass → Bool
+is_success Request = false
+is_success Indication = false
+is_success Success = true
+is_success Error = false
+
+abbrev pub is_error : MessageClass → Bool
+is_error Request = false
+is_error Indication = false
+is_error Success = false
+is_error Error = true
+
+-- the last member of a type
+abbrev pub last_of : ℕ → List Member → Option Member
+last_of kind [] = None
+last_of kind (m ∷ members) = option_or (last_of kind members) (if m.1.kind == kind then Some m else None)
+
+-- what the last visible attribute of a type reads as: a malformed one takes an earlier one away
+abbrev pub last : {A : Type 0} → (TypedValue → Option A) → ℕ → List ℕ → Option A
+last reading kind bytes = option_and_then (λ m. reading m.1) (last_of kind (visible bytes))
+
+-- whether an attribute is a well-formed MESSAGE-INTEGRITY or MESSAGE-INTEGRITY-SHA256
+abbrev pub is_integrity : TypedValue → Bool
+is_integrity attribute =
+    ((attribute.kind == MESSAGE_INTEGRITY) || (attribute.kind == MESSAGE_INTEGRITY_SHA256)) && is_well_formed attribute
+
+-- whether one is visible
+abbrev pub has_integrity : List ℕ → Bool
+has_integrity bytes = is_some (find (λ m. is_integrity m.1) (visible bytes))
+
+-- Each attribute is its last visible one, where that is well formed.
+pub record Reading : Type 0 where
+  pub class : MessageClass
+  -- the code of an error response
+  pub error : Option ℕ
+  pub realm : Option (List ℕ)
+  pub nonce : Option (List ℕ)
+  pub username : Option (List ℕ)
+  pub userhash : Option (List ℕ)
+  -- the algorithms whose keys the listed, and the chosen, password algorithms make
+  pub algorithms : Option (List IntegrityAlgorithm)
+  pub algorithm : Option IntegrityAlgorithm
+  -- where an integrity attribute is visible and well formed, the algorithm whose digest stands under a key
+  pub integrity : Option (List ℕ → Option IntegrityAlgorithm)
+
+-- the algorithm whose digest stands under a key
+abbrev pub stands_under : Reading → List ℕ → Option IntegrityAlgorithm
+stands_under r key = option_and_then (λ (verify : List ℕ → Option IntegrityAlgorithm). verify key) r.integrity
+
+-- the class of a message
+abbrev pub class_in : List ℕ → MessageClass
+class_in bytes = class_of (type_field bytes)
+
+-- the code of an error response
+abbrev pub error_code : List ℕ → Option ℕ
+error_code bytes =
+    if is_error (class_in bytes) then option_map (λ (e : CodeAndReason). e.code) (last error_of ERROR_CODE bytes) else None
+
+-- what is read of the bytes of a message
+unfoldable pub reading_of : List ℕ → Reading
+reading_of bytes = record {
+  class = class_in bytes;
+  error = error_code bytes;
+  realm = last (text_of REALM 763) REALM bytes;
+  nonce = last (text_of NONCE 763) NONCE bytes;
+  username = last (text_of USERNAME 513) USERNAME bytes;
+  userhash = last hash_of USERHASH bytes;
+  algorithms = option_map (map integrity_of) (last algorithms_of PASSWORD_ALGORITHMS bytes);
+  algorithm = option_map integrity_of (last algorithm_of PASSWORD_ALGORITHM bytes);
+  integrity = if has_integrity bytes then Some (stands bytes) else None;
+}

@@ -1,0 +1,75 @@
+-- What a server's signing adds to a message (RFC 8489, section 9.2.4).
+use Rattle.std.specs.Prelude.{ℕ, ◌+◌, List, [], ◌∷◌, ◌++◌, Bool, if◌then◌else◌, Option, Some, None, Result, Ok, Err}
+use Rattle.std.specs.declared.net.socket_addr.SocketAddr.{SocketAddr}
+use Rattle.stun_base.specs.Algorithm.{digest_length}
+use Rattle.stun_base.specs.declared.algorithm.IntegrityAlgorithm.{IntegrityAlgorithm}
+use Rattle.stun_base.specs.declared.error.StunWriteError.{StunWriteError}
+use Rattle.stun_base.specs.declared.error.StunWriteError.TheVariants.{IntegrityFailed}
+use Rattle.stun_types.specs.Attribute.{attribute_length}
+use Rattle.stun_auth.specs.Additions.{Addition, Page, added_all, after, attribute, growth, integrity}
+use Rattle.stun_auth.specs.AddedAttribute as added
+use Rattle.stun_auth.specs.Algorithms.{is_sha256, listed}
+use Rattle.stun_auth.specs.Places.{with_change, with_offer}
+use Rattle.stun_auth.specs.Registered.{Registered, key_at}
+use Rattle.stun_auth.specs.Seen.{ClientSeen, PlaceSeen}
+use Rattle.stun_auth.specs.Server.{Sight}
+use Rattle.stun_auth.specs.Validation.{ServerSeen}
+
+-- nonce and realm, which a response carries
+abbrev pub challenge : Bool → Registered → List ℕ → List Addition
+challenge response users nonce = if response then attribute (added.nonce nonce) ∷ attribute (added.realm users.realm) ∷ [] else []
+
+-- the algorithms that a response offers where no client is known, the strongest first
+abbrev pub offer : Bool → Registered → List Addition
+offer response users = if response then attribute (added.password_algorithms (listed users.algorithms)) ∷ [] else []
+
+-- the algorithm of a client, which is named where it is not HMAC-SHA1
+abbrev pub named_algorithm : IntegrityAlgorithm → List Addition
+named_algorithm a = if is_sha256 a then attribute (added.password_algorithm a) ∷ [] else []
+
+-- what follows nonce and realm: the offer, or the algorithm of a client
+abbrev pub algorithms_for : Bool → Registered → Option ClientSeen → List Addition
+algorithms_for response users None = offer response users
+algorithms_for response users (Some c) = named_algorithm c.algorithm
+
+-- the attributes before the digest, to an address with this nonce and this client
+abbrev pub attributes_for : Bool → Registered → List ℕ → Option ClientSeen → List Addition
+attributes_for response users nonce client = challenge response users nonce ++ algorithms_for response users client
+
+-- the digest under the key of a user, or the refusal where user or key is gone
+abbrev pub protected : IntegrityAlgorithm → Option (List ℕ) → Page → Result Page StunWriteError
+protected a None page = Err IntegrityFailed
+protected a (Some key) page = added_all (integrity a key ∷ []) page
+
+-- the digest to a client; without a client there is none
+abbrev pub protected_for : Registered → Option ClientSeen → Page → Result Page StunWriteError
+protected_for users None page = Ok page
+protected_for users (Some c) page = protected c.algorithm (key_at users c.name c.algorithm) page
+
+-- what signing a message to an address leaves, or the first refusal in the order of the attributes: without a nonce the
+-- message stays as it is
+abbrev pub signed_at : Bool → Registered → Option PlaceSeen → Page → Result Page StunWriteError
+signed_at response users None page = Ok page
+signed_at response users (Some p) page =
+    after (added_all (attributes_for response users p.nonce p.client) page) (protected_for users p.client)
+
+abbrev pub server_signed : Sight → Bool → Page → Result Page StunWriteError
+server_signed s response page = signed_at response s.registered s.place page
+
+-- how many bytes the digest to a client takes, whether its user is there or not
+abbrev pub protection_growth : Option ClientSeen → ℕ
+protection_growth None = 0
+protection_growth (Some c) = attribute_length (digest_length c.algorithm)
+
+-- how many bytes signing a message to an address adds
+abbrev pub growth_at : Bool → Registered → Option PlaceSeen → ℕ
+growth_at response users None = 0
+growth_at response users (Some p) = growth (attributes_for response users p.nonce p.client) + protection_growth p.client
+
+abbrev pub server_growth : Sight → Bool → ℕ
+server_growth s response = growth_at response s.registered s.place
+
+-- the server that signing leaves: what a response offered is kept
+abbrev pub after_signing : ServerSeen → SocketAddr → Bool → ServerSeen
+after_signing s to response =
+    if response then record s { places = with_change s.places to (with_offer s.registered.algorithms) } else s

@@ -1,0 +1,51 @@
+-- Short-term authentication (RFC 8489, section 9.1).
+pub mod Kept
+use Rattle.std.specs.Prelude.{◌≡◌, ℕ, ◌≤◌, false, List, Option, Some, None, Result, Ok, Err, ⊤}
+use Rattle.stun_base.specs.Algorithm.{digest_length}
+use Rattle.stun_base.specs.declared.algorithm.IntegrityAlgorithm.{IntegrityAlgorithm}
+use Rattle.stun_base.specs.declared.error.ValidateError.{ValidateError}
+use Rattle.stun_base.specs.declared.error.StunWriteError.{StunWriteError}
+use Rattle.stun_types.specs.Attribute.{attribute_length}
+use Rattle.stun_types.specs.Integrity.{stands, integrity_refusal}
+use Rattle.stun_types.specs.Writing.{has_integrity, length_with, max_length, signing_refusal, with_integrity}
+
+-- the bytes of a password, which are its key (section 9.1.1), and the digest that messages are signed with
+pub record Secret : Type 0 where
+  pub password : List ℕ
+  pub algorithm : IntegrityAlgorithm
+
+-- how many bytes signing adds
+abbrev pub short_term_growth : Option Secret → ℕ
+short_term_growth None = 0
+short_term_growth (Some secret) = attribute_length (digest_length secret.algorithm)
+
+-- a message as it is signed: with the integrity attribute alone, and without credentials as it was (section 9.1.2)
+abbrev pub short_term_signed : Option Secret → List ℕ → List ℕ
+short_term_signed None message = message
+short_term_signed (Some secret) message = with_integrity message secret.algorithm secret.password
+
+-- why signing a message in a writer with so much room is refused
+abbrev pub short_term_refusal : Option Secret → List ℕ → ℕ → Option StunWriteError
+short_term_refusal None message room = None
+short_term_refusal (Some secret) message room = signing_refusal message room secret.algorithm
+
+-- the integrity attribute of an algorithm can stand behind a message in a writer with so much room
+pub record HasRoomFor (algorithm : IntegrityAlgorithm) (message : List ℕ) (room : ℕ) : Type 0 where
+  pub unsigned : has_integrity message ≡ false
+  pub short : length_with message (digest_length algorithm) ≤ max_length
+  pub fits : attribute_length (digest_length algorithm) ≤ room
+
+-- nothing refuses the signing of a message in a writer with so much room
+abbrev pub ShortTermMaySign : Option Secret → List ℕ → ℕ → Type 0
+ShortTermMaySign None message room = ⊤
+ShortTermMaySign (Some secret) message room = HasRoomFor secret.algorithm message room
+
+-- the algorithm whose digest stands, or why none does
+abbrev pub verdict_of : Option IntegrityAlgorithm → ValidateError → Result (Option IntegrityAlgorithm) ValidateError
+verdict_of None refusal = Err refusal
+verdict_of (Some algorithm) refusal = Ok (Some algorithm)
+
+-- what a message is answered: its digest is checked under the password (section 9.1.3), and without credentials nothing is
+abbrev pub short_term_answer : Option Secret → List ℕ → Result (Option IntegrityAlgorithm) ValidateError
+short_term_answer None message = Ok None
+short_term_answer (Some secret) message = verdict_of (stands message secret.password) (integrity_refusal message)

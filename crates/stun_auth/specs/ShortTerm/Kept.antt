@@ -1,0 +1,13 @@
+-- What a short-term authenticator keeps.
+use Rattle.std.specs.Prelude.{◌≡◌, Option}
+use Rattle.std.specs.Option.{ForSome, option_map}
+use Rattle.stun_auth.specs.ShortTerm.{Secret}
+use Rattle.stun_auth.specs.declared.short_term.KeptPassword.{KeptPassword}
+
+-- the password and the algorithm
+abbrev pub secret_of : {A : Type 0} → Option (KeptPassword A) → Option Secret
+secret_of kept = option_map (λ k. record { password = k.credentials; algorithm = k.algorithm }) kept
+
+-- the key is the password's bytes
+abbrev pub KeyIsPassword : {A : Type 0} → Option (KeptPassword A) → Type 0
+KeyIsPassword kept = ForSome kept (λ k. k.key ≡ k.credentials)

@@ -1,0 +1,199 @@
+-- What signing adds to a message, by attribute, and what is read of a message that was signed (RFC 8489, sections 9.2.3 to 9.2.5).
+use Rattle.std.specs.Prelude.{◌≡◌, ℕ, ◌+◌, ◌-◌, ◌≤◌, Bool, true, false, ◌||◌, if◌then◌else◌, List, [], ◌∷◌, length, Option, Some, None, IsUtf8}
+use Rattle.std.specs.List.{AllByRecursion}
+use Rattle.std.specs.Option.{IfSome, is_some, option_map}
+use Rattle.stun_base.specs.Attributes.{ERROR_CODE, NONCE, PASSWORD_ALGORITHM, PASSWORD_ALGORITHMS, REALM, USERHASH, USERNAME}
+use Rattle.stun_base.specs.Header.{HEADER_LENGTH}
+use Rattle.stun_base.specs.declared.algorithm.IntegrityAlgorithm.{IntegrityAlgorithm}
+use Rattle.stun_base.specs.declared.message_type.MessageClass.{MessageClass}
+use Rattle.stun_types.specs.Attribute.{TypedValue}
+use Rattle.stun_types.specs.ErrorCode.{CodeAndReason, error_value}
+use Rattle.stun_types.specs.Visible.{has_kind}
+use Rattle.stun_types.specs.Walk.{walk}
+use Rattle.stun_types.specs.Writing.{IsOpen, max_length}
+use Rattle.stun_auth.specs.AddedAttribute as attributes
+use Rattle.stun_auth.specs.Additions.{Addition, attribute, growth, integrity}
+use Rattle.stun_auth.specs.Algorithms.{is_sha256, listed}
+use Rattle.stun_auth.specs.Client.{Naming, plain, hashed, Challenge, ClientState}
+use Rattle.stun_auth.specs.ClientSigning.{kept_challenge}
+use Rattle.stun_auth.specs.Joined.{Protection}
+use Rattle.stun_auth.specs.Reading.{Reading, class_in, error_code, stands_under}
+use Rattle.stun_auth.specs.Registered.{Registered, key_at}
+use Rattle.stun_auth.specs.Seen.{ClientSeen, PlaceSeen}
+use Rattle.stun_auth.specs.Server.{Sight}
+
+-- what is added, in the order in which it stands in the message
+pub record Added : Type 0 where
+  pub nonce : Option (List ℕ)
+  pub realm : Option (List ℕ)
+  pub username : Option (List ℕ)
+  pub userhash : Option (List ℕ)
+  pub algorithms : Option (List IntegrityAlgorithm)
+  pub algorithm : Option IntegrityAlgorithm
+  pub integrity : Option Protection
+
+abbrev pub nothing : Added
+nothing = record { nonce = None; realm = None; username = None; userhash = None; algorithms = None; algorithm = None; integrity = None }
+
+-- an addition, if there is one, in front of others
+abbrev pub if_there : {A : Type 0} → (A → Addition) → Option A → List Addition → List Addition
+if_there addition None others = others
+if_there addition (Some value) others = addition value ∷ others
+
+-- the additions, in their order
+abbrev pub additions_of : Added → List Addition
+additions_of a =
+    if_there (λ text. attribute (attributes.nonce text)) a.nonce
+    (if_there (λ text. attribute (attributes.realm text)) a.realm
+    (if_there (λ text. attribute (attributes.username text)) a.username
+    (if_there (λ hash. attribute (attributes.userhash hash)) a.userhash
+    (if_there (λ list. attribute (attributes.password_algorithms list)) a.algorithms
+    (if_there (λ algorithm. attribute (attributes.password_algorithm algorithm)) a.algorithm
+    (if_there (λ (p : Protection). integrity p.algorithm p.key) a.integrity []))))))
+
+-- a text within the limit of its attribute
+abbrev pub IsTextOf : ℕ → List ℕ → Type 0
+IsTextOf most text = IsUtf8 text × (length text ≤ most)
+
+-- texts and hash are within their limits (sections 14.3, 14.4, 14.9 and 14.10)
+pub record IsWritable (a : Added) : Type 0 where
+  pub nonce : IfSome a.nonce (IsTextOf 763)
+  pub realm : IfSome a.realm (IsTextOf 763)
+  pub username : IfSome a.username (IsTextOf 513)
+  pub userhash : IfSome a.userhash (λ hash. length hash ≡ 32)
+
+-- texts are within their limits
+pub record IsWithinLimits (a : Added) : Type 0 where
+  pub nonce : IfSome a.nonce (λ text. length text ≤ 763)
+  pub realm : IfSome a.realm (λ text. length text ≤ 763)
+  pub username : IfSome a.username (λ text. length text ≤ 513)
+
+-- texts are UTF-8, and a hash has its length
+pub record IsText (a : Added) : Type 0 where
+  pub nonce : IfSome a.nonce IsUtf8
+  pub realm : IfSome a.realm IsUtf8
+  pub username : IfSome a.username IsUtf8
+  pub userhash : IfSome a.userhash (λ hash. length hash ≡ 32)
+
+-- texts are within their limits, a hash has its length, and at most two algorithms are listed
+pub record IsSmall (a : Added) : Type 0 where
+  pub texts : IsWithinLimits a
+  pub userhash : IfSome a.userhash (λ hash. length hash ≡ 32)
+  pub algorithms : IfSome a.algorithms (λ list. length list ≤ 2)
+
+-- the types of the attributes that signing adds before the digest
+abbrev pub added_kinds : List ℕ
+added_kinds = NONCE ∷ REALM ∷ USERNAME ∷ USERHASH ∷ PASSWORD_ALGORITHMS ∷ PASSWORD_ALGORITHM ∷ []
+
+-- a message that can be added to, and has none of them yet
+pub record IsUnsigned (message : List ℕ) : Type 0 where
+  pub is_open : IsOpen message
+  pub none : AllByRecursion (λ kind. has_kind kind (walk message) ≡ false) added_kinds
+
+-- a message that is built with no other attribute than an error code: its class and its error code, as they are read
+pub record IsBuilt (message : List ℕ) (class : MessageClass) (error : Option ℕ) : Type 0 where
+  pub unsigned : IsUnsigned message
+  pub class_is : class_in message ≡ class
+  pub error_is : error_code message ≡ error
+  -- a header, and an error code with the longest reason
+  pub short : length message ≤ 792
+
+-- an error code as an attribute
+abbrev pub error_attribute : CodeAndReason → TypedValue
+error_attribute error = record { kind = ERROR_CODE; value = error_value error }
+
+-- the additions fit the length field behind a message, and the room of its writer
+pub record HasRoomFor (a : Added) (message : List ℕ) (room : ℕ) : Type 0 where
+  pub field : length message - HEADER_LENGTH + growth (additions_of a) ≤ max_length
+  pub enough : growth (additions_of a) ≤ room
+
+-- what is read of a message is its class, its error code, and what was added
+pub record ReadsAs (class : MessageClass) (error : Option ℕ) (a : Added) (r : Reading) : Type 0 where
+  pub class_is : r.class ≡ class
+  pub error_is : r.error ≡ error
+  pub realm_is : r.realm ≡ a.realm
+  pub nonce_is : r.nonce ≡ a.nonce
+  pub username_is : r.username ≡ a.username
+  pub userhash_is : r.userhash ≡ a.userhash
+  pub algorithms_are : r.algorithms ≡ a.algorithms
+  pub algorithm_is : r.algorithm ≡ a.algorithm
+  pub integrity_is : is_some r.integrity ≡ is_some a.integrity
+  pub digest_stands : (p : Protection) → a.integrity ≡ Some p → stands_under r p.key ≡ Some p.algorithm
+
+abbrev pub only_if : {A : Type 0} → Bool → A → Option A
+only_if holds value = if holds then Some value else None
+
+-- ---- the client
+
+abbrev pub plain_name : Naming → Option (List ℕ)
+plain_name (plain name) = Some name
+plain_name (hashed hash) = None
+
+abbrev pub hashed_name : Naming → Option (List ℕ)
+hashed_name (plain name) = None
+hashed_name (hashed hash) = Some hash
+
+abbrev pub is_listed : List IntegrityAlgorithm → Bool
+is_listed [] = false
+is_listed (a ∷ list) = true
+
+-- a request says who asks; a message of any class names the algorithms, and has the digest
+abbrev pub added_under : Bool → Challenge → Added
+added_under request c = record {
+  nonce = only_if request c.nonce;
+  realm = only_if request c.realm;
+  username = if request then plain_name c.naming else None;
+  userhash = if request then hashed_name c.naming else None;
+  algorithms = only_if (is_listed c.algorithms) c.algorithms;
+  algorithm = only_if (is_sha256 c.algorithm || is_listed c.algorithms) c.algorithm;
+  integrity = Some (record { algorithm = c.algorithm; key = c.key });
+}
+
+-- what a client adds, if it has taken up a challenge
+abbrev pub added_if_kept : Bool → Option Challenge → Added
+added_if_kept request None = nothing
+added_if_kept request (Some c) = added_under request c
+
+-- what a client adds to a request, and to a message of another class
+abbrev pub added_by_client : Bool → ClientState → Added
+added_by_client request state = added_if_kept request (kept_challenge state)
+
+-- ---- the server
+
+-- to an address without a client: a response carries the challenge with the algorithms that are offered
+abbrev pub added_without_client : Bool → Registered → List ℕ → Added
+added_without_client response users nonce = record {
+  nonce = only_if response nonce;
+  realm = only_if response users.realm;
+  username = None;
+  userhash = None;
+  algorithms = only_if response (listed users.algorithms);
+  algorithm = None;
+  integrity = None;
+}
+
+-- to a client, under the key of its user
+abbrev pub added_under_key : Bool → Registered → List ℕ → IntegrityAlgorithm → List ℕ → Added
+added_under_key response users nonce algorithm key = record {
+  nonce = only_if response nonce;
+  realm = only_if response users.realm;
+  username = None;
+  userhash = None;
+  algorithms = None;
+  algorithm = only_if (is_sha256 algorithm) algorithm;
+  integrity = Some (record { algorithm = algorithm; key = key });
+}
+
+-- to an address with this nonce and this client; there is nothing to add where user or key is gone
+abbrev pub added_for : Bool → Registered → List ℕ → Option ClientSeen → Option Added
+added_for response users nonce None = Some (added_without_client response users nonce)
+added_for response users nonce (Some c) = option_map (added_under_key response users nonce c.algorithm) (key_at users c.name c.algorithm)
+
+-- without a nonce nothing is added
+abbrev pub added_at : Bool → Registered → Option PlaceSeen → Option Added
+added_at response users None = Some nothing
+added_at response users (Some p) = added_for response users p.nonce p.client
+
+-- what a server adds to a message to an address; nothing where the client's user or key is gone
+abbrev pub added_by_server : Sight → Bool → Option Added
+added_by_server s response = added_at response s.registered s.place

@@ -1,0 +1,124 @@
+-- A server, and what validating a message answers and leaves (RFC 8489, section 9.2.4).
+use Rattle.std.specs.Prelude.{◌≡◌, ◌↔◌, ℕ, List, Bool, not, ◌&&◌, ◌||◌, if◌then◌else◌, Option, Some, None, false, refl}
+use Rattle.std.specs.Option.{is_some, option_and_then}
+use Rattle.std.specs.declared.result.Result.{Result}
+use Rattle.std.specs.declared.result.Result.TheVariants.{Ok, Err}
+use Rattle.std.specs.FinMap as map
+use Rattle.std.specs.Coded.{Coded, code_by, coded×, coded_ℕ}
+use Rattle.std.specs.declared.net.socket_addr.SocketAddr.{SocketAddr}
+use Rattle.stun_base.specs.Address.{address_cmp}
+use Rattle.stun_base.specs.declared.algorithm.IntegrityAlgorithm.{IntegrityAlgorithm}
+use Rattle.stun_auth.specs.declared.feature.Feature.{Feature}
+use Rattle.stun_auth.specs.declared.feature.Feature.TheVariants.{Auto}
+use Rattle.stun_auth.specs.declared.server_reason.Refusal.{Refusal}
+use Rattle.stun_auth.specs.declared.server_reason.LongTermServerAuthErrorReason.{LongTermServerAuthErrorReason}
+use Rattle.stun_auth.specs.declared.server_reason.LongTermServerAuthErrorReason.TheVariants.{IntegrityFailed, BadRequest}
+use Rattle.stun_auth.specs.declared.server_reason.LongTermServerValidation.{LongTermServerValidation}
+use Rattle.stun_auth.specs.declared.server_reason.LongTermServerValidation.TheVariants.{Validated}
+use Rattle.stun_auth.specs.AddressCode.{coded_address}
+use Rattle.stun_auth.specs.Feature.{coded_feature}
+use Rattle.stun_auth.specs.Reading.{Reading, is_response, stands_under}
+use Rattle.stun_auth.specs.Reasons.{reason_of}
+use Rattle.stun_auth.specs.Registered.{Registered, coded_registered, key_at, new_registered}
+use Rattle.stun_auth.specs.Seen.{ClientSeen, PlaceSeen, coded_place}
+use Rattle.stun_auth.specs.Server.{Sight, IsAccepted, stands_at, standing, verdict}
+
+-- the users with the realm and the supported algorithms, the settings, and the place of each address that has one
+pub record ServerSeen : Type 0 where
+  pub registered : Registered
+  pub feature : Feature
+  pub expiry : ℕ
+  pub places : map.FinMap address_cmp PlaceSeen
+
+abbrev pub coded_server : Coded ServerSeen
+coded_server = code_by (Registered × (Feature × (ℕ × map.FinMap address_cmp PlaceSeen)))
+    (coded× coded_registered (coded× coded_feature (coded× coded_ℕ (map.code coded_address coded_place))))
+    (λ s. (s.registered, (s.feature, (s.expiry, s.places)))) (λ p. record { registered = p.0; feature = p.1.0; expiry = p.1.1.0; places = p.1.1.1 }) (λ _. refl)
+
+-- HMAC-SHA1 alone, hashed names where the client wants them, nonces of an hour, nobody present and no place
+abbrev pub new_server : List ℕ → ServerSeen
+new_server realm = record { registered = new_registered realm; feature = Auto; expiry = 3600000000000; places = map.empty }
+
+-- what one address can tell of the server
+abbrev pub sight : ServerSeen → SocketAddr → Sight
+sight s a = record { registered = s.registered; feature = s.feature; expiry = s.expiry; place = map.get s.places a }
+
+abbrev pub Answer : Type 0
+Answer = Result LongTermServerValidation LongTermServerAuthErrorReason
+
+-- ---- a response: the digest under the key of the address's client
+
+-- the algorithm whose digest stands under the key that the present user of a client has for the client's algorithm
+abbrev pub client_stands : Registered → Reading → ClientSeen → Option IntegrityAlgorithm
+client_stands users r c = option_and_then (stands_under r) (key_at users c.name c.algorithm)
+
+abbrev pub client_verified : Registered → Reading → Option PlaceSeen → Option IntegrityAlgorithm
+client_verified users r place = option_and_then (client_stands users r) (option_and_then (λ (p : PlaceSeen). p.client) place)
+
+abbrev pub validated_or_failed : Option IntegrityAlgorithm → Answer
+validated_or_failed None = Err IntegrityFailed
+validated_or_failed (Some a) = Ok (Validated a)
+
+-- ---- any other message
+
+-- REALM, NONCE and a name are there
+abbrev pub is_complete : Reading → Bool
+is_complete r = is_some r.realm && is_some r.nonce && (is_some r.userhash || is_some r.username)
+
+-- whether integrity is there and one of these is not: refused without a nonce
+abbrev pub is_malformed : Reading → Bool
+is_malformed r = is_some r.integrity && not (is_complete r)
+
+-- whether a message needs a nonce
+abbrev pub needs_nonce : Reading → Bool
+needs_nonce r = not (is_response r.class || is_malformed r)
+
+abbrev pub answer_to : Result ClientSeen Refusal → Answer
+answer_to (Ok client) = Ok (Validated client.algorithm)
+answer_to (Err refusal) = Err (reason_of refusal)
+
+-- the place with the client that is accepted, if one is
+abbrev pub with_accepted : PlaceSeen → Result ClientSeen Refusal → PlaceSeen
+with_accepted place (Ok client) = record place { client = Some client }
+with_accepted place (Err refusal) = place
+
+-- the verdict at a place
+abbrev pub verdict_at : Sight → PlaceSeen → Reading → Result ClientSeen Refusal
+verdict_at s place r = verdict s.registered s.feature place.nonce place.offered r
+
+-- the answer at a moment with random words
+abbrev pub answer : Sight → ℕ → List ℕ → Reading → Answer
+answer s now words r =
+    if is_response r.class then validated_or_failed (client_verified s.registered r s.place)
+    else if is_malformed r then Err BadRequest
+    else answer_to (verdict_at s (standing s now words) r)
+
+-- the place that is left
+abbrev pub place_after : Sight → ℕ → List ℕ → Reading → Option PlaceSeen
+place_after s now words r =
+    if needs_nonce r then Some (with_accepted (standing s now words) (verdict_at s (standing s now words) r))
+    else s.place
+
+-- whether the words are drawn: where a nonce is needed and none stands
+abbrev pub draws : Sight → ℕ → Reading → Bool
+draws s now r = needs_nonce r && not (stands_at now s.place)
+
+abbrev pub put_place : map.FinMap address_cmp PlaceSeen → SocketAddr → Option PlaceSeen → map.FinMap address_cmp PlaceSeen
+put_place places a None = places
+put_place places a (Some place) = map.insert places a place
+
+-- the server that is left
+abbrev pub after_message : ServerSeen → SocketAddr → ℕ → List ℕ → Reading → ServerSeen
+after_message s from now words r = record s { places = put_place s.places from (place_after (sight s from) now words r) }
+
+-- ---- acceptance
+
+-- a message is accepted with an algorithm: someone is accepted with it at the place where a nonce stands
+abbrev pub AcceptedWith : Sight → ℕ → List ℕ → Reading → IntegrityAlgorithm → Type 0
+AcceptedWith s now words r a =
+    (name : List ℕ) × IsAccepted s.registered s.feature (standing s now words).nonce (standing s now words).offered r (record { name = name; algorithm = a })
+
+-- a request or an indication is validated exactly where it is accepted
+abbrev pub ValidatesAccepted : Sight → ℕ → List ℕ → Reading → Answer → Type 0
+ValidatesAccepted s now words r given =
+    (is_response r.class ≡ false) → (a : IntegrityAlgorithm) → (given ≡ Ok (Validated a)) ↔ AcceptedWith s now words r a

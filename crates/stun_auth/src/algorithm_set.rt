@@ -1,0 +1,72 @@
+//! The integrity algorithms that a server supports or has offered.
+ghost use Rattle.std.specs.Prelude.{◌≡◌, Option, map};
+ghost use Rattle.stun_types.specs.PasswordAlgorithms.{integrity_of};
+ghost use Rattle.stun_auth.specs.Algorithms.{listed};
+
+use stun_base::algorithm::IntegrityAlgorithm;
+use stun_types::attribute::PasswordAlgorithmValue;
+
+/// One algorithm or both: a server supports one at least.
+#[derive(Clone, Copy, Debug, PartialEq, Eq)]
+pub(crate) enum AlgorithmSet {
+    OnlySha1,
+    OnlySha256,
+    Both,
+}
+
+impl AlgorithmSet {
+    ghost use Rattle.stun_auth.specs.Algorithms.{contains, only, with_algorithm};
+
+    /// The set of one algorithm.
+    pub(crate) fn only(algorithm: IntegrityAlgorithm) -> AlgorithmSet
+        ensures { result ≡ only algorithm }
+    {
+        match algorithm {
+            IntegrityAlgorithm::Sha1 => AlgorithmSet::OnlySha1,
+            IntegrityAlgorithm::Sha256 => AlgorithmSet::OnlySha256,
+        }
+    }
+
+    /// The set with one more algorithm.
+    pub(crate) fn with(self, algorithm: IntegrityAlgorithm) -> AlgorithmSet
+        ensures { result ≡ with_algorithm algorithm self }
+    {
+        match (self, algorithm) {
+            (AlgorithmSet::OnlySha1, IntegrityAlgorithm::Sha1) => AlgorithmSet::OnlySha1,
+            (AlgorithmSet::OnlySha256, IntegrityAlgorithm::Sha256) => AlgorithmSet::OnlySha256,
+            _ => AlgorithmSet::Both,
+        }
+    }
+
+    /// Whether the algorithm is in the set.
+    pub(crate) fn contains(self, algorithm: IntegrityAlgorithm) -> bool
+        ensures { result ≡ contains algorithm self }
+    {
+        match algorithm {
+            IntegrityAlgorithm::Sha1 => !matches!(self, AlgorithmSet::OnlySha256),
+            IntegrityAlgorithm::Sha256 => !matches!(self, AlgorithmSet::OnlySha1),
+        }
+    }
+
+    /// The password algorithms that make the keys, the strongest first.
+    pub(crate) fn password_algorithms(self) -> &'static [PasswordAlgorithmValue]
+        ensures { map integrity_of result.now ≡ listed self }
+    {
+        match self {
+            AlgorithmSet::OnlySha1 => &[PasswordAlgorithmValue::MD5],
+            AlgorithmSet::OnlySha256 => &[PasswordAlgorithmValue::SHA256],
+            AlgorithmSet::Both => &[PasswordAlgorithmValue::SHA256, PasswordAlgorithmValue::MD5],
+        }
+    }
+
+    /// The algorithms, the strongest first.
+    pub(crate) fn as_slice(self) -> &'static [IntegrityAlgorithm]
+        ensures { result.now ≡ listed self }
+    {
+        match self {
+            AlgorithmSet::OnlySha1 => &[IntegrityAlgorithm::Sha1],
+            AlgorithmSet::OnlySha256 => &[IntegrityAlgorithm::Sha256],
+            AlgorithmSet::Both => &[IntegrityAlgorithm::Sha256, IntegrityAlgorithm::Sha1],
+        }
+    }
+}

@@ -1,0 +1,361 @@
+//! The client's side of long-term authentication (RFC 8489, section 9.2).
+ghost use Rattle.std.specs.Prelude.{◌≡◌, ◌∷◌, [], Some, OnErr, map, option_copied, string_bytes};
+ghost use Rattle.stun_auth.specs.Reading.{reading_of};
+ghost use Rattle.stun_auth.specs.Client.{new_client};
+ghost use Rattle.stun_auth.specs.ClientStep.{IsResend, OrMemory, after_challenge, after_digest, after_stale, client_step, is_authenticated, is_code, is_repeated, reason_of, standing_digest, taken_up};
+ghost use Rattle.stun_auth.specs.ClientKept.{challenge_seen, offer_seen, state_seen};
+ghost use Rattle.stun_auth.specs.Supported.{added, in_order};
+
+mod signing;
+
+use crate::challenge::{KeptChallenge, Offer, Refusal, choose};
+use crate::client_answer::{
+    LongTermClientAuthError, LongTermClientAuthErrorReason, LongTermClientValidation,
+};
+use crate::feature::Feature;
+use crate::reading;
+use crate::supported::Supported;
+use std::alloc::{Allocator, Global};
+use std::marker::Model;
+use std::mem;
+use stun_types::message::{IntegrityAlgorithm, LongTermCredentials, Message};
+
+/// The code of a challenge (RFC 8489, section 14.8).
+const UNAUTHORIZED: u16 = 401;
+
+/// The code of a stale nonce (section 14.8).
+const STALE_NONCE: u16 = 438;
+
+/// How far a client has come with its server.
+#[derive(Drop)]
+#[derive_where(Debug)]
+enum State<A: Allocator> {
+    Initial,
+    Authenticating(KeptChallenge<A>),
+    Authenticated(KeptChallenge<A>),
+}
+
+impl<A: Allocator> State<A> {
+    ghost use Rattle.stun_auth.specs.ClientStep.{confirmed, renewed};
+
+    /// Replaces the kept realm and nonce. The key stays.
+    fn renew(&mut self, realm: String<A>, nonce: String<A>)
+        ensures { state_seen self.new ≡ renewed (state_seen self.old) (string_bytes realm) (string_bytes nonce) }
+    {
+        match self {
+            State::Initial => {}
+            State::Authenticating(kept) => {
+                kept.realm = realm;
+                kept.nonce = nonce;
+            }
+            State::Authenticated(kept) => {
+                kept.realm = realm;
+                kept.nonce = nonce;
+            }
+        }
+    }
+
+    /// Takes the server as known to have the key.
+    fn confirm(&mut self)
+        ensures { state_seen self.new ≡ confirmed (state_seen self.old) }
+    {
+        match mem::replace(self, State::Initial) {
+            State::Initial => {}
+            State::Authenticating(kept) => *self = State::Authenticated(kept),
+            State::Authenticated(kept) => *self = State::Authenticated(kept),
+        }
+    }
+}
+
+/// Whether an error has a code.
+fn is_code(code: u16, error: Option<u16>) -> bool
+    ensures { result ≡ is_code code error }
+{
+    match error {
+        Some(other) => other == code,
+        None => false,
+    }
+}
+
+/// Answers a server's challenges, signs requests and checks responses.
+///
+/// A client begins without a key. The first request goes out unsigned; a 401 brings realm and nonce, from which the key
+/// is made; the request is signed and sent again; a success that is signed under the key confirms it. From then on 401s
+/// are not taken up any more.
+///
+/// Contracts see its settings and its state.
+#[derive(Drop)]
+#[derive_where(Debug)]
+pub struct LongTermClientAuth<A: Allocator = Global> {
+    #[derive_where(skip(Debug))]
+    alloc: A,
+    supported: Supported,
+    feature: Feature,
+    credentials: Option<LongTermCredentials<A>>,
+    state: State<A>,
+}
+
+impl<A: Allocator> Model for LongTermClientAuth<A> {
+    ghost use Rattle.stun_auth.specs.Client.{ClientSide, coded_client_side};
+
+    ghost Value = { ClientSide };
+
+    ghost coded = { coded_client_side };
+
+    ghost use Rattle.stun_auth.specs.Supported.{in_order};
+    ghost use Rattle.stun_auth.specs.ClientKept.{state_seen};
+
+    ghost view = { λ client. record {
+      settings = record { supported = in_order client.supported; feature = client.feature; credentials = client.credentials };
+      state = state_seen client.state;
+    } };
+}
+
+impl<A: Allocator> LongTermClientAuth<A> {
+    /// A client that supports SHA-1 alone, sends its name as the server allows and has no credentials.
+    ///
+    /// It takes no memory. What is kept later stands in memory of this allocator.
+    pub fn new(alloc: A) -> Self
+        ensures { result ≡ new_client }
+    {
+        LongTermClientAuth {
+            alloc,
+            supported: Supported::only(IntegrityAlgorithm::Sha1),
+            feature: Feature::Auto,
+            credentials: None,
+            state: State::Initial,
+        }
+    }
+
+    /// Sets the user. A challenge that was taken up before keeps its key.
+    pub fn set_credentials(&mut self, credentials: LongTermCredentials<A>)
+        ensures { self.new ≡ record self.old { settings = record self.old.settings { credentials = Some credentials } } }
+    {
+        self.credentials = Some(credentials);
+    }
+
+    /// The user, if it was set.
+    pub fn credentials(&self) -> Option<&LongTermCredentials<A>>
+        ensures { option_copied result ≡ self.now.settings.credentials }
+    {
+        self.credentials.as_ref()
+    }
+
+    /// The supported algorithms in the order of their adding, without repeats.
+    pub fn supported_integrity(&self) -> &[IntegrityAlgorithm]
+        ensures { result.now ≡ self.now.settings.supported }
+    {
+        self.supported.as_slice()
+    }
+
+    /// Supports one more algorithm.
+    pub fn add_supported_integrity(&mut self, algorithm: IntegrityAlgorithm)
+        ensures { self.new ≡ record self.old { settings = record self.old.settings { supported = added algorithm self.old.settings.supported } } }
+    {
+        self.supported = self.supported.with(algorithm);
+    }
+
+    /// Supports one algorithm alone.
+    pub fn set_supported_integrity(&mut self, algorithm: IntegrityAlgorithm)
+        ensures { self.new ≡ record self.old { settings = record self.old.settings { supported = algorithm ∷ [] } } }
+    {
+        self.supported = Supported::only(algorithm);
+    }
+
+    /// Whether the user name may or must be sent as its hash.
+    pub fn anonymous_username(&self) -> Feature
+        ensures { result ≡ self.now.settings.feature }
+    {
+        self.feature
+    }
+
+    /// Sets whether the user name may or must be sent as its hash.
+    pub fn set_anonymous_username(&mut self, feature: Feature)
+        ensures { self.new ≡ record self.old { settings = record self.old.settings { feature = feature } } }
+    {
+        self.feature = feature;
+    }
+
+    fn is_authenticated(&self) -> bool
+        ensures { result ≡ is_authenticated self.now.state }
+    {
+        matches!(&self.state, State::Authenticated(_))
+    }
+
+    /// The algorithm whose digest stands under the kept key.
+    fn standing_digest(&self, message: &Message) -> Option<IntegrityAlgorithm>
+        ensures { result ≡ standing_digest self.now.state (reading_of message.now) }
+    {
+        match &self.state {
+            State::Initial => None,
+            State::Authenticating(kept) => reading::stands_under(message, &kept.key),
+            State::Authenticated(kept) => reading::stands_under(message, &kept.key),
+        }
+    }
+
+    /// Whether a challenge is the one that is being answered.
+    fn is_repeated(&self, realm: &str, nonce: &str) -> bool
+        ensures { result ≡ is_repeated self.now.state realm.now nonce.now }
+    {
+        match &self.state {
+            State::Initial => false,
+            State::Authenticating(kept) => {
+                realm == kept.realm.as_str() && nonce == kept.nonce.as_str()
+            }
+            State::Authenticated(_) => false,
+        }
+    }
+
+    /// The challenge that a message brings, or the reason to refuse it.
+    fn offer<'a, 'm>(&'a self, message: &Message<'m>) -> Result<Offer<'a, 'm>, Refusal>
+        ensures { offer_seen self.now.settings.feature result ≡ taken_up self.now.settings self.now.state self.now.settings.credentials
+            (reading_of message.now).realm (reading_of message.now).nonce (reading_of message.now).algorithms }
+    {
+        let Some(user) = &self.credentials else {
+            return Err(Refusal::Unauthorized);
+        };
+        let Some(realm) = reading::realm(message) else {
+            return Err(Refusal::Unauthorized);
+        };
+        let Some(nonce) = reading::nonce(message) else {
+            return Err(Refusal::Unauthorized);
+        };
+        if self.is_repeated(realm, nonce) {
+            return Err(Refusal::Unauthorized);
+        }
+        let list = reading::algorithms(message);
+        match choose(self.supported, self.feature, nonce, &list) {
+            Err(refusal) => Err(refusal),
+            Ok(algorithm) => Ok(Offer {
+                username: user.username(),
+                password: user.password(),
+                realm,
+                nonce,
+                list,
+                algorithm,
+            }),
+        }
+    }
+
+    /// Answers by the digest.
+    fn settle(
+        &mut self,
+        is_success: bool,
+        digest: Option<IntegrityAlgorithm>,
+    ) -> Result<LongTermClientValidation, LongTermClientAuthError>
+        ensures answer { result ≡ (after_digest self.old.state is_success digest).answer }
+        ensures state { self.new ≡ record self.old { state = (after_digest self.old.state is_success digest).state } }
+        ensures refused { OnErr result (self.new ≡ self.old) }
+    {
+        match digest {
+            None => Err(LongTermClientAuthError::new(
+                LongTermClientAuthErrorReason::IntegrityFailed,
+            )),
+            Some(algorithm) => {
+                if is_success {
+                    self.state.confirm();
+                }
+                Ok(LongTermClientValidation::Validated(algorithm))
+            }
+        }
+    }
+}
+
+impl<A: Allocator + Copy> LongTermClientAuth<A> {
+    /// Answers a message from the server (RFC 8489, sections 9.2.5 and 9.2.6).
+    ///
+    /// A 401 is a challenge until a success was validated: it is taken up, or refused as `Unauthorized` or
+    /// `UnsupportedFeature`. A 438 brings the next realm and nonce, signed or not; the key stays. Every other message is
+    /// as good as its digest under the kept key. A refusal changes nothing. `OutOfMemory` comes only in place of
+    /// `ResendRequest`.
+    pub fn validate_incoming_message(
+        &mut self,
+        message: &Message,
+    ) -> Result<LongTermClientValidation, LongTermClientAuthError>
+        ensures answer { let step = client_step self.old.settings self.old.state (reading_of message.now) in
+            OrMemory result (result ≡ step.answer) (IsResend step.answer) }
+        ensures state { OrMemory result
+            (self.new ≡ record self.old { state = (client_step self.old.settings self.old.state (reading_of message.now)).state })
+            (self.new ≡ self.old) }
+        ensures refused { OnErr result (self.new ≡ self.old) }
+    {
+        let digest = self.standing_digest(message);
+        let error = reading::error(message);
+        if is_code(UNAUTHORIZED, error) && !self.is_authenticated() {
+            return self.take_up(message, digest);
+        }
+        if is_code(STALE_NONCE, error) {
+            return self.renew(message, digest);
+        }
+        self.settle(reading::is_success(message), digest)
+    }
+
+    /// Takes up a challenge.
+    fn take_up(
+        &mut self,
+        message: &Message,
+        digest: Option<IntegrityAlgorithm>,
+    ) -> Result<LongTermClientValidation, LongTermClientAuthError>
+        ensures answer { let step = after_challenge self.old.state digest (taken_up self.old.settings self.old.state self.old.settings.credentials
+            (reading_of message.now).realm (reading_of message.now).nonce (reading_of message.now).algorithms) in
+            OrMemory result (result ≡ step.answer) (IsResend step.answer) }
+        ensures state { let step = after_challenge self.old.state digest (taken_up self.old.settings self.old.state self.old.settings.credentials
+            (reading_of message.now).realm (reading_of message.now).nonce (reading_of message.now).algorithms) in
+            OrMemory result (self.new ≡ record self.old { state = step.state }) (self.new ≡ self.old) }
+        ensures refused { OnErr result (self.new ≡ self.old) }
+    {
+        let kept = match self.offer(message) {
+            Err(refusal) => return Err(refused(refusal)),
+            Ok(offer) => offer.kept(self.alloc, self.feature),
+        };
+        match kept {
+            Err(_) => Err(LongTermClientAuthError::new(LongTermClientAuthErrorReason::OutOfMemory)),
+            Ok(kept) => {
+                self.state = State::Authenticating(kept);
+                Ok(LongTermClientValidation::ResendRequest(digest))
+            }
+        }
+    }
+
+    /// Takes the realm and nonce that come with a stale nonce.
+    fn renew(
+        &mut self,
+        message: &Message,
+        digest: Option<IntegrityAlgorithm>,
+    ) -> Result<LongTermClientValidation, LongTermClientAuthError>
+        ensures answer { let step = after_stale self.old.state digest (reading_of message.now).realm (reading_of message.now).nonce in
+            OrMemory result (result ≡ step.answer) (IsResend step.answer) }
+        ensures state { let step = after_stale self.old.state digest (reading_of message.now).realm (reading_of message.now).nonce in
+            OrMemory result (self.new ≡ record self.old { state = step.state }) (self.new ≡ self.old) }
+        ensures refused { OnErr result (self.new ≡ self.old) }
+    {
+        let Some(realm) = reading::realm(message) else {
+            return self.settle(false, digest);
+        };
+        let Some(nonce) = reading::nonce(message) else {
+            return self.settle(false, digest);
+        };
+        let Ok(realm) = String::from_str(self.alloc, realm) else {
+            return Err(LongTermClientAuthError::new(LongTermClientAuthErrorReason::OutOfMemory));
+        };
+        let Ok(nonce) = String::from_str(self.alloc, nonce) else {
+            return Err(LongTermClientAuthError::new(LongTermClientAuthErrorReason::OutOfMemory));
+        };
+        self.state.renew(realm, nonce);
+        Ok(LongTermClientValidation::ResendRequest(digest))
+    }
+}
+
+/// The error of a challenge that is not taken up.
+fn refused(refusal: Refusal) -> LongTermClientAuthError
+    ensures { result ≡ reason_of refusal }
+{
+    match refusal {
+        Refusal::Unauthorized => {
+            LongTermClientAuthError::new(LongTermClientAuthErrorReason::Unauthorized)
+        }
+        Refusal::UnsupportedFeature => {
+            LongTermClientAuthError::new(LongTermClientAuthErrorReason::UnsupportedFeature)
+        }
+    }
+}

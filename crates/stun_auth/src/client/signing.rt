@@ -1,0 +1,210 @@
+//! What a client's signing adds to a message (RFC 8489, section 9.2.5).
+ghost use Rattle.std.specs.Prelude.{◌≡◌, ◌≤◌, ◌<◌, ◌+◌, ◌-◌, ◌^◌, length, min, true, false, option_copied, IfOk, IsOk, Ok, ◌/◌, ◌*◌};
+ghost use Rattle.std.specs.Option.{option_map};
+ghost use Rattle.stun_base.specs.Algorithm.{digest_length};
+ghost use Rattle.stun_base.specs.Header.{BeginsWithHeader, type_field};
+ghost use Rattle.stun_base.specs.MessageType.{class_of};
+ghost use Rattle.stun_types.specs.Attribute.{attribute_length};
+ghost use Rattle.stun_auth.specs.AddedAttribute.{attribute_of};
+ghost use Rattle.stun_auth.specs.Additions.{IsAdded, IsOutcome, UnlessMemory, added_all, growth, page_in, written};
+ghost use Rattle.stun_auth.specs.ClientKept.{challenge_seen, naming_seen, state_seen};
+ghost use Rattle.stun_auth.specs.ClientSigning.{algorithm_choice, challenge_additions, client_additions, identity, is_request, kept_challenge, name_attribute};
+
+use crate::addition::{AddedAttribute, add, add_integrity, attribute_bytes, integrity_bytes};
+use crate::challenge::{KeptChallenge, UserNaming};
+use crate::client::{LongTermClientAuth, State};
+use std::alloc::{AllocError, Allocator};
+use std::convert::AsSlice;
+use stun_types::message::{IntegrityAlgorithm, MessageClass, StunWriteError};
+use stun_types::prelude::*;
+
+impl<A: Allocator> UserNaming<A> {
+    /// The attribute that names the user.
+    fn attribute(&self) -> AddedAttribute<'_>
+        ensures { attribute_of result ≡ name_attribute (naming_seen self.now) }
+    {
+        match self {
+            UserNaming::Plain(name) => AddedAttribute::Username(name.as_str()),
+            UserNaming::Hashed(hash) => AddedAttribute::Userhash(*hash),
+        }
+    }
+
+    /// How many bytes that attribute takes.
+    fn bytes(&self) -> usize
+        ensures { result ≡ attribute_length (length (name_attribute (naming_seen self.now)).value) }
+    {
+        match self {
+            UserNaming::Plain(name) => attribute_bytes(name.len()),
+            UserNaming::Hashed(hash) => attribute_bytes(hash.as_slice().len()),
+        }
+    }
+}
+
+impl<A: Allocator> KeptChallenge<A> {
+    /// Adds nonce, realm and the name of the user.
+    fn add_identity<W: MessageWrite>(&self, writer: &mut W) -> Result<(), StunWriteError>
+        requires { 20 ≤ length (W.bytes writer.old) }
+        ensures header { 20 ≤ length (W.bytes writer.new) }
+        ensures added { IsAdded (identity (challenge_seen self.now)) (page_in W.bytes W.room writer.old) (W.reserved writer.old)
+            result (page_in W.bytes W.room writer.new) (W.reserved writer.new) }
+    {
+        add(writer, AddedAttribute::Nonce(self.nonce.as_str()))?;
+        add(writer, AddedAttribute::Realm(self.realm.as_str()))?;
+        add(writer, self.naming.attribute())
+    }
+
+    /// Adds the server's list and the algorithm, where they are to be named.
+    fn add_algorithm_choice<W: MessageWrite>(&self, writer: &mut W) -> Result<(), StunWriteError>
+        requires { 20 ≤ length (W.bytes writer.old) }
+        ensures header { 20 ≤ length (W.bytes writer.new) }
+        ensures added { IsAdded (algorithm_choice (challenge_seen self.now).algorithms self.now.algorithm) (page_in W.bytes W.room writer.old) (W.reserved writer.old)
+            result (page_in W.bytes W.room writer.new) (W.reserved writer.new) }
+    {
+        let choice = AddedAttribute::PasswordAlgorithm(self.algorithm);
+        match self.algorithms.as_slice() {
+            [] => match self.algorithm {
+                IntegrityAlgorithm::Sha1 => Ok(()),
+                IntegrityAlgorithm::Sha256 => add(writer, choice),
+            },
+            list => {
+                add(writer, AddedAttribute::PasswordAlgorithms(list))?;
+                add(writer, choice)
+            }
+        }
+    }
+
+    /// Adds what a message of a class is to have, and the integrity attribute under the kept key.
+    fn sign<W: MessageWrite>(&self, writer: &mut W, is_request: bool) -> Result<(), StunWriteError>
+        requires { 20 ≤ length (W.bytes writer.old) }
+        ensures { IsOutcome (challenge_additions is_request (challenge_seen self.now)) (page_in W.bytes W.room writer.old) (W.reserved writer.old)
+            result (page_in W.bytes W.room writer.new) }
+    {
+        if is_request {
+            self.add_identity(writer)?;
+        }
+        self.add_protection(writer)
+    }
+
+    /// Adds the choice of the algorithm and the integrity attribute.
+    fn add_protection<W: MessageWrite>(&self, writer: &mut W) -> Result<(), StunWriteError>
+        requires { 20 ≤ length (W.bytes writer.old) }
+        ensures { IsOutcome (challenge_additions false (challenge_seen self.now)) (page_in W.bytes W.room writer.old) (W.reserved writer.old)
+            result (page_in W.bytes W.room writer.new) }
+    {
+        self.add_algorithm_choice(writer)?;
+        add_integrity(writer, &self.key, self.algorithm)
+    }
+
+    /// How many bytes signing adds to a request, as far as a `usize` reaches.
+    fn signature_bytes(&self) -> usize
+        ensures { result ≡ min (growth (challenge_additions true (challenge_seen self.now))) (2 ^ 64 - 1) }
+    {
+        self.identity_bytes()
+            .saturating_add(self.choice_bytes())
+            .saturating_add(integrity_bytes(self.algorithm))
+    }
+
+    /// How many bytes nonce, realm and the name of the user take, as far as a `usize` reaches.
+    fn identity_bytes(&self) -> usize
+        ensures { result ≡ min (growth (identity (challenge_seen self.now))) (2 ^ 64 - 1) }
+    {
+        attribute_bytes(self.nonce.len())
+            .saturating_add(attribute_bytes(self.realm.len()))
+            .saturating_add(self.naming.bytes())
+    }
+
+    /// How many bytes the choice of the algorithm takes, as far as a `usize` reaches.
+    fn choice_bytes(&self) -> usize
+        ensures { result ≡ min (growth (algorithm_choice (challenge_seen self.now).algorithms self.now.algorithm)) (2 ^ 64 - 1) }
+    {
+        match self.algorithms.as_slice() {
+            [] => match self.algorithm {
+                IntegrityAlgorithm::Sha1 => 0,
+                IntegrityAlgorithm::Sha256 => 8,
+            },
+            list => list.len().saturating_mul(4).saturating_add(12),
+        }
+    }
+}
+
+impl<A: Allocator> State<A> {
+    /// What is kept of the challenge that was taken up.
+    fn kept(&self) -> Option<&KeptChallenge<A>>
+        ensures { option_map (λ kept. challenge_seen kept.now) result ≡ kept_challenge (state_seen self.now) }
+    {
+        match self {
+            State::Initial => None,
+            State::Authenticating(kept) => Some(kept),
+            State::Authenticated(kept) => Some(kept),
+        }
+    }
+}
+
+/// Whether the message in a writer is a request.
+fn is_request<W: MessageWrite>(writer: &W) -> bool
+    requires { BeginsWithHeader (W.bytes writer.now) }
+    ensures { result ≡ is_request (class_of (type_field (W.bytes writer.now))) }
+{
+    writer.has_class(MessageClass::Request)
+}
+
+impl<A: Allocator> LongTermClientAuth<A> {
+    /// How many bytes signing adds to a request, as far as a `usize` reaches: 0 before a challenge was taken up.
+    pub fn message_signature_bytes(&self) -> usize
+        ensures { result ≡ min (growth (client_additions true self.now.state)) (2 ^ 64 - 1) }
+    {
+        match self.state.kept() {
+            Some(kept) => kept.signature_bytes(),
+            None => 0,
+        }
+    }
+
+    /// Adds to a message what the challenge that was taken up asks for, and the integrity attribute under its key.
+    ///
+    /// A request gets NONCE, REALM and USERNAME or USERHASH; a message of any class PASSWORD-ALGORITHMS where the server
+    /// sent a list, PASSWORD-ALGORITHM where it did or the digest is HMAC-SHA256, and the integrity attribute. Before a
+    /// challenge was taken up the message stays as it is. The first refusal in the order of the attributes is answered,
+    /// `TooLarge` for a text past its limit included; it drops the writer and leaves the client. The writer holds a message
+    /// without FINGERPRINT.
+    pub fn sign_outgoing_message<W: MessageWrite>(&mut self, writer: W) -> Result<W, StunWriteError>
+        requires { BeginsWithHeader (W.bytes writer) }
+        ensures answer { let additions = client_additions (is_request (class_of (type_field (W.bytes writer)))) self.old.state in
+            UnlessMemory result (written W.bytes W.room result ≡ added_all additions (page_in W.bytes W.room writer)) (W.reserved writer < growth additions) }
+        ensures grows { IfOk result (λ signed. length (W.bytes signed)
+            ≡ length (W.bytes writer) + growth (client_additions (is_request (class_of (type_field (W.bytes writer)))) self.old.state)) }
+        ensures stays { self.new ≡ self.old }
+    {
+        self.signed(writer)
+    }
+
+    /// The message with what the challenge that was taken up asks for.
+    fn signed<W: MessageWrite>(&self, writer: W) -> Result<W, StunWriteError>
+        requires { BeginsWithHeader (W.bytes writer) }
+        ensures { let additions = client_additions (is_request (class_of (type_field (W.bytes writer)))) self.now.state in
+            UnlessMemory result (written W.bytes W.room result ≡ added_all additions (page_in W.bytes W.room writer)) (W.reserved writer < growth additions) }
+    {
+        let mut writer = writer;
+        if let Some(kept) = self.state.kept() {
+            let is_request = is_request(&writer);
+            kept.sign(&mut writer, is_request)?;
+        }
+        Ok(writer)
+    }
+
+    /// Signs a message of which the caller knows that nothing but want of memory refuses it.
+    pub fn sign_outgoing_message_unchecked<W: MessageWrite>(
+        &mut self,
+        writer: W,
+    ) -> Result<W, AllocError>
+        requires header { BeginsWithHeader (W.bytes writer) }
+        requires signable { IsOk (added_all (client_additions (is_request (class_of (type_field (W.bytes writer)))) self.old.state) (page_in W.bytes W.room writer)) }
+        ensures signed { IfOk result (λ signed. Ok (page_in W.bytes W.room signed)
+            ≡ added_all (client_additions (is_request (class_of (type_field (W.bytes writer)))) self.old.state) (page_in W.bytes W.room writer)) }
+        ensures stays { self.new ≡ self.old }
+    {
+        match self.signed(writer) {
+            Ok(signed) => Ok(signed),
+            Err(_) => Err(AllocError),
+        }
+    }
+}

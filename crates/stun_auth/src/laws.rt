@@ -1,0 +1,129 @@
+//! Laws over the definitions that the contracts of this crate cite.
+ghost use Rattle.std.specs.Prelude.{◌≡◌, ◌<◌, ◌≤◌, ◌^◌, ◌||◌, ℕ, ◌+◌, Bool, List, [], ◌∷◌, length, Ok, Option, Some, None, if◌then◌else◌, IsOk, IsUtf8};
+ghost use Rattle.std.specs.List.{AllByRecursion};
+ghost use Rattle.std.specs.Option.{IsSome, is_some};
+ghost use Rattle.stun_base.specs.MessageType.{class_of};
+ghost use Rattle.stun_base.specs.declared.algorithm.IntegrityAlgorithm.TheVariants.{Sha256};
+ghost use Rattle.stun_base.specs.declared.message_type.MessageClass.{MessageClass};
+ghost use Rattle.stun_types.specs.ErrorCode.{CodeAndReason, IsError};
+ghost use Rattle.stun_types.specs.Grammar.{spelled};
+ghost use Rattle.stun_types.specs.Writing.{IsOpen};
+ghost use Rattle.stun_auth.specs.declared.algorithm_set.AlgorithmSet.{AlgorithmSet};
+ghost use Rattle.stun_auth.specs.declared.feature.Feature.{Feature as TheFeature};
+ghost use Rattle.stun_auth.specs.Additions.{Addition, Page, added_all, growth};
+ghost use Rattle.stun_auth.specs.Algorithms.{contains};
+ghost use Rattle.stun_auth.specs.Client.{ClientState};
+ghost use Rattle.stun_auth.specs.ClientSigning.{client_additions};
+ghost use Rattle.stun_auth.specs.Feature.{is_possible};
+ghost use Rattle.stun_auth.specs.Joined.{HasAdded, IsReadBack, IsTyped, page_after};
+ghost use Rattle.stun_auth.specs.Nonces.{asks_for_algorithms, asks_for_userhash, nonce_of, security_bits};
+ghost use Rattle.stun_auth.specs.Reading.{Reading, class_in, error_code, is_error, reading_of};
+ghost use Rattle.stun_auth.specs.Server.{Sight};
+ghost use Rattle.stun_auth.specs.ServerSigning.{server_signed};
+ghost use Rattle.stun_auth.specs.Signed.{Added, HasRoomFor, IsBuilt, IsSmall, IsText, IsUnsigned, IsWithinLimits, IsWritable, ReadsAs, added_by_client, added_by_server, additions_of, error_attribute};
+ghost use Rattle.stun_auth.specs.Validation.{ValidatesAccepted, answer};
+
+/// What was added is what is read: after successful additions to an open message, its own attributes count as before and
+/// then the added ones, and the digest that was added last stands under its key.
+pub fn additions_are_read_back()
+    ensures added { (list : List Addition) (message : List ℕ) (room : ℕ) (page : Page) → IsOpen message → AllByRecursion IsTyped list
+        → added_all list (record { bytes = message; room = room }) ≡ Ok page → HasAdded message list page.bytes }
+    ensures read { (list : List Addition) (message : List ℕ) (room : ℕ) (page : Page) → IsOpen message → AllByRecursion IsTyped list
+        → added_all list (record { bytes = message; room = room }) ≡ Ok page → IsReadBack message list page.bytes }
+{
+    stun_types::laws::writing_adds_one_attribute();
+    stun_types::laws::signed_message_stands();
+}
+
+/// What is read of a signed message is its class, its error code, and each attribute that signing added; an attribute that
+/// it did not add is not there, and the digest stands under the key that it was made with.
+pub fn signed_messages_are_read()
+    ensures { (a : Added) (message : List ℕ) (room : ℕ) (page : Page) → IsUnsigned message → IsWritable a
+        → added_all (additions_of a) (record { bytes = message; room = room }) ≡ Ok page
+        → ReadsAs (class_in message) (error_code message) a (reading_of page.bytes) }
+{
+    stun_types::laws::writing_adds_one_attribute();
+    stun_types::laws::signed_message_stands();
+}
+
+/// The answer to a request or an indication is `Validated` with an algorithm exactly where the message is accepted with it
+/// (RFC 8489, section 9.2.4).
+pub fn accepted_messages_are_validated()
+    ensures { (s : Sight) (now : ℕ) (words : List ℕ) (r : Reading) → ValidatesAccepted s now words r (answer s now words r) }
+{}
+
+/// A built message without attributes, and one with an error code alone, can be signed, and are read as what they were
+/// built with.
+pub fn built_messages_can_be_signed()
+    ensures bare { (message_type transaction_id : ℕ) → message_type < 2 ^ 14 → IsBuilt (spelled message_type transaction_id []) (class_of message_type) None }
+    ensures error { (message_type transaction_id : ℕ) (error : CodeAndReason) → message_type < 2 ^ 14 → IsError error
+        → IsBuilt (spelled message_type transaction_id (error_attribute error ∷ [])) (class_of message_type) (if is_error (class_of message_type) then Some error.code else None) }
+{
+    stun_types::laws::writing_adds_one_attribute();
+    stun_types::laws::signed_message_stands();
+}
+
+/// What signing added is within its limits. Signing succeeds where texts are so, and message and writer have room for what it
+/// adds: 2,148 bytes where at most two algorithms are listed.
+pub fn signing_succeeds_with_room()
+    ensures within { (a : Added) (page signed : Page) → added_all (additions_of a) page ≡ Ok signed → IsWithinLimits a }
+    ensures growth { (a : Added) → IsSmall a → growth (additions_of a) ≤ 2148 }
+    ensures room { (a : Added) (message : List ℕ) (room : ℕ) (class : MessageClass) (error : Option ℕ) → IsBuilt message class error → IsSmall a → 2148 ≤ room
+        → HasRoomFor a message room }
+    ensures succeeds { (a : Added) (message : List ℕ) (room : ℕ) → IsUnsigned message → IsWithinLimits a → HasRoomFor a message room
+        → added_all (additions_of a) (record { bytes = message; room = room }) ≡ Ok (page_after (additions_of a) (record { bytes = message; room = room })) }
+{
+    stun_types::laws::writing_adds_one_attribute();
+    stun_types::laws::signed_message_stands();
+}
+
+/// What each side adds, by attribute; a server that signs has something to add.
+pub fn sides_add_by_attribute()
+    ensures client { (request : Bool) (state : ClientState) → client_additions request state ≡ additions_of (added_by_client request state) }
+    ensures server { (s : Sight) (response : Bool) (page : Page) (a : Added) → added_by_server s response ≡ Some a
+        → server_signed s response page ≡ added_all (additions_of a) page }
+    ensures there { (s : Sight) (response : Bool) (page : Page) → IsOk (server_signed s response page) → IsSome (added_by_server s response) }
+{}
+
+/// The nonces that a server makes are texts. They ask for password algorithms exactly where HMAC-SHA256 is supported, and for
+/// a hashed user name exactly where that is possible; they have security bits where they ask for either, and those of the
+/// same settings have the same ones (RFC 8489, section 9.2).
+pub fn nonces_ask_for_what_is_supported()
+    ensures text { (set : AlgorithmSet) (feature : TheFeature) (words : List ℕ) → IsUtf8 (nonce_of set feature words) }
+    ensures algorithms { (set : AlgorithmSet) (feature : TheFeature) (words : List ℕ) → asks_for_algorithms (nonce_of set feature words) ≡ contains Sha256 set }
+    ensures userhash { (set : AlgorithmSet) (feature : TheFeature) (words : List ℕ) → asks_for_userhash (nonce_of set feature words) ≡ is_possible feature }
+    ensures there { (set : AlgorithmSet) (feature : TheFeature) (words : List ℕ) → is_some (security_bits (nonce_of set feature words)) ≡ (contains Sha256 set || is_possible feature) }
+    ensures alike { (set : AlgorithmSet) (feature : TheFeature) (words others : List ℕ) → security_bits (nonce_of set feature words) ≡ security_bits (nonce_of set feature others) }
+    ensures short { (set : AlgorithmSet) (feature : TheFeature) (words : List ℕ) → length (nonce_of set feature words) ≤ 13 + length words }
+{}
+
+/// Both sides sign built messages in writers with room for 2,148 bytes.
+pub fn sides_sign_with_room()
+    ensures client { (request : Bool) (state : ClientState) (class : MessageClass) (error : Option ℕ) (message : List ℕ) (room : ℕ) → IsBuilt message class error
+        → IsSmall (added_by_client request state) → 2148 ≤ room → IsOk (added_all (client_additions request state) (record { bytes = message; room = room })) }
+    ensures server { (s : Sight) (response : Bool) (a : Added) (class : MessageClass) (error : Option ℕ) (message : List ℕ) (room : ℕ) → IsBuilt message class error
+        → added_by_server s response ≡ Some a → IsSmall a → 2148 ≤ room → IsOk (server_signed s response (record { bytes = message; room = room })) }
+{
+    signing_succeeds_with_room();
+    sides_add_by_attribute();
+}
+
+/// What is read of a message that a client signed is what it keeps of the server's challenge, where these are texts.
+pub fn client_messages_are_read()
+    ensures { (request : Bool) (state : ClientState) (class : MessageClass) (error : Option ℕ) (message : List ℕ) (room : ℕ) (page : Page) → IsBuilt message class error
+        → IsText (added_by_client request state) → added_all (client_additions request state) (record { bytes = message; room = room }) ≡ Ok page
+        → ReadsAs class error (added_by_client request state) (reading_of page.bytes) }
+{
+    signed_messages_are_read();
+    sides_add_by_attribute();
+}
+
+/// What is read of a message that a server signed is the challenge of the address, and the digest under its client's key.
+pub fn server_messages_are_read()
+    ensures { (s : Sight) (response : Bool) (a : Added) (class : MessageClass) (error : Option ℕ) (message : List ℕ) (room : ℕ) (page : Page) → IsBuilt message class error
+        → added_by_server s response ≡ Some a → IsText a → server_signed s response (record { bytes = message; room = room }) ≡ Ok page
+        → ReadsAs class error a (reading_of page.bytes) }
+{
+    signed_messages_are_read();
+    sides_add_by_attribute();
+}

@@ -1,0 +1,20 @@
+//! Authentication of STUN messages (RFC 8489, section 9).
+#![tactic(auto)]
+
+mod addition;
+mod algorithm_set;
+pub mod auth;
+mod challenge;
+mod client;
+mod client_answer;
+mod feature;
+pub mod laws;
+mod nonce;
+mod places;
+mod reading;
+mod registry;
+mod server;
+mod server_reason;
+mod short_term;
+mod supported;
+mod verdict;

@@ -1,0 +1,241 @@
+//! Nonces of a server and the security bits that they carry (RFC 8489, section 9.2).
+ghost use Rattle.std.specs.Prelude.{◌≡◌, ◌++◌, ◌∷◌, [], List, ℕ, Bool, Some, None, map, IfOk, OnOk};
+ghost use Rattle.std.specs.String.{string_bytes};
+ghost use Rattle.rand_core.specs.Stream.{Stream};
+ghost use Rattle.stun_auth.specs.Nonces.{begins_with_cookie, security_bits, letter, security_byte, next_words, after_words, front, nonce_of, asks_for_algorithms, asks_for_userhash};
+ghost use Rattle.stun_auth.specs.Algorithms.{contains};
+ghost use Rattle.stun_auth.specs.Feature.{is_possible};
+
+use crate::algorithm_set::AlgorithmSet;
+use crate::feature::Feature;
+use base64::engine::general_purpose::STANDARD;
+use rand_core::Rng;
+use std::alloc::{AllocError, Allocator};
+use std::marker::Model;
+use stun_base::algorithm::IntegrityAlgorithm;
+
+/// What a nonce begins with that carries security bits (RFC 8489, section 9.2).
+pub const LONG_TERM_RFC8489_NONCE_COOKIE: &str = "obMatJos2";
+
+/// The bytes of the cookie and of the four letters behind it.
+const FRONT_LENGTH: usize = 13;
+
+/// The bit of the first byte that means password algorithms (section 18.1).
+const PASSWORD_ALGORITHMS: u8 = 0x80;
+
+/// The bit of the first byte that means anonymous user names (section 18.1).
+const USERNAME_ANONYMITY: u8 = 0x40;
+
+/// The 24 security bits of a nonce, as three bytes in the order in which they stand there.
+///
+/// Contracts see the three bytes.
+#[derive(Clone, Copy, Debug, Default, PartialEq, Eq, Hash)]
+pub struct NonceSecurityBits {
+    bytes: [u8; 3],
+}
+
+impl Model for NonceSecurityBits {
+    ghost use Rattle.std.specs.Prelude.{ℕ, List};
+
+    ghost Value = { List ℕ };
+
+    ghost view = { λ bits. bits.bytes };
+
+    ghost inverse = { λ bytes. record { bytes = bytes } };
+}
+
+impl NonceSecurityBits {
+    ghost use Rattle.std.specs.Prelude.{Some};
+    ghost use Rattle.stun_auth.specs.Nonces.{first_has, with_first_bit, spelled_bits};
+
+    /// The bits of these bytes.
+    pub fn from_bytes(bytes: [u8; 3]) -> NonceSecurityBits
+        ensures { result ≡ bytes }
+    {
+        NonceSecurityBits { bytes }
+    }
+
+    /// The three bytes.
+    pub fn bytes(&self) -> [u8; 3]
+        ensures { result ≡ self.now }
+    {
+        self.bytes
+    }
+
+    /// The bits of a nonce: the four letters behind the cookie, where they are base64 of three bytes.
+    #[tactic(auto, unfolding(crate::specs::Nonces::security_bits))]
+    pub fn from_nonce(nonce: &str) -> Option<NonceSecurityBits>
+        ensures { result ≡ security_bits nonce.now }
+    {
+        let text = nonce.as_bytes();
+        if !begins_with_cookie(text) || text.len() < FRONT_LENGTH {
+            return None;
+        }
+        let mut bytes = [0u8; 3];
+        match STANDARD.decode_slice(&text[9..FRONT_LENGTH], &mut bytes) {
+            Ok(3) => Some(NonceSecurityBits { bytes }),
+            _ => None,
+        }
+    }
+
+    /// The cookie and the four letters of the bits, which a nonce begins with.
+    #[tactic(auto, unfolding(crate::specs::Nonces::spelled_bits))]
+    pub fn as_string<A: Allocator>(&self, alloc: A) -> Result<String<A>, AllocError>
+        ensures { IfOk result (λ text. string_bytes text ≡ spelled_bits self.now) }
+    {
+        let mut text = String::new(alloc);
+        text.push_str(LONG_TERM_RFC8489_NONCE_COOKIE)?;
+        STANDARD.encode_string(&self.bytes, &mut text)?;
+        Ok(text)
+    }
+
+    /// Whether password algorithms are meant to be chosen.
+    pub fn password_algorithms(&self) -> bool
+        ensures { result ≡ first_has 0x80 (Some self.now) }
+    {
+        self.bytes[0] & PASSWORD_ALGORITHMS != 0
+    }
+
+    /// Says whether password algorithms are meant to be chosen.
+    pub fn set_password_algorithms(&mut self, enabled: bool)
+        ensures { self.new ≡ with_first_bit 0x80 enabled self.old }
+    {
+        if enabled {
+            self.bytes[0] |= PASSWORD_ALGORITHMS;
+        } else {
+            self.bytes[0] &= !PASSWORD_ALGORITHMS;
+        }
+    }
+
+    /// Whether user names may be sent as their hash.
+    pub fn username_anonymity(&self) -> bool
+        ensures { result ≡ first_has 0x40 (Some self.now) }
+    {
+        self.bytes[0] & USERNAME_ANONYMITY != 0
+    }
+
+    /// Says whether user names may be sent as their hash.
+    pub fn set_username_anonymity(&mut self, enabled: bool)
+        ensures { self.new ≡ with_first_bit 0x40 enabled self.old }
+    {
+        if enabled {
+            self.bytes[0] |= USERNAME_ANONYMITY;
+        } else {
+            self.bytes[0] &= !USERNAME_ANONYMITY;
+        }
+    }
+}
+
+/// Whether a nonce asks for a choice of password algorithms.
+pub(crate) fn asks_for_algorithms(nonce: &str) -> bool
+    ensures { result ≡ asks_for_algorithms nonce.now }
+{
+    match NonceSecurityBits::from_nonce(nonce) {
+        Some(bits) => bits.password_algorithms(),
+        None => false,
+    }
+}
+
+fn begins_with_cookie(text: &[u8]) -> bool
+    ensures { result ≡ begins_with_cookie text.now }
+{
+    text.starts_with(b"obMatJos2")
+}
+
+/// The letter of a random word: A to Z, a to z, 0 to 9.
+fn letter(word: u32) -> u8
+    ensures { result ≡ letter word }
+{
+    let n = (word % 62) as u8;
+    if n < 26 {
+        b'A' + n
+    } else if n < 52 {
+        b'a' + (n - 26)
+    } else {
+        b'0' + (n - 52)
+    }
+}
+
+/// The next sixteen words of a source.
+fn draw_words<R: Rng>(rng: &mut R) -> [u32; 16]
+    ensures words { result ≡ next_words 16 (R.stream rng.old) }
+    ensures source { R.stream rng.new ≡ after_words 16 (R.stream rng.old) }
+{
+    let mut words = [0u32; 16];
+    for i in 0..16 {
+        words[i] = rng.next_u32();
+    }
+    words
+}
+
+fn push_letters<A: Allocator>(text: &mut String<A>, words: &[u32]) -> Result<(), AllocError>
+    ensures { OnOk result (string_bytes text.new ≡ string_bytes text.old ++ map letter words.now) }
+{
+    for word in words {
+        text.push(char::from(letter(*word)))?;
+    }
+    Ok(())
+}
+
+/// The first security byte of a server with these settings.
+fn security_byte(algorithms: AlgorithmSet, feature: Feature) -> u8
+    ensures { result ≡ security_byte algorithms feature }
+{
+    let for_algorithms = if algorithms.contains(IntegrityAlgorithm::Sha256) {
+        PASSWORD_ALGORITHMS
+    } else {
+        0
+    };
+    let for_userhash = if feature.is_possible() {
+        USERNAME_ANONYMITY
+    } else {
+        0
+    };
+    for_algorithms + for_userhash
+}
+
+/// The nonce of sixteen random words.
+fn nonce_of_words<A: Allocator + Copy>(
+    alloc: A,
+    algorithms: AlgorithmSet,
+    feature: Feature,
+    words: &[u32; 16],
+) -> Result<String<A>, AllocError>
+    ensures { IfOk result (λ text. string_bytes text ≡ nonce_of algorithms feature words.now) }
+{
+    let byte = security_byte(algorithms, feature);
+    if byte != 0 {
+        let mut text = NonceSecurityBits::from_bytes([byte, 0, 0]).as_string(alloc)?;
+        push_letters(&mut text, words)?;
+        return Ok(text);
+    }
+    let mut text = String::new(alloc);
+    push_letters(&mut text, words)?;
+    if !begins_with_cookie(text.as_bytes()) {
+        return Ok(text);
+    }
+    let (_, others) = words.split_at(1);
+    text.clear();
+    text.push('p')?;
+    push_letters(&mut text, others)?;
+    Ok(text)
+}
+
+/// A new nonce, of the next sixteen words of the source.
+///
+/// It asks for password algorithms exactly where SHA-256 is supported, and for hashed names exactly where these are
+/// possible. Where it asks for neither it carries no security bits.
+pub(crate) fn make_nonce<A: Allocator + Copy, R: Rng>(
+    alloc: A,
+    algorithms: AlgorithmSet,
+    feature: Feature,
+    rng: &mut R,
+) -> Result<String<A>, AllocError>
+    ensures nonce { IfOk result (λ text. string_bytes text ≡ nonce_of algorithms feature (next_words 16 (R.stream rng.old))) }
+    ensures asks_for_algorithms { IfOk result (λ text. asks_for_algorithms (string_bytes text) ≡ contains IntegrityAlgorithm.Sha256 algorithms) }
+    ensures asks_for_userhash { IfOk result (λ text. asks_for_userhash (string_bytes text) ≡ is_possible feature) }
+    ensures source { R.stream rng.new ≡ after_words 16 (R.stream rng.old) }
+{
+    let words = draw_words(rng);
+    nonce_of_words(alloc, algorithms, feature, &words)
+}

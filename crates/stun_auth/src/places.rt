@@ -1,0 +1,161 @@
+//! What is kept for each address: a nonce with its end, the algorithms that were offered, and the client.
+
+ghost use Rattle.std.specs.Prelude.{◌≡◌, Option, None, Some, OnOk, OnErr};
+ghost use Rattle.std.specs.Option.{option_map, option_copied};
+ghost use Rattle.std.specs.FinMap as map;
+ghost use Rattle.std.specs.String.{string_bytes};
+ghost use Rattle.stun_auth.specs.Seen.{renewed};
+ghost use Rattle.stun_auth.specs.Places.{client_seen, place_seen, with_change, with_client, with_offer};
+
+use crate::algorithm_set::AlgorithmSet;
+use std::alloc::{AllocError, Allocator};
+use std::collections::BTreeMap;
+use std::marker::Model;
+use std::net::SocketAddr;
+use stun_base::algorithm::IntegrityAlgorithm;
+use stun_base::instant::Instant;
+
+/// The user who was validated last at an address.
+#[derive(Drop)]
+pub(crate) struct Client<A: Allocator> {
+    pub(crate) name: String<A>,
+    pub(crate) algorithm: IntegrityAlgorithm,
+}
+
+/// What is kept for an address.
+#[derive(Drop)]
+pub(crate) struct Place<A: Allocator> {
+    pub(crate) nonce: String<A>,
+    pub(crate) expires: Instant,
+    pub(crate) offered: Option<AlgorithmSet>,
+    pub(crate) client: Option<Client<A>>,
+}
+
+impl<A: Allocator> Place<A> {
+    ghost use Rattle.stun_auth.specs.Seen.{renewed};
+    ghost use Rattle.stun_auth.specs.Places.{place_seen, client_seen, with_offer};
+
+    /// The place of an address that had none.
+    fn new(nonce: String<A>, expires: Instant, client: Option<Client<A>>) -> Self
+        ensures { place_seen result ≡ renewed None (string_bytes nonce) expires (option_map client_seen client) }
+    {
+        Place {
+            nonce,
+            expires,
+            offered: None,
+            client,
+        }
+    }
+
+    /// Keeps what was offered, where no client is known.
+    fn offer(&mut self, supported: AlgorithmSet)
+        ensures { place_seen self.new ≡ with_offer supported (place_seen self.old) }
+    {
+        if self.client.is_none() {
+            self.offered = Some(supported);
+        }
+    }
+
+    /// Gives the place another nonce, and another client if there is one.
+    fn renew(&mut self, nonce: String<A>, expires: Instant, client: Option<Client<A>>)
+        ensures { place_seen self.new ≡ renewed (Some (place_seen self.old)) (string_bytes nonce) expires (option_map client_seen client) }
+    {
+        self.nonce = nonce;
+        self.expires = expires;
+        if client.is_some() {
+            self.client = client;
+        }
+    }
+}
+
+/// The places of all addresses, each under its address.
+#[derive(Drop)]
+pub(crate) struct Places<A: Allocator> {
+    by_address: BTreeMap<SocketAddr, Place<A>, A>,
+}
+
+impl<A: Allocator> Model for Places<A> {
+    ghost use Rattle.std.specs.FinMap as map;
+    ghost use Rattle.stun_base.specs.Address.{address_cmp};
+    ghost use Rattle.stun_auth.specs.AddressCode.{coded_address};
+    ghost use Rattle.stun_auth.specs.Seen.{PlaceSeen, coded_place};
+
+    ghost Value = { map.FinMap address_cmp PlaceSeen };
+
+    ghost coded = { map.code coded_address coded_place };
+
+    ghost use Rattle.stun_auth.specs.Places.{places_seen};
+
+    ghost view = { λ places. places_seen places.by_address.entries };
+}
+
+impl<A: Allocator + Copy> Places<A> {
+    /// No place at all.
+    pub(crate) fn new(alloc: A) -> Self
+        ensures { result ≡ map.empty }
+    {
+        Places {
+            by_address: BTreeMap::new(alloc),
+        }
+    }
+
+    /// The place of an address.
+    pub(crate) fn get(&self, address: SocketAddr) -> Option<&Place<A>>
+        ensures { option_map place_seen (option_copied result) ≡ map.get self.now address }
+    {
+        self.by_address.get(&address)
+    }
+
+    /// Sets the client of an address that has a nonce.
+    pub(crate) fn set_client(&mut self, address: SocketAddr, client: Option<Client<A>>)
+        ensures { self.new ≡ with_change self.old address (with_client (option_map client_seen client)) }
+    {
+        match self.by_address.get_mut(&address) {
+            Some(place) => {
+                place.client = client;
+                return;
+            }
+            None => return,
+        }
+    }
+
+    /// Keeps what was offered to an address that has a nonce and no client.
+    pub(crate) fn offer(&mut self, address: SocketAddr, supported: AlgorithmSet)
+        ensures { self.new ≡ with_change self.old address (with_offer supported) }
+    {
+        match self.by_address.get_mut(&address) {
+            Some(place) => {
+                place.offer(supported);
+                return;
+            }
+            None => return,
+        }
+    }
+
+    /// Gives an address a nonce, which is new there or replaces the one before, and a client if there is one.
+    ///
+    /// Only the first nonce of an address takes memory here.
+    pub(crate) fn renew(
+        &mut self,
+        address: SocketAddr,
+        nonce: String<A>,
+        expires: Instant,
+        client: Option<Client<A>>,
+    ) -> Result<(), AllocError>
+        ensures ok { OnOk result (self.new ≡ map.insert self.old address
+            (renewed (map.get self.old address) (string_bytes nonce) expires (option_map client_seen client))) }
+        ensures err { OnErr result (self.new ≡ self.old) }
+    {
+        match self.by_address.get_mut(&address) {
+            Some(place) => {
+                place.renew(nonce, expires, client);
+                Ok(())
+            }
+            None => {
+                let place = Place::new(nonce, expires, client);
+                self.by_address.insert(address, place)?;
+                Ok(())
+            }
+        }
+    }
+}

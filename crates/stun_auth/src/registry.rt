@@ -1,0 +1,236 @@
+//! The users of a realm, each with a key for each supported algorithm.
+
+ghost use Rattle.std.specs.Prelude.{◌≡◌, Option, None, Some, OnOk, OnErr};
+ghost use Rattle.std.specs.Option.{option_copied};
+ghost use Rattle.std.specs.String.{string_bytes, string_cmp};
+ghost use Rattle.std.specs.List.{find};
+ghost use Rattle.std.specs.Str.{bytes_eq};
+ghost use Rattle.std.specs.BTreeMap.{IsOrdered, keys};
+ghost use Rattle.stun_base.specs.Keys.{userhash};
+ghost use Rattle.stun_auth.specs.Algorithms.{contains, with_algorithm, only};
+ghost use Rattle.stun_auth.specs.Registered.{key_at, key_if, name_with_hash, new_registered, with_user, without_user};
+ghost use Rattle.stun_auth.specs.Users.{AllHaveKeys, passwords_seen};
+
+use crate::algorithm_set::AlgorithmSet;
+use std::alloc::{AllocError, Allocator};
+use std::collections::BTreeMap;
+use std::marker::Model;
+use stun_base::algorithm::IntegrityAlgorithm;
+use stun_base::credentials::LongTermCredentials;
+use stun_base::key::{IntegrityKey, long_term_key, userhash};
+
+/// A user with a key for each supported algorithm. The keys stand inline.
+#[derive(Drop)]
+pub(crate) struct User<A: Allocator> {
+    password: String<A>,
+    sha1: Option<IntegrityKey<A>>,
+    sha256: Option<IntegrityKey<A>>,
+}
+
+/// The key of a user for an algorithm, if it is supported.
+fn key_if<A: Allocator>(
+    alloc: A,
+    supported: AlgorithmSet,
+    algorithm: IntegrityAlgorithm,
+    name: &str,
+    realm: &str,
+    password: &str,
+) -> Option<IntegrityKey<A>>
+    ensures { result ≡ key_if (contains algorithm supported) algorithm name.now realm.now password.now }
+{
+    if supported.contains(algorithm) {
+        Some(long_term_key(alloc, algorithm, name, realm, password))
+    } else {
+        None
+    }
+}
+
+impl<A: Allocator + Copy> User<A> {
+    ghost use Rattle.stun_auth.specs.Users.{HasKeys, key_in};
+
+    fn new(name: &str, realm: &str, password: String<A>, supported: AlgorithmSet) -> Self
+        ensures keys { HasKeys realm.now supported name.now result }
+        ensures password { string_bytes result.password ≡ string_bytes password }
+    {
+        let mut user = User {
+            password,
+            sha1: None,
+            sha256: None,
+        };
+        user.set_keys(name, realm, supported);
+        user
+    }
+
+    /// Makes the keys anew. It takes no memory.
+    fn set_keys(&mut self, name: &str, realm: &str, supported: AlgorithmSet)
+        ensures keys { HasKeys realm.now supported name.now self.new }
+        ensures password { string_bytes self.new.password ≡ string_bytes self.old.password }
+    {
+        let alloc = *self.password.allocator();
+        let password = self.password.as_str();
+        let sha1 = key_if(
+            alloc,
+            supported,
+            IntegrityAlgorithm::Sha1,
+            name,
+            realm,
+            password,
+        );
+        let sha256 = key_if(
+            alloc,
+            supported,
+            IntegrityAlgorithm::Sha256,
+            name,
+            realm,
+            password,
+        );
+        self.sha1 = sha1;
+        self.sha256 = sha256;
+    }
+
+    fn key(&self, algorithm: IntegrityAlgorithm) -> Option<&IntegrityKey<A>>
+        ensures { option_copied result ≡ key_in self.now algorithm }
+    {
+        match algorithm {
+            IntegrityAlgorithm::Sha1 => self.sha1.as_ref(),
+            IntegrityAlgorithm::Sha256 => self.sha256.as_ref(),
+        }
+    }
+}
+
+/// The users of a realm.
+#[derive(Drop)]
+pub(crate) struct Registry<A: Allocator> {
+    realm: String<A>,
+    supported: AlgorithmSet,
+    users: BTreeMap<String<A>, User<A>, A>,
+}
+
+impl<A: Allocator> Model for Registry<A> {
+    ghost use Rattle.std.specs.String.{string_bytes};
+    ghost use Rattle.stun_auth.specs.Registered.{Registered, coded_registered};
+
+    ghost Value = { Registered };
+
+    ghost coded = { coded_registered };
+
+    ghost use Rattle.stun_auth.specs.Users.{passwords_seen, AllHaveKeys};
+
+    ghost view = { λ r. record { realm = string_bytes r.realm; algorithms = r.supported; passwords = passwords_seen r.users.entries } };
+
+    ghost invariant = { λ r. AllHaveKeys (string_bytes r.realm) r.supported r.users };
+}
+
+impl<A: Allocator + Copy> Registry<A> {
+    /// A realm without users, with HMAC-SHA1 alone.
+    pub(crate) fn new(alloc: A, realm: String<A>) -> Self
+        ensures { result ≡ new_registered (string_bytes realm) }
+    {
+        Registry {
+            realm,
+            supported: AlgorithmSet::OnlySha1,
+            users: BTreeMap::new(alloc),
+        }
+    }
+
+    /// The realm.
+    pub(crate) fn realm(&self) -> &str
+        ensures { result.now ≡ self.now.realm }
+    {
+        self.realm.as_str()
+    }
+
+    /// The supported algorithms.
+    pub(crate) fn supported(&self) -> AlgorithmSet
+        ensures { result ≡ self.now.algorithms }
+    {
+        self.supported
+    }
+
+    /// The key of a present user for a supported algorithm.
+    pub(crate) fn key(&self, name: &str, algorithm: IntegrityAlgorithm) -> Option<&IntegrityKey<A>>
+        ensures { option_copied result ≡ key_at self.now name.now algorithm }
+    {
+        match self.users.get(name) {
+            Some(user) => user.key(algorithm),
+            None => None,
+        }
+    }
+
+    /// The name of the first present user with that hash.
+    pub(crate) fn name_with_hash(&self, hash: &[u8; 32]) -> Option<&str>
+        ensures { option_copied result ≡ name_with_hash self.now hash.now }
+    {
+        match name_with_hash(&self.users, self.realm.as_str(), hash) {
+            Some(name) => Some(name.as_str()),
+            None => None,
+        }
+    }
+
+    /// Adds a user, or gives a present one another password and its keys.
+    pub(crate) fn add_user(&mut self, credentials: LongTermCredentials<A>) -> Result<(), AllocError>
+        ensures ok { OnOk result (self.new ≡ with_user self.old credentials) }
+        ensures err { OnErr result (self.new ≡ self.old) }
+    {
+        let (name, password) = credentials.into_parts();
+        self.insert(name, password)
+    }
+
+    fn insert(&mut self, name: String<A>, password: String<A>) -> Result<(), AllocError>
+        ensures ok { OnOk result (self.new ≡ with_user self.old (record { username = string_bytes name; password = string_bytes password })) }
+        ensures err { OnErr result (self.new ≡ self.old) }
+    {
+        let user = User::new(name.as_str(), self.realm.as_str(), password, self.supported);
+        self.users.insert(name, user)?;
+        Ok(())
+    }
+
+    /// Removes a user and the user's keys.
+    pub(crate) fn remove_user(&mut self, name: &str)
+        ensures { self.new ≡ without_user self.old name.now }
+    {
+        let _ = self.users.remove(name);
+    }
+
+    /// Supports these algorithms from here on: all users have keys for just these.
+    pub(crate) fn set_supported(&mut self, supported: AlgorithmSet)
+        ensures { self.new ≡ record self.old { algorithms = supported } }
+    {
+        make_keys(&mut self.users, self.realm.as_str(), supported);
+        self.supported = supported;
+    }
+}
+
+/// Makes the keys of all users anew. It takes no memory.
+fn make_keys<A: Allocator, B: Allocator + Copy>(
+    users: &mut BTreeMap<String<A>, User<B>, A>,
+    realm: &str,
+    supported: AlgorithmSet,
+)
+    ensures keys { AllHaveKeys realm.now supported users.new }
+    ensures passwords { passwords_seen users.new.entries ≡ passwords_seen users.old.entries }
+{
+    users.retain(|name, user| {
+        user.set_keys(name.as_str(), realm, supported);
+        true
+    });
+}
+
+fn name_with_hash<'a, A: Allocator>(
+    users: &'a BTreeMap<String<A>, User<A>, A>,
+    realm: &str,
+    hash: &[u8; 32],
+) -> Option<&'a String<A>>
+    ensures name { option_copied result ≡ find (λ name. bytes_eq (userhash (string_bytes name) realm.now) hash.now) (keys users.now) }
+    ensures ordered { IsOrdered string_cmp users.now }
+{
+    users
+        .keys()
+        .find(|name| has_hash(name.as_str(), realm, hash))
+}
+
+fn has_hash(name: &str, realm: &str, hash: &[u8; 32]) -> bool
+    ensures { result ≡ bytes_eq (userhash name.now realm.now) hash.now }
+{
+    userhash(name, realm) == *hash
+}

@@ -1,0 +1,169 @@
+//! The server's side of long-term authentication (RFC 8489, section 9.2.4).
+
+ghost use Rattle.std.specs.Prelude.{◌≡◌, ◌≤◌, ⊤, Option, None, Some, OnOk, OnErr, Ok};
+ghost use Rattle.std.specs.Duration.{as_nanos};
+ghost use Rattle.std.specs.Option.{option_copied, option_map};
+ghost use Rattle.std.specs.FinMap as map;
+ghost use Rattle.std.specs.String.{string_bytes};
+ghost use Rattle.stun_auth.specs.Algorithms.{listed, only, with_algorithm};
+ghost use Rattle.stun_auth.specs.Seen.{PlaceSeen};
+ghost use Rattle.stun_auth.specs.Places.{with_change, with_client};
+ghost use Rattle.stun_auth.specs.Registered.{with_user, without_user};
+ghost use Rattle.stun_auth.specs.Validation.{new_server};
+
+use crate::algorithm_set::AlgorithmSet;
+use crate::feature::Feature;
+use crate::places::Places;
+use crate::registry::Registry;
+use std::alloc::{AllocError, Allocator, Global};
+use std::marker::Model;
+use std::net::SocketAddr;
+use std::time::Duration;
+use stun_base::algorithm::IntegrityAlgorithm;
+use stun_base::credentials::LongTermCredentials;
+
+mod signing;
+mod validation;
+
+/// The seconds that a nonce may stand at the least.
+const MINIMUM_NONCE_EXPIRY_SECONDS: u64 = 30;
+
+/// The seconds that a nonce stands where nothing else is set.
+const DEFAULT_NONCE_EXPIRY_SECONDS: u64 = 3600;
+
+/// The shortest time that a nonce may stand: 30 seconds.
+pub fn minimum_nonce_expiry_duration() -> Duration
+    ensures { as_nanos result ≡ 30000000000 }
+{
+    Duration::from_secs(MINIMUM_NONCE_EXPIRY_SECONDS)
+}
+
+/// The server's side of long-term authentication: the users of a realm, and for each address the nonce that was made for it.
+///
+/// Contracts see the realm, the supported algorithms, the users' passwords by name, the settings, and the place of each
+/// address: its nonce with the nonce's end, the algorithms that were offered, and the client.
+///
+/// The place of an address stays until the server is dropped. It is made by any message without integrity, so whoever can
+/// send from many addresses makes it grow.
+#[derive(Drop)]
+pub struct LongTermServerAuth<A: Allocator = Global> {
+    alloc: A,
+    registry: Registry<A>,
+    feature: Feature,
+    expiry: Duration,
+    places: Places<A>,
+}
+
+impl<A: Allocator> Model for LongTermServerAuth<A> {
+    ghost use Rattle.std.specs.Duration.{as_nanos};
+    ghost use Rattle.stun_auth.specs.Validation.{ServerSeen, coded_server};
+
+    ghost Value = { ServerSeen };
+
+    ghost coded = { coded_server };
+
+    ghost view = { λ s. record { registered = s.registry; feature = s.feature; expiry = as_nanos s.expiry; places = s.places } };
+}
+
+impl<A: Allocator + Copy> LongTermServerAuth<A> {
+    /// A server of a realm without users: HMAC-SHA1 alone, hashed names where a client wants them, and nonces that stand for
+    /// 3600 seconds. It takes no memory.
+    pub fn new(alloc: A, realm: String<A>) -> Self
+        ensures { result ≡ new_server (string_bytes realm) }
+    {
+        LongTermServerAuth {
+            alloc,
+            registry: Registry::new(alloc, realm),
+            feature: Feature::Auto,
+            expiry: Duration::from_secs(DEFAULT_NONCE_EXPIRY_SECONDS),
+            places: Places::new(alloc),
+        }
+    }
+
+    /// The realm.
+    pub fn realm(&self) -> &str
+        ensures { result.now ≡ self.now.registered.realm }
+    {
+        self.registry.realm()
+    }
+
+    /// The supported algorithms, the strongest first.
+    pub fn supported_integrity(&self) -> &[IntegrityAlgorithm]
+        ensures { result.now ≡ listed self.now.registered.algorithms }
+    {
+        self.registry.supported().as_slice()
+    }
+
+    /// Whether users may be named by a hash.
+    pub fn anonymous_username(&self) -> Feature
+        ensures { result ≡ self.now.feature }
+    {
+        self.feature
+    }
+
+    /// The last nonce that was made for an address, whether it still stands or not.
+    pub fn nonce_for_client(&self, address: SocketAddr) -> Option<&str>
+        ensures { option_copied result ≡ option_map (λ (p : PlaceSeen). p.nonce) (map.get self.now.places address) }
+    {
+        match self.places.get(address) {
+            Some(place) => Some(place.nonce.as_str()),
+            None => None,
+        }
+    }
+
+    /// Adds a user, or gives a present one another password and the keys of it.
+    ///
+    /// The one error is that memory is wanting; the server is then as before.
+    pub fn add_user(&mut self, credentials: LongTermCredentials<A>) -> Result<(), AllocError>
+        ensures ok { OnOk result (self.new ≡ record self.old { registered = with_user self.old.registered credentials }) }
+        ensures err { OnErr result (self.new ≡ self.old) }
+    {
+        self.registry.add_user(credentials)
+    }
+
+    /// Supports one algorithm more. All users get a key for it. It takes no memory.
+    pub fn add_supported_integrity(&mut self, algorithm: IntegrityAlgorithm)
+        ensures { self.new ≡ record self.old { registered = record self.old.registered { algorithms = with_algorithm algorithm self.old.registered.algorithms } } }
+    {
+        let supported = self.registry.supported().with(algorithm);
+        self.registry.set_supported(supported);
+    }
+
+    /// Supports this algorithm alone. All users have a key for just it. It takes no memory.
+    pub fn set_supported_integrity(&mut self, algorithm: IntegrityAlgorithm)
+        ensures { self.new ≡ record self.old { registered = record self.old.registered { algorithms = only algorithm } } }
+    {
+        self.registry.set_supported(AlgorithmSet::only(algorithm));
+    }
+
+    /// Says whether users may be named by a hash. It takes no memory today and never fails.
+    pub fn set_anonymous_username(&mut self, feature: Feature) -> Result<(), AllocError>
+        ensures ok { result ≡ Ok tt }
+        ensures state { self.new ≡ record self.old { feature = feature } }
+    {
+        self.feature = feature;
+        Ok(())
+    }
+
+    /// Removes a user and the user's keys: clients of that name are authenticated no more. It takes no memory.
+    pub fn remove_user(&mut self, name: &str)
+        ensures { self.new ≡ record self.old { registered = without_user self.old.registered name.now } }
+    {
+        self.registry.remove_user(name);
+    }
+
+    /// Forgets the client of an address. The nonce stays. It takes no memory.
+    pub fn remove_client(&mut self, address: SocketAddr)
+        ensures { self.new ≡ record self.old { places = with_change self.old.places address (with_client None) } }
+    {
+        self.places.set_client(address, None);
+    }
+
+    /// Sets how long nonces stand that are made from here on: at least `minimum_nonce_expiry_duration()`, which is 30 seconds.
+    pub fn set_nonce_expiry_duration(&mut self, expiry: Duration)
+        requires { 30000000000 ≤ as_nanos expiry }
+        ensures { self.new ≡ record self.old { expiry = as_nanos expiry } }
+    {
+        self.expiry = expiry;
+    }
+}

@@ -1,0 +1,273 @@
+//! What a server's signing adds to a message (RFC 8489, section 9.2.4).
+
+ghost use Rattle.std.specs.Prelude.{◌≡◌, ◌≤◌, ◌<◌, ◌+◌, ◌-◌, ◌^◌, ◌++◌, length, min, not, true, Some, IfOk, IsOk, OnOk, OnErr, Ok};
+ghost use Rattle.std.specs.Option.{option_map};
+ghost use Rattle.stun_base.specs.Header.{BeginsWithHeader, type_field};
+ghost use Rattle.stun_base.specs.MessageType.{class_of};
+ghost use Rattle.stun_auth.specs.Additions.{IsAdded, IsOutcome, UnlessMemory, growth, outcome_of, page_in, written};
+ghost use Rattle.stun_auth.specs.Places.{client_seen, place_seen};
+ghost use Rattle.stun_auth.specs.Reading.{is_response as is_response_class};
+ghost use Rattle.stun_auth.specs.ServerSigning.{after_signing, algorithms_for, attributes_for, challenge, growth_at, named_algorithm, offer, protected_for, protection_growth, server_growth, server_signed, signed_at};
+ghost use Rattle.stun_auth.specs.Validation.{sight};
+
+use crate::addition::{AddedAttribute, add, add_integrity, attribute_bytes, integrity_bytes};
+use crate::algorithm_set::AlgorithmSet;
+use crate::places::{Client, Place};
+use crate::server::LongTermServerAuth;
+use std::alloc::{AllocError, Allocator};
+use std::net::SocketAddr;
+use stun_types::message::{IntegrityAlgorithm, StunWriteError};
+use stun_types::prelude::*;
+
+/// Whether the message in a writer is a response.
+fn is_response<W: MessageWrite>(writer: &W) -> bool
+    requires { BeginsWithHeader (W.bytes writer.now) }
+    ensures { result ≡ is_response_class (class_of (type_field (W.bytes writer.now))) }
+{
+    writer.is_response()
+}
+
+impl<A: Allocator + Copy> LongTermServerAuth<A> {
+    /// How many bytes signing a message to an address adds, as far as a `usize` reaches.
+    ///
+    /// `is_request` is true for a request or an indication and false for a response. A user or key that is gone, or a realm
+    /// past its limit, is counted all the same.
+    pub fn message_signature_bytes(&self, to: SocketAddr, is_request: bool) -> usize
+        ensures { result ≡ min (server_growth (sight self.now to) (not is_request)) (2 ^ 64 - 1) }
+    {
+        match self.places.get(to) {
+            Some(place) => self.signature_bytes(place, !is_request),
+            None => 0,
+        }
+    }
+
+    /// Adds to a message what its receiver is to know, and the integrity attribute of the address's client.
+    ///
+    /// Where no nonce was made for the address the message stays as it is. A response gets NONCE and REALM. Where the
+    /// address has a client, PASSWORD-ALGORITHM follows if the client's algorithm is HMAC-SHA256, and then the integrity
+    /// attribute under the client's present key, or the refusal `IntegrityFailed` where user or key is gone. Without a
+    /// client a response gets PASSWORD-ALGORITHMS, the supported algorithms, which are then the ones offered to the address.
+    ///
+    /// The first refusal in the order of the attributes is answered, `TooLarge` for a realm past 763 bytes included. It
+    /// drops the writer and leaves the server. The writer holds a message without FINGERPRINT.
+    pub fn sign_outgoing_message<W: MessageWrite>(
+        &mut self,
+        writer: W,
+        to: SocketAddr,
+    ) -> Result<W, StunWriteError>
+        requires { BeginsWithHeader (W.bytes writer) }
+        ensures answer { let response = is_response_class (class_of (type_field (W.bytes writer))) in
+            UnlessMemory result (written W.bytes W.room result ≡ server_signed (sight self.old to) response (page_in W.bytes W.room writer))
+            (W.reserved writer < server_growth (sight self.old to) response) }
+        ensures signed { OnOk result (self.new ≡ after_signing self.old to (is_response_class (class_of (type_field (W.bytes writer))))) }
+        ensures refused { OnErr result (self.new ≡ self.old) }
+    {
+        let mut writer = writer;
+        let is_response = is_response(&writer);
+        self.add_signature(&mut writer, to, is_response)?;
+        if is_response {
+            let supported = self.registry.supported();
+            self.places.offer(to, supported);
+        }
+        Ok(writer)
+    }
+
+    /// Signs a message of which the caller knows that nothing but want of memory refuses it.
+    pub fn sign_outgoing_message_unchecked<W: MessageWrite>(
+        &mut self,
+        writer: W,
+        to: SocketAddr,
+    ) -> Result<W, AllocError>
+        requires header { BeginsWithHeader (W.bytes writer) }
+        requires signable { IsOk (server_signed (sight self.old to) (is_response_class (class_of (type_field (W.bytes writer)))) (page_in W.bytes W.room writer)) }
+        ensures answer { IfOk result (λ signed. Ok (page_in W.bytes W.room signed)
+            ≡ server_signed (sight self.old to) (is_response_class (class_of (type_field (W.bytes writer)))) (page_in W.bytes W.room writer)) }
+        ensures signed { OnOk result (self.new ≡ after_signing self.old to (is_response_class (class_of (type_field (W.bytes writer))))) }
+        ensures refused { OnErr result (self.new ≡ self.old) }
+    {
+        match self.sign_outgoing_message(writer, to) {
+            Ok(signed) => Ok(signed),
+            Err(_) => Err(AllocError),
+        }
+    }
+
+    /// Adds what a message to an address is to have.
+    fn add_signature<W: MessageWrite>(
+        &self,
+        writer: &mut W,
+        to: SocketAddr,
+        is_response: bool,
+    ) -> Result<(), StunWriteError>
+        requires { 20 ≤ length (W.bytes writer.old) }
+        ensures { UnlessMemory result (outcome_of result (page_in W.bytes W.room writer.new) ≡ server_signed (sight self.now to) is_response (page_in W.bytes W.room writer.old))
+            (W.reserved writer.old < server_growth (sight self.now to) is_response) }
+    {
+        match self.places.get(to) {
+            Some(place) => self.sign_at(writer, place, is_response),
+            None => Ok(()),
+        }
+    }
+
+    /// Adds what a message to an address with this place is to have.
+    fn sign_at<W: MessageWrite>(
+        &self,
+        writer: &mut W,
+        place: &Place<A>,
+        is_response: bool,
+    ) -> Result<(), StunWriteError>
+        requires { 20 ≤ length (W.bytes writer.old) }
+        ensures { UnlessMemory result (outcome_of result (page_in W.bytes W.room writer.new) ≡ signed_at is_response self.now.registered (Some (place_seen place.now)) (page_in W.bytes W.room writer.old))
+            (W.reserved writer.old < growth_at is_response self.now.registered (Some (place_seen place.now))) }
+    {
+        self.add_attributes(writer, place, is_response)?;
+        match &place.client {
+            Some(client) => self.add_digest(writer, client),
+            None => Ok(()),
+        }
+    }
+
+    /// Adds the attributes before the integrity attribute.
+    fn add_attributes<W: MessageWrite>(
+        &self,
+        writer: &mut W,
+        place: &Place<A>,
+        is_response: bool,
+    ) -> Result<(), StunWriteError>
+        requires { 20 ≤ length (W.bytes writer.old) }
+        ensures header { 20 ≤ length (W.bytes writer.new) }
+        ensures added { IsAdded (attributes_for is_response self.now.registered (place_seen place.now).nonce (place_seen place.now).client)
+            (page_in W.bytes W.room writer.old) (W.reserved writer.old) result (page_in W.bytes W.room writer.new) (W.reserved writer.new) }
+    {
+        if is_response {
+            self.add_challenge(writer, place.nonce.as_str())?;
+        }
+        match &place.client {
+            Some(client) => add_named_algorithm(writer, client.algorithm),
+            None => {
+                if is_response {
+                    self.add_offer(writer)
+                } else {
+                    Ok(())
+                }
+            }
+        }
+    }
+
+    /// Adds nonce and realm.
+    fn add_challenge<W: MessageWrite>(
+        &self,
+        writer: &mut W,
+        nonce: &str,
+    ) -> Result<(), StunWriteError>
+        requires { 20 ≤ length (W.bytes writer.old) }
+        ensures header { 20 ≤ length (W.bytes writer.new) }
+        ensures added { IsAdded (challenge true self.now.registered nonce.now)
+            (page_in W.bytes W.room writer.old) (W.reserved writer.old) result (page_in W.bytes W.room writer.new) (W.reserved writer.new) }
+    {
+        add(writer, AddedAttribute::Nonce(nonce))?;
+        add(writer, AddedAttribute::Realm(self.registry.realm()))
+    }
+
+    /// Adds the supported algorithms.
+    fn add_offer<W: MessageWrite>(&self, writer: &mut W) -> Result<(), StunWriteError>
+        requires { 20 ≤ length (W.bytes writer.old) }
+        ensures header { 20 ≤ length (W.bytes writer.new) }
+        ensures added { IsAdded (offer true self.now.registered)
+            (page_in W.bytes W.room writer.old) (W.reserved writer.old) result (page_in W.bytes W.room writer.new) (W.reserved writer.new) }
+    {
+        let offered = self.registry.supported().password_algorithms();
+        add(writer, AddedAttribute::PasswordAlgorithms(offered))
+    }
+
+    /// Adds the integrity attribute under the present key of a client.
+    fn add_digest<W: MessageWrite>(
+        &self,
+        writer: &mut W,
+        client: &Client<A>,
+    ) -> Result<(), StunWriteError>
+        requires { 20 ≤ length (W.bytes writer.old) }
+        ensures { UnlessMemory result (outcome_of result (page_in W.bytes W.room writer.new) ≡ protected_for self.now.registered (Some (client_seen client.now)) (page_in W.bytes W.room writer.old))
+            (W.reserved writer.old < protection_growth (Some (client_seen client.now))) }
+    {
+        match self.registry.key(client.name.as_str(), client.algorithm) {
+            Some(key) => add_integrity(writer, key, client.algorithm),
+            None => Err(StunWriteError::IntegrityFailed),
+        }
+    }
+
+    /// How many bytes signing a message to an address with this place adds, as far as a `usize` reaches.
+    fn signature_bytes(&self, place: &Place<A>, is_response: bool) -> usize
+        ensures { result ≡ min (growth_at is_response self.now.registered (Some (place_seen place.now))) (2 ^ 64 - 1) }
+    {
+        self.challenge_bytes(place.nonce.as_str(), is_response)
+            .saturating_add(self.algorithms_bytes(&place.client, is_response))
+            .saturating_add(protection_bytes(&place.client))
+    }
+
+    /// How many bytes nonce and realm take, as far as a `usize` reaches.
+    fn challenge_bytes(&self, nonce: &str, is_response: bool) -> usize
+        ensures { result ≡ min (growth (challenge is_response self.now.registered nonce.now)) (2 ^ 64 - 1) }
+    {
+        if !is_response {
+            return 0;
+        }
+        attribute_bytes(nonce.len()).saturating_add(attribute_bytes(self.registry.realm().len()))
+    }
+
+    /// How many bytes the attributes behind nonce and realm take.
+    fn algorithms_bytes(&self, client: &Option<Client<A>>, is_response: bool) -> usize
+        ensures { result ≡ growth (algorithms_for is_response self.now.registered (option_map client_seen client.now)) }
+    {
+        match client {
+            Some(client) => named_algorithm_bytes(client.algorithm),
+            None => { if is_response { self.offer_bytes() } else { 0 } }
+        }
+    }
+
+    /// How many bytes the offer of the supported algorithms takes.
+    fn offer_bytes(&self) -> usize
+        ensures { result ≡ growth (offer true self.now.registered) }
+    {
+        match self.registry.supported() {
+            AlgorithmSet::OnlySha1 => 8,
+            AlgorithmSet::OnlySha256 => 8,
+            AlgorithmSet::Both => 12,
+        }
+    }
+}
+
+/// Adds the algorithm of a client, where it is named.
+fn add_named_algorithm<W: MessageWrite>(
+    writer: &mut W,
+    algorithm: IntegrityAlgorithm,
+) -> Result<(), StunWriteError>
+    requires { 20 ≤ length (W.bytes writer.old) }
+    ensures header { 20 ≤ length (W.bytes writer.new) }
+    ensures added { IsAdded (named_algorithm algorithm)
+        (page_in W.bytes W.room writer.old) (W.reserved writer.old) result (page_in W.bytes W.room writer.new) (W.reserved writer.new) }
+{
+    match algorithm {
+        IntegrityAlgorithm::Sha1 => Ok(()),
+        IntegrityAlgorithm::Sha256 => add(writer, AddedAttribute::PasswordAlgorithm(algorithm)),
+    }
+}
+
+/// How many bytes the name of a client's algorithm takes.
+fn named_algorithm_bytes(algorithm: IntegrityAlgorithm) -> usize
+    ensures { result ≡ growth (named_algorithm algorithm) }
+{
+    match algorithm {
+        IntegrityAlgorithm::Sha1 => 0,
+        IntegrityAlgorithm::Sha256 => 8,
+    }
+}
+
+/// How many bytes the digest to a client takes.
+fn protection_bytes<A: Allocator>(client: &Option<Client<A>>) -> usize
+    ensures { result ≡ protection_growth (option_map client_seen client.now) }
+{
+    match client {
+        Some(client) => integrity_bytes(client.algorithm),
+        None => 0,
+    }
+}

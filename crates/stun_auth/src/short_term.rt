@@ -1,0 +1,165 @@
+//! Short-term authentication (RFC 8489, section 9.1).
+
+ghost use Rattle.std.specs.Prelude.{◌≡◌, ◌≤◌, ◌+◌, length, IfOk, IsOk, OnOk, OnErr, IsOkUnless, MatchOption, Some, None};
+ghost use Rattle.std.specs.Option.{option_copied, option_map};
+ghost use Rattle.stun_auth.specs.ShortTerm.{ShortTermMaySign, short_term_answer, short_term_growth, short_term_refusal, short_term_signed};
+
+use std::alloc::{AllocError, Allocator, Global};
+use std::marker::Model;
+use stun_types::message::{
+    IntegrityAlgorithm, IntegrityKey, Message, ShortTermCredentials, StunWriteError, ValidateError,
+};
+use stun_types::prelude::*;
+
+/// Signs messages with a password that both sides know, and checks theirs.
+///
+/// Contracts see the bytes of the password and the algorithm, once both are set.
+#[derive(Drop)]
+#[derive_where(Debug)]
+pub struct ShortTermAuth<A: Allocator = Global> {
+    kept: Option<KeptPassword<A>>,
+}
+
+/// Credentials with the key that they give and the algorithm to sign with.
+#[derive(Drop)]
+#[derive_where(Debug)]
+struct KeptPassword<A: Allocator> {
+    credentials: ShortTermCredentials<A>,
+    algorithm: IntegrityAlgorithm,
+    key: IntegrityKey<A>,
+}
+
+impl<A: Allocator> Model for ShortTermAuth<A> {
+    ghost use Rattle.std.specs.Prelude.{Option};
+    ghost use Rattle.stun_auth.specs.ShortTerm.{Secret};
+
+    ghost Value = { Option Secret };
+
+    ghost use Rattle.stun_auth.specs.ShortTerm.Kept.{secret_of, KeyIsPassword};
+
+    ghost view = { λ auth. secret_of auth.kept };
+
+    ghost invariant = { λ auth. KeyIsPassword auth.kept };
+}
+
+impl<A: Allocator> ShortTermAuth<A> {
+    /// Without credentials. It takes no memory.
+    pub fn new(_alloc: A) -> Self
+        ensures { result ≡ None }
+    {
+        ShortTermAuth { kept: None }
+    }
+
+    /// The credentials that were set, and the algorithm to sign with.
+    pub fn credentials(&self) -> Option<(&ShortTermCredentials<A>, IntegrityAlgorithm)>
+        ensures { option_map (λ pair. record { password = pair.0.now; algorithm = pair.1 }) result ≡ self.now }
+    {
+        self.kept
+            .as_ref()
+            .map(|kept| (&kept.credentials, kept.algorithm))
+    }
+
+    /// The key of the credentials.
+    pub fn integrity_key(&self) -> Option<&IntegrityKey<A>>
+        ensures { option_copied result ≡ option_map (λ secret. secret.password) self.now }
+    {
+        self.kept.as_ref().map(|kept| &kept.key)
+    }
+
+    /// How many bytes signing adds to a message, of any class.
+    pub fn message_signature_bytes(&self) -> usize
+        ensures { result ≡ short_term_growth self.now }
+    {
+        match &self.kept {
+            None => 0,
+            Some(kept) => match kept.algorithm {
+                IntegrityAlgorithm::Sha1 => 24,
+                IntegrityAlgorithm::Sha256 => 36,
+            },
+        }
+    }
+
+    /// Adds the integrity attribute to a message, under the password.
+    ///
+    /// Without credentials the message stays as it is. A refusal is the first of `MessageIntegrityExists`, `TooLarge`,
+    /// `TooSmall` and `OutOfMemory` that holds, and drops the writer. The writer holds a message without FINGERPRINT.
+    #[tactic(auto, using(crate::proofs::Growth::length_of_signed))]
+    pub fn sign_outgoing_message<W: MessageWrite>(&mut self, writer: W) -> Result<W, StunWriteError>
+        requires { 20 ≤ length (W.bytes writer) }
+        ensures signed { IfOk result (λ signed. W.bytes signed ≡ short_term_signed self.old (W.bytes writer)) }
+        ensures grows { IfOk result (λ signed. length (W.bytes signed) ≡ length (W.bytes writer) + short_term_growth self.old) }
+        ensures room { IfOk result (λ signed. W.room signed + short_term_growth self.old ≡ W.room writer) }
+        ensures refused { MatchOption (short_term_refusal self.old (W.bytes writer) (W.room writer))
+            (IsOkUnless result StunWriteError.OutOfMemory) (λ reason. result ≡ Err reason) }
+
+        // What is reserved already takes no memory.
+        ensures succeeds { short_term_refusal self.old (W.bytes writer) (W.room writer) ≡ None → short_term_growth self.old ≤ W.reserved writer → IsOk result }
+        ensures stays { self.new ≡ self.old }
+    {
+        let mut writer = writer;
+        if let Some(kept) = &self.kept {
+            writer.add_message_integrity_with_key(&kept.key, kept.algorithm)?;
+        }
+        Ok(writer)
+    }
+
+    /// Adds the integrity attribute to a message of which the caller knows that nothing but want of memory refuses it.
+    #[tactic(auto, using(crate::proofs::Growth::length_of_signed))]
+    pub fn sign_outgoing_message_unchecked<W: MessageWrite>(
+        &mut self,
+        writer: W,
+    ) -> Result<W, AllocError>
+        requires header { 20 ≤ length (W.bytes writer) }
+        requires signable { ShortTermMaySign self.old (W.bytes writer) (W.room writer) }
+        ensures signed { IfOk result (λ signed. W.bytes signed ≡ short_term_signed self.old (W.bytes writer)) }
+        ensures grows { IfOk result (λ signed. length (W.bytes signed) ≡ length (W.bytes writer) + short_term_growth self.old) }
+        ensures room { IfOk result (λ signed. W.room signed + short_term_growth self.old ≡ W.room writer) }
+        ensures succeeds { short_term_growth self.old ≤ W.reserved writer → IsOk result }
+        ensures stays { self.new ≡ self.old }
+    {
+        let mut writer = writer;
+        if let Some(kept) = &self.kept {
+            writer.add_message_integrity_with_key_unchecked(&kept.key, kept.algorithm)?;
+        }
+        Ok(writer)
+    }
+
+    /// The algorithm whose digest stands under the password's bytes, or the refusal of `Message::validate_integrity`.
+    ///
+    /// Without credentials nothing is checked and the answer is `None`. It takes no memory.
+    pub fn validate_incoming_message(
+        &mut self,
+        message: &Message,
+    ) -> Result<Option<IntegrityAlgorithm>, ValidateError>
+        ensures answer { result ≡ short_term_answer self.old message.now }
+        ensures stays { self.new ≡ self.old }
+    {
+        match &self.kept {
+            None => Ok(None),
+            Some(kept) => Ok(Some(message.validate_integrity_with_key(&kept.key)?)),
+        }
+    }
+}
+
+impl<A: Allocator + Copy> ShortTermAuth<A> {
+    /// Sets the password and the algorithm to sign with.
+    ///
+    /// The key is made first, so that on want of memory both stay as they were. A password of up to 32 bytes takes none.
+    pub fn set_credentials(
+        &mut self,
+        credentials: ShortTermCredentials<A>,
+        algorithm: IntegrityAlgorithm,
+    ) -> Result<(), AllocError>
+        ensures ok { OnOk result (self.new ≡ Some (record { password = credentials; algorithm = algorithm })) }
+        ensures err { OnErr result (self.new ≡ self.old) }
+        ensures succeeds_inline { length credentials ≤ 32 → IsOk result }
+    {
+        let key = credentials.make_key()?;
+        self.kept = Some(KeptPassword {
+            credentials,
+            algorithm,
+            key,
+        });
+        Ok(())
+    }
+}

@@ -1,0 +1,72 @@
+//! The algorithms that a client supports.
+ghost use Rattle.std.specs.Prelude.{◌≡◌, ◌∷◌, []};
+ghost use Rattle.stun_auth.specs.Algorithms.{has};
+ghost use Rattle.stun_auth.specs.Supported.{added, in_order};
+
+use stun_base::algorithm::IntegrityAlgorithm;
+
+/// One algorithm, or both in the order of their adding.
+#[derive(Clone, Copy, Debug, PartialEq, Eq)]
+pub(crate) enum Supported {
+    Only(IntegrityAlgorithm),
+    Both { first: IntegrityAlgorithm },
+}
+
+impl Supported {
+    /// One algorithm alone.
+    pub(crate) fn only(algorithm: IntegrityAlgorithm) -> Self
+        ensures { in_order result ≡ algorithm ∷ [] }
+    {
+        Supported::Only(algorithm)
+    }
+
+    /// These, with one more at the end where it is not among them.
+    pub(crate) fn with(self, algorithm: IntegrityAlgorithm) -> Self
+        ensures { in_order result ≡ added algorithm (in_order self) }
+    {
+        match (self, algorithm) {
+            (Supported::Only(IntegrityAlgorithm::Sha1), IntegrityAlgorithm::Sha256) => {
+                Supported::Both {
+                    first: IntegrityAlgorithm::Sha1,
+                }
+            }
+            (Supported::Only(IntegrityAlgorithm::Sha256), IntegrityAlgorithm::Sha1) => {
+                Supported::Both {
+                    first: IntegrityAlgorithm::Sha256,
+                }
+            }
+            (Supported::Only(IntegrityAlgorithm::Sha1), IntegrityAlgorithm::Sha1) => self,
+            (Supported::Only(IntegrityAlgorithm::Sha256), IntegrityAlgorithm::Sha256) => self,
+            (Supported::Both { .. }, _) => self,
+        }
+    }
+
+    /// Whether an algorithm is among these.
+    pub(crate) fn contains(self, algorithm: IntegrityAlgorithm) -> bool
+        ensures { result ≡ has algorithm (in_order self) }
+    {
+        match (self, algorithm) {
+            (Supported::Only(IntegrityAlgorithm::Sha1), IntegrityAlgorithm::Sha256) => false,
+            (Supported::Only(IntegrityAlgorithm::Sha256), IntegrityAlgorithm::Sha1) => false,
+            (Supported::Only(IntegrityAlgorithm::Sha1), IntegrityAlgorithm::Sha1) => true,
+            (Supported::Only(IntegrityAlgorithm::Sha256), IntegrityAlgorithm::Sha256) => true,
+            (Supported::Both { .. }, _) => true,
+        }
+    }
+
+    /// These in the order of their adding.
+    pub(crate) fn as_slice(&self) -> &'static [IntegrityAlgorithm]
+        ensures { result.now ≡ in_order self.now }
+    {
+        match self {
+            Supported::Only(IntegrityAlgorithm::Sha1) => &[IntegrityAlgorithm::Sha1],
+            Supported::Only(IntegrityAlgorithm::Sha256) => &[IntegrityAlgorithm::Sha256],
+            Supported::Both {
+                first: IntegrityAlgorithm::Sha1,
+            } => &[IntegrityAlgorithm::Sha1, IntegrityAlgorithm::Sha256],
+            Supported::Both {
+                first: IntegrityAlgorithm::Sha256,
+            } => &[IntegrityAlgorithm::Sha256, IntegrityAlgorithm::Sha1],
+        }
+    }
+}

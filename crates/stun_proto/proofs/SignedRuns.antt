@@ -1,0 +1,250 @@
+-- What is read of each message of a run, by the laws on what signing adds.
+use Rattle.std.proofs.Common.{◌≡◌, ℕ, zero, suc, ◌-◌, ◌<◌, ◌≤◌, ◌^◌, List, [], ◌∷◌, length, Bool, true, false, Option, Some, None, refl, sym, ◌∙◌, ap, subst, Ok, Err, arith}
+use Rattle.std.specs.Prelude.{cond, codes, IsUtf8, nat_lt, ◌==◌, ◌||◌, ◌&&◌, if◌then◌else◌}
+use Rattle.std.specs.Option.{option_map}
+use Rattle.std.specs.declared.result.Result.{Result}
+use Rattle.std.proofs.lemmas.Bool.{ltb-false, ltb-true}
+use Rattle.std.specs.Str.{IsAscii}
+use Rattle.std.proofs.lemmas.Str.{IsUtf8-from_ascii}
+use Rattle.std.proofs.lemmas.Str.Ascii.{IsAscii-nil}
+use Rattle.sha2.proofs.Facts256.{length-sha256}
+use Rattle.stun_base.specs.Keys.{userhash}
+use Rattle.stun_base.specs.MessageType.{class_of, type_number}
+use Rattle.stun_base.specs.declared.algorithm.IntegrityAlgorithm.{IntegrityAlgorithm}
+use Rattle.stun_base.specs.declared.error.StunWriteError.{StunWriteError}
+use Rattle.stun_base.specs.declared.error.StunWriteError.TheVariants.{TooLarge}
+use Rattle.stun_base.specs.declared.message_type.MessageClass.{MessageClass}
+use Rattle.stun_base.specs.declared.message_type.MessageClass.TheVariants as Class
+use Rattle.stun_types.specs.Attribute.{TypedValue}
+use Rattle.stun_types.specs.ErrorCode.{CodeAndReason, IsError}
+use Rattle.stun_types.specs.Grammar.{spelled}
+use Rattle.stun_types.specs.Writing.{attribute_refusal}
+use Rattle.stun_auth.specs.AddedAttribute as attributes
+use Rattle.stun_auth.specs.Additions.{Addition, Page, added_all, added_one, after, attribute, growth_of, is_too_long, unless_refused, with_addition}
+use Rattle.stun_auth.specs.declared.algorithm_set.AlgorithmSet.{AlgorithmSet}
+use Rattle.stun_auth.specs.declared.algorithm_set.AlgorithmSet.TheVariants.{OnlySha1, OnlySha256, Both}
+use Rattle.stun_auth.specs.Algorithms.{is_sha256, listed}
+use Rattle.stun_auth.specs.Client.{Challenge, ClientState, Naming, plain, hashed, initial}
+use Rattle.stun_auth.specs.ClientSigning.{client_additions, kept_challenge}
+use Rattle.stun_auth.specs.ClientStep.{STALE_NONCE, UNAUTHORIZED, naming_of}
+use Rattle.stun_auth.specs.Reading.{Reading, class_in, error_code, is_error, is_response, is_success, reading_of, stands_under}
+use Rattle.stun_auth.specs.Registered.{Registered, key_at}
+use Rattle.stun_auth.specs.Seen.{ClientSeen, PlaceSeen}
+use Rattle.stun_auth.specs.Server.{Sight}
+use Rattle.stun_auth.specs.ServerSigning.{server_signed}
+use Rattle.stun_auth.specs.Signed.{Added, IsBuilt, IsUnsigned, IsWritable, ReadsAs, added_at, added_by_client, added_by_server, added_for, added_if_kept, added_under, added_under_key, added_without_client, additions_of, error_attribute, is_listed, nothing, only_if, plain_name, hashed_name}
+use Rattle.stun_proto.specs.Negotiation.{asked, error, failure, page_of, request, responded, success}
+use Rattle.stun_proto.proofs.Signed.{IsBare, IsFailure, IsRequest, IsSuccess, SignedIsRead}
+
+-- the laws on signing
+pub record SigningLaws : Type 0 where
+  pub read : (a : Added) (message : List ℕ) (room : ℕ) (page : Page) → IsUnsigned message → IsWritable a
+      → added_all (additions_of a) (record { bytes = message; room = room }) ≡ Ok page → ReadsAs (class_in message) (error_code message) a (reading_of page.bytes)
+  pub bare : (message_type transaction_id : ℕ) → message_type < 2 ^ 14 → IsBuilt (spelled message_type transaction_id []) (class_of message_type) None
+  pub failure : (message_type transaction_id : ℕ) (error : CodeAndReason) → message_type < 2 ^ 14 → IsError error
+      → IsBuilt (spelled message_type transaction_id (error_attribute error ∷ [])) (class_of message_type) (if is_error (class_of message_type) then Some error.code else None)
+  pub client : (request : Bool) (state : ClientState) → client_additions request state ≡ additions_of (added_by_client request state)
+  pub server : (s : Sight) (response : Bool) (page : Page) (a : Added) → added_by_server s response ≡ Some a → server_signed s response page ≡ added_all (additions_of a) page
+
+-- ---- a text of ASCII
+abbrev all_small : List ℕ → Bool
+all_small [] = true
+all_small (b ∷ bytes) = nat_lt b 128 && all_small bytes
+
+both : (a b : Bool) → (a && b) ≡ true → (a ≡ true) × (b ≡ true)
+both true b h = (refl, h)
+both false b h = cc
+
+in_front : (b : ℕ) (bytes : List ℕ) → b < 128 → IsAscii bytes → IsAscii (b ∷ bytes)
+in_front b bytes small ascii zero = small
+in_front b bytes small ascii (suc i) = ascii i
+
+from_small : (bytes : List ℕ) → all_small bytes ≡ true → IsAscii bytes
+from_small [] h = IsAscii-nil
+from_small (b ∷ bytes) h =
+    let split = both (nat_lt b 128) (all_small bytes) h in
+    in_front b bytes (ltb-true b 128 split.0) (from_small bytes split.1)
+
+-- ---- what was added is within its limits
+
+first_fits : (a : TypedValue) (others : List Addition) (page done : Page) → added_all (attribute a ∷ others) page ≡ Ok done → is_too_long a ≡ false
+unfolding added_one
+first_fits a others page done is =
+    elim (is_too_long a) as (λ b. is_too_long a ≡ b → b ≡ false) [
+      | true ↦ λ long. impossible (sym (ap (λ b. after (unless_refused (cond b (Some TooLarge) (attribute_refusal page.bytes page.room a.kind (length a.value)))
+          (record { bytes = with_addition (attribute a) page.bytes; room = page.room - growth_of (attribute a) })) (added_all others)) long) ∙ is)
+      | false ↦ λ _. refl
+    ] refl
+  where
+    impossible : Err TooLarge ≡ Ok done → true ≡ false
+    impossible h = cc
+
+others_added : (addition : Addition) (others : List Addition) (page done : Page) → added_all (addition ∷ others) page ≡ Ok done
+    → (next : Page) × (added_all others next ≡ Ok done)
+others_added addition others page done is = by_result (added_one addition page) is
+  where
+    by_result : (o : Result Page StunWriteError) → after o (added_all others) ≡ Ok done → (next : Page) × (added_all others next ≡ Ok done)
+    by_result (Ok next) h = (next, h)
+    by_result (Err reason) h = cc
+
+long_text : (text : List ℕ) → (false || nat_lt 763 (length text)) ≡ false → length text ≤ 763
+long_text text h = ltb-false 763 (length text) h
+
+long_name : (text : List ℕ) → ((nat_lt 513 (length text)) || false) ≡ false → length text ≤ 513
+long_name text h = ltb-false 513 (length text) (without (nat_lt 513 (length text)) h)
+  where
+    without : (b : Bool) → (b || false) ≡ false → b ≡ false
+    without true h = cc
+    without false h = refl
+
+-- nonce and realm come first
+two_fit : (nonce realm : List ℕ) (others : List Addition) (page done : Page)
+    → added_all (attribute (attributes.nonce nonce) ∷ attribute (attributes.realm realm) ∷ others) page ≡ Ok done
+    → (length nonce ≤ 763) × (length realm ≤ 763) × ((next : Page) × (added_all others next ≡ Ok done))
+two_fit nonce realm others page done is =
+    let behind = others_added (attribute (attributes.nonce nonce)) (attribute (attributes.realm realm) ∷ others) page done is in (
+      long_text nonce (first_fits (attributes.nonce nonce) (attribute (attributes.realm realm) ∷ others) page done is),
+      long_text realm (first_fits (attributes.realm realm) others behind.0 done behind.1),
+      others_added (attribute (attributes.realm realm)) others behind.0 done behind.1,
+    )
+
+module _ (laws : SigningLaws) where
+  -- what is read of a built message that was signed
+  reads_as : (message : List ℕ) (class : MessageClass) (code : Option ℕ) (a : Added) (page : Page) → IsBuilt message class code → IsWritable a
+      → added_all (additions_of a) (page_of message) ≡ Ok page → ReadsAs class code a (reading_of page.bytes)
+  reads_as message class code a page built writable is =
+      subst (λ k. ReadsAs k code a (reading_of page.bytes)) built.class_is
+      (subst (λ e. ReadsAs (class_in message) e a (reading_of page.bytes)) built.error_is (laws.read a message _ page built.unsigned writable is))
+
+  request_built : (id : ℕ) → IsBuilt (request id) Class.Request None
+  unfolding request
+  request_built id = laws.bare (type_number Class.Request 1) id (omega arith)
+
+  success_built : (id : ℕ) → IsBuilt (success id) Class.Success None
+  unfolding success
+  success_built id = laws.bare (type_number Class.Success 1) id (omega arith)
+
+  failure_built : (code id : ℕ) → IsError (error code) → IsBuilt (failure code id) Class.Error (Some code)
+  unfolding failure
+  failure_built code id is = laws.failure (type_number Class.Error 1) id (error code) (omega arith) is
+
+  -- ---- requests
+  asked_by : (id : ℕ) (state : ClientState) (kept : Option Challenge) (page : Page) → kept_challenge state ≡ kept → asked id state ≡ Ok page
+      → added_all (additions_of (added_if_kept true kept)) (page_of (request id)) ≡ Ok page
+  unfolding asked
+  asked_by id state kept page is signed =
+      sym (ap (λ l. added_all l (page_of (request id))) (laws.client true state ∙ ap (λ k. additions_of (added_if_kept true k)) is)) ∙ signed
+
+  bare_read : (id : ℕ) (page : Page) → asked id initial ≡ Ok page → IsBare (reading_of page.bytes)
+  bare_read id page signed =
+      let r = reads_as (request id) Class.Request None nothing page (request_built id) (record { nonce = tt; realm = tt; username = tt; userhash = tt }) (asked_by id initial None page refl signed) in
+      record { response = ap is_response r.class_is; protected = r.integrity_is }
+
+  -- what is added under a challenge, by the naming
+  abbrev by_naming : Challenge → Naming → Added
+  by_naming c n = record (added_under true c) { username = plain_name n; userhash = hashed_name n }
+
+  writable_under : (c : Challenge) (hashes : Bool) (name realm : List ℕ) (page done : Page) → IsUtf8 c.realm → IsUtf8 c.nonce → IsUtf8 name
+      → added_all (additions_of (by_naming c (naming_of hashes name realm))) page ≡ Ok done → IsWritable (by_naming c (naming_of hashes name realm))
+  writable_under c true name realm page done realm_text nonce_text name_text added =
+      let two = two_fit c.nonce c.realm (additions_of (record (by_naming c (naming_of true name realm)) { nonce = None; realm = None })) page done added in
+      record { nonce = (nonce_text, two.0); realm = (realm_text, two.1); username = tt; userhash = length-sha256 _ }
+  writable_under c false name realm page done realm_text nonce_text name_text added =
+      let two = two_fit c.nonce c.realm (additions_of (record (by_naming c (naming_of false name realm)) { nonce = None; realm = None })) page done added in
+      record { nonce = (nonce_text, two.0); realm = (realm_text, two.1); username = (name_text, long_name name (first_fits (attributes.username name) (additions_of (record (by_naming c (naming_of false name realm)) { nonce = None; realm = None; username = None })) two.2.0 done two.2.1)); userhash = tt }
+
+  listed_there : (set : AlgorithmSet) → is_listed (listed set) ≡ true
+  listed_there OnlySha1 = refl
+  listed_there OnlySha256 = refl
+  listed_there Both = refl
+
+  either : (b : Bool) → (b || true) ≡ true
+  either true = refl
+  either false = refl
+
+  request_read : (id : ℕ) (state : ClientState) (c : Challenge) (set : AlgorithmSet) (hashes : Bool) (name realm : List ℕ) (page : Page)
+      → kept_challenge state ≡ Some c → c.algorithms ≡ listed set → c.naming ≡ naming_of hashes name realm
+      → IsUtf8 c.realm → IsUtf8 c.nonce → IsUtf8 name → asked id state ≡ Ok page → IsRequest c (reading_of page.bytes)
+  request_read id state c set hashes name realm page kept listed_is naming_is realm_text nonce_text name_text signed =
+      let added = by_naming c (naming_of hashes name realm) in
+      let done = sym (ap (λ n. added_all (additions_of (by_naming c n)) (page_of (request id))) naming_is) ∙ asked_by id state (Some c) page kept signed in
+      let r = reads_as (request id) Class.Request None added page (request_built id) (writable_under c hashes name realm (page_of (request id)) page realm_text nonce_text name_text done) done in
+      let there = ap is_listed listed_is ∙ listed_there set in
+      record {
+        response = ap is_response r.class_is;
+        protected = r.integrity_is;
+        realm = r.realm_is;
+        nonce = r.nonce_is;
+        username = r.username_is ∙ ap plain_name (sym naming_is);
+        userhash = r.userhash_is ∙ ap hashed_name (sym naming_is);
+        algorithms = r.algorithms_are ∙ ap (λ b. only_if b c.algorithms) there;
+        algorithm = r.algorithm_is ∙ ap (λ b. only_if (is_sha256 c.algorithm || b) c.algorithm) there ∙ ap (λ b. only_if b c.algorithm) (either (is_sha256 c.algorithm));
+        digest = r.digest_stands (record { algorithm = c.algorithm; key = c.key }) refl;
+      }
+
+  -- ---- responses
+  responded_by : (message : List ℕ) (s : Sight) (a : Added) (page : Page) → added_by_server s true ≡ Some a → responded message s ≡ Ok page
+      → added_all (additions_of a) (page_of message) ≡ Ok page
+  unfolding responded
+  responded_by message s a page is signed = sym (laws.server s true (page_of message) a is) ∙ signed
+
+  -- to an address without a client
+  offered : (s : Sight) (p : PlaceSeen) → s.place ≡ Some p → p.client ≡ None → added_by_server s true ≡ Some (added_without_client true s.registered p.nonce)
+  offered s p place client = ap (added_at true s.registered) place ∙ ap (added_for true s.registered p.nonce) client
+
+  -- to a client
+  known : (s : Sight) (p : PlaceSeen) (c : ClientSeen) (key : List ℕ) → s.place ≡ Some p → p.client ≡ Some c → key_at s.registered c.name c.algorithm ≡ Some key
+      → added_by_server s true ≡ Some (added_under_key true s.registered p.nonce c.algorithm key)
+  known s p c key place client found =
+      ap (added_at true s.registered) place ∙ ap (added_for true s.registered p.nonce) client
+      ∙ ap (option_map (added_under_key true s.registered p.nonce c.algorithm)) found
+
+  unauthorized_is : IsError (error UNAUTHORIZED)
+  unauthorized_is = record { from_300 = omega arith; below_700 = omega arith; text = IsUtf8-from_ascii (codes "Unauthorized") (from_small (codes "Unauthorized") refl); short = omega arith }
+
+  stale_is : IsError (error STALE_NONCE)
+  stale_is = record { from_300 = omega arith; below_700 = omega arith; text = IsUtf8-from_ascii (codes "Stale Nonce") (from_small (codes "Stale Nonce") refl); short = omega arith }
+
+  writable_offer : (users : Registered) (nonce : List ℕ) (page done : Page) → IsUtf8 users.realm → IsUtf8 nonce
+      → added_all (additions_of (added_without_client true users nonce)) page ≡ Ok done → IsWritable (added_without_client true users nonce)
+  writable_offer users nonce page done realm_text nonce_text added =
+      let two = two_fit nonce users.realm (additions_of (record (added_without_client true users nonce) { nonce = None; realm = None })) page done added in
+      record { nonce = (nonce_text, two.0); realm = (realm_text, two.1); username = tt; userhash = tt }
+
+  writable_known : (users : Registered) (nonce : List ℕ) (a : IntegrityAlgorithm) (key : List ℕ) (page done : Page) → IsUtf8 users.realm → IsUtf8 nonce
+      → added_all (additions_of (added_under_key true users nonce a key)) page ≡ Ok done → IsWritable (added_under_key true users nonce a key)
+  writable_known users nonce a key page done realm_text nonce_text added =
+      let two = two_fit nonce users.realm (additions_of (record (added_under_key true users nonce a key) { nonce = None; realm = None })) page done added in
+      record { nonce = (nonce_text, two.0); realm = (realm_text, two.1); username = tt; userhash = tt }
+
+  challenge_read : (id : ℕ) (s : Sight) (p : PlaceSeen) (page : Page) → s.place ≡ Some p → p.client ≡ None → IsUtf8 s.registered.realm → IsUtf8 p.nonce
+      → responded (failure UNAUTHORIZED id) s ≡ Ok page
+      → IsFailure UNAUTHORIZED s.registered.realm p.nonce (reading_of page.bytes) × ((reading_of page.bytes).algorithms ≡ Some (listed s.registered.algorithms))
+  challenge_read id s p page place client realm_text nonce_text signed =
+      let message = failure UNAUTHORIZED id in
+      let added = added_without_client true s.registered p.nonce in
+      let done = responded_by message s added page (offered s p place client) signed in
+      let r = reads_as message Class.Error (Some UNAUTHORIZED) added page (failure_built UNAUTHORIZED id unauthorized_is) (writable_offer s.registered p.nonce (page_of message) page realm_text nonce_text done) done in
+      (record { error = r.error_is; realm = r.realm_is; nonce = r.nonce_is }, r.algorithms_are)
+
+  stale_read : (id : ℕ) (s : Sight) (p : PlaceSeen) (c : ClientSeen) (key : List ℕ) (page : Page) → s.place ≡ Some p → p.client ≡ Some c
+      → key_at s.registered c.name c.algorithm ≡ Some key → IsUtf8 s.registered.realm → IsUtf8 p.nonce
+      → responded (failure STALE_NONCE id) s ≡ Ok page → IsFailure STALE_NONCE s.registered.realm p.nonce (reading_of page.bytes)
+  stale_read id s p c key page place client found realm_text nonce_text signed =
+      let message = failure STALE_NONCE id in
+      let added = added_under_key true s.registered p.nonce c.algorithm key in
+      let done = responded_by message s added page (known s p c key place client found) signed in
+      let r = reads_as message Class.Error (Some STALE_NONCE) added page (failure_built STALE_NONCE id stale_is) (writable_known s.registered p.nonce c.algorithm key (page_of message) page realm_text nonce_text done) done in
+      record { error = r.error_is; realm = r.realm_is; nonce = r.nonce_is }
+
+  success_read : (id : ℕ) (s : Sight) (p : PlaceSeen) (c : ClientSeen) (key : List ℕ) (page : Page) → s.place ≡ Some p → p.client ≡ Some c
+      → key_at s.registered c.name c.algorithm ≡ Some key → IsUtf8 s.registered.realm → IsUtf8 p.nonce
+      → responded (success id) s ≡ Ok page → IsSuccess c.algorithm key (reading_of page.bytes)
+  success_read id s p c key page place client found realm_text nonce_text signed =
+      let added = added_under_key true s.registered p.nonce c.algorithm key in
+      let done = responded_by (success id) s added page (known s p c key place client found) signed in
+      let r = reads_as (success id) Class.Success None added page (success_built id) (writable_known s.registered p.nonce c.algorithm key (page_of (success id)) page realm_text nonce_text done) done in
+      record { error = r.error_is; success = ap is_success r.class_is; digest = r.digest_stands (record { algorithm = c.algorithm; key = key }) refl }
+
+  pub signed_is_read : SignedIsRead
+  signed_is_read = record { bare = bare_read; request = request_read; challenge = challenge_read; stale = stale_read; success = success_read }

@@ -1,0 +1,24 @@
+-- Which messages of a run are accepted (RFC 8489, section 9.2.4).
+use Rattle.std.specs.Prelude.{◌≡◌, ◌↔◌, ℕ, List, take, slice_get, false, Some, None}
+use Rattle.std.specs.declared.net.socket_addr.SocketAddr.{SocketAddr}
+use Rattle.std.specs.declared.vec.Vec.{Vec}
+use Rattle.std.specs.declared.alloc.Global.{Global}
+use Rattle.stun_base.specs.declared.algorithm.IntegrityAlgorithm.{IntegrityAlgorithm}
+use Rattle.stun_types.specs.Message.{refusal}
+use Rattle.stun_auth.specs.Reading.{class_in, is_response, reading_of}
+use Rattle.stun_auth.specs.Validation.{AcceptedWith, ServerSeen, sight}
+use Rattle.stun_proto.specs.declared.replay.call.ServerCall.{ServerCall}
+use Rattle.stun_proto.specs.declared.replay.call.ServerCall.TheVariants as Call
+use Rattle.stun_proto.specs.Isolation.{own, sight_over}
+use Rattle.stun_proto.specs.Serving.{Reply, Validated}
+
+-- At each place of the list: a request or an indication from an address is validated with an algorithm exactly where it
+-- carries a realm, the nonce that stands for the address, algorithms that agree, and the digest under the key of the present
+-- user whom it names; all of this at the place that the address's own earlier calls leave.
+abbrev pub ValidatesAccepted : ServerSeen → List ServerCall → List Reply → Type 0
+ValidatesAccepted start calls given =
+    (i : ℕ) (a : SocketAddr) (now : ℕ) (message : Vec ℕ Global) (words : List ℕ) (algorithm : IntegrityAlgorithm)
+    → slice_get calls i ≡ Some (Call.Validate a now message words)
+    → refusal message.items ≡ None → is_response (class_in message.items) ≡ false
+    → (slice_get given i ≡ Some (Validated algorithm))
+    ↔ AcceptedWith (sight_over (sight start a) (own a (take i calls))) now words (reading_of message.items) algorithm

@@ -1,0 +1,64 @@
+-- What an honest client and its server come to (RFC 8489, section 9.2).
+use Rattle.std.specs.Prelude.{◌≡◌, ℕ, ◌≤◌, List, true, Option, Some, None, IsOk}
+use Rattle.std.specs.Option.{is_some, option_and_then}
+use Rattle.std.specs.declared.result.Result.TheVariants.{Ok}
+use Rattle.std.specs.FinMap as map
+use Rattle.std.specs.declared.net.socket_addr.SocketAddr.{SocketAddr}
+use Rattle.stun_base.specs.Credentials.{NameAndPassword}
+use Rattle.stun_base.specs.Keys.{userhash}
+use Rattle.stun_base.specs.Moments.{moment_after}
+use Rattle.stun_base.specs.declared.algorithm.IntegrityAlgorithm.{IntegrityAlgorithm}
+use Rattle.stun_auth.specs.declared.client_answer.LongTermClientAuthErrorReason.TheVariants.{UnsupportedFeature}
+use Rattle.stun_auth.specs.Algorithms.{listed}
+use Rattle.stun_auth.specs.Client.{Challenge, authenticated, initial}
+use Rattle.stun_auth.specs.Registered.{Registered}
+use Rattle.stun_auth.specs.Seen.{ClientSeen, PlaceSeen}
+use Rattle.stun_auth.specs.Validation.{ServerSeen, sight}
+use Rattle.stun_proto.specs.Best.{best}
+use Rattle.stun_proto.specs.Matching.{AreJoined, AreOfOthers, AreTexts}
+use Rattle.stun_proto.specs.Negotiation.{Meeting, Met, negotiated}
+use Rattle.stun_proto.specs.declared.replay.negotiate.Outcome.TheVariants.{Validated, ClientRefused}
+
+-- no two present users share a hash
+abbrev pub HaveOwnHashes : Registered → Type 0
+HaveOwnHashes users = (a b : List ℕ) → is_some (map.get users.passwords a) ≡ true → is_some (map.get users.passwords b) ≡ true
+    → userhash a users.realm ≡ userhash b users.realm → a ≡ b
+
+-- a new client is honest: it has a present user's credentials, comes from an address without a place, and is in time
+pub record IsHonest (m : Meeting) (who : NameAndPassword) (server : ServerSeen) : Type 0 where
+  pub credentials : m.settings.credentials ≡ Some who
+  pub present : map.get server.registered.passwords who.username ≡ Some who.password
+  pub hashes : HaveOwnHashes server.registered
+  pub new_address : map.get server.places m.from ≡ None
+  -- the calls between are those of others: settings, users and the address's place stay
+  pub others_first : AreOfOthers m.from m.first.before
+  pub others_second : AreOfOthers m.from m.second.before
+  -- the second request is read while the nonce stands
+  pub in_time : m.second.now ≤ moment_after m.first.now server.expiry
+  -- no signing is refused
+  pub signed : IsOk (negotiated m initial server).ending
+
+-- the client that a server knows at an address
+abbrev pub client_at : ServerSeen → SocketAddr → Option ClientSeen
+client_at server a = option_and_then (λ (p : PlaceSeen). p.client) (map.get server.places a)
+
+-- both sides have come to an algorithm
+pub record AgreesOn (from : SocketAddr) (who : NameAndPassword) (a : IntegrityAlgorithm) (met : Met) : Type 0 where
+  pub ending : met.ending ≡ Ok (Validated a)
+  pub server_client : client_at met.server from ≡ Some (record { name = who.username; algorithm = a })
+  pub joined : (c : Challenge) × (p : PlaceSeen) × (met.client ≡ authenticated c) × AreJoined (sight met.server from) p c who
+
+-- the client gives up, and keeps nothing
+pub record GivesUp (met : Met) : Type 0 where
+  pub ending : met.ending ≡ Ok (ClientRefused UnsupportedFeature)
+  pub client : met.client ≡ initial
+
+abbrev pub ComesTo : SocketAddr → NameAndPassword → Option IntegrityAlgorithm → Met → Type 0
+ComesTo from who (Some a) met = AgreesOn from who a met
+ComesTo from who None met = GivesUp met
+
+-- an honest client and its server come to the strongest algorithm of both, where there is one; else the client gives up
+abbrev pub StrongestIsAgreed : Type 0
+StrongestIsAgreed = (m : Meeting) (who : NameAndPassword) (server : ServerSeen)
+    → AreTexts server.registered.realm who.username → IsHonest m who server
+    → ComesTo m.from who (best m.settings.supported (listed server.registered.algorithms) m.settings.feature server.feature) (negotiated m initial server)

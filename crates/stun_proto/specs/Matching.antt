@@ -1,0 +1,47 @@
+-- When a client and a server have come to the same challenge (RFC 8489, section 9.2).
+use Rattle.std.specs.Prelude.{◌≡◌, ℕ, List, Bool, true, false, Some, IsUtf8}
+use Rattle.std.specs.List.{All}
+use Rattle.std.specs.FinMap as map
+use Rattle.std.specs.declared.net.socket_addr.SocketAddr.{SocketAddr}
+use Rattle.stun_base.specs.Credentials.{NameAndPassword}
+use Rattle.stun_base.specs.Keys.{long_term_key}
+use Rattle.stun_auth.specs.declared.feature.Feature.{Feature}
+use Rattle.stun_auth.specs.Algorithms.{contains, listed}
+use Rattle.stun_auth.specs.Client.{Challenge}
+use Rattle.stun_auth.specs.ClientStep.{naming_of}
+use Rattle.stun_auth.specs.Nonces.{nonce_of}
+use Rattle.stun_auth.specs.Registered.{Registered}
+use Rattle.stun_auth.specs.Seen.{PlaceSeen}
+use Rattle.stun_auth.specs.Server.{Sight, named_by}
+use Rattle.stun_auth.specs.Signed.{hashed_name, plain_name}
+use Rattle.stun_proto.specs.Isolation.{concerns}
+use Rattle.stun_proto.specs.declared.replay.call.ServerCall.{ServerCall}
+
+-- calls that leave an address, the users and the settings alone
+abbrev pub AreOfOthers : SocketAddr → List ServerCall → Type 0
+AreOfOthers a calls = All (λ call. concerns a call ≡ false) calls
+
+-- realm and user name are texts
+pub record AreTexts (its_realm its_name : List ℕ) : Type 0 where
+  pub realm : IsUtf8 its_realm
+  pub username : IsUtf8 its_name
+
+-- the challenge that a client keeps is the one that the server's place stands for, and the client has a present user's key
+pub record Matches (users : Registered) (feature : Feature) (p : PlaceSeen) (c : Challenge) (who : NameAndPassword) : Type 0 where
+  pub realm : c.realm ≡ users.realm
+  pub nonce : c.nonce ≡ p.nonce
+  -- the nonce was made under the present settings
+  pub made : (words : List ℕ) × (p.nonce ≡ nonce_of users.algorithms feature words)
+  pub offered : p.offered ≡ Some users.algorithms
+  pub algorithms : c.algorithms ≡ listed users.algorithms
+  pub algorithm : contains c.algorithm users.algorithms ≡ true
+  pub naming : (hashes : Bool) × (c.naming ≡ naming_of hashes who.username users.realm)
+  pub named : named_by (hashed_name c.naming) (plain_name c.naming) users feature ≡ Some who
+  pub key : c.key ≡ long_term_key c.algorithm who.username users.realm who.password
+  pub present : map.get users.passwords who.username ≡ Some who.password
+
+-- a client's challenge and what its address can tell of the server match, and the client is known there
+pub record AreJoined (v : Sight) (p : PlaceSeen) (c : Challenge) (who : NameAndPassword) : Type 0 where
+  pub place : v.place ≡ Some p
+  pub client : p.client ≡ Some (record { name = who.username; algorithm = c.algorithm })
+  pub matches : Matches v.registered v.feature p c who

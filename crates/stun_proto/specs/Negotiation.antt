@@ -1,0 +1,163 @@
+-- A client and a server that meet (RFC 8489, sections 9.2.3 to 9.2.6), computed step by step over the bytes of their messages:
+-- a request, its challenge, the request with credentials, its success.
+use Rattle.std.specs.Prelude.{ℕ, ◌-◌, List, [], ◌∷◌, length, true}
+use Rattle.std.specs.declared.result.Result.{Result}
+use Rattle.std.specs.declared.result.Result.TheVariants.{Ok, Err}
+use Rattle.std.specs.declared.net.socket_addr.SocketAddr.{SocketAddr}
+use Rattle.stun_base.specs.MessageType.{type_number}
+use Rattle.stun_base.specs.declared.algorithm.IntegrityAlgorithm.{IntegrityAlgorithm}
+use Rattle.stun_base.specs.declared.error.StunWriteError.{StunWriteError}
+use Rattle.stun_base.specs.declared.message_type.MessageClass.TheVariants as Class
+use Rattle.stun_types.specs.ErrorCode.{CodeAndReason, default_reason}
+use Rattle.stun_types.specs.Grammar.{spelled}
+use Rattle.stun_auth.specs.declared.client_answer.LongTermClientAuthErrorReason.TheVariants as Client
+use Rattle.stun_auth.specs.declared.client_answer.LongTermClientValidation.TheVariants as Read
+use Rattle.stun_auth.specs.declared.server_reason.LongTermServerAuthErrorReason.TheVariants as Server
+use Rattle.stun_auth.specs.declared.server_reason.LongTermServerValidation.TheVariants as Served
+use Rattle.stun_auth.specs.Additions.{Page, added_all}
+use Rattle.stun_auth.specs.Client.{ClientSettings, ClientState}
+use Rattle.stun_auth.specs.ClientSigning.{client_additions}
+use Rattle.stun_auth.specs.ClientStep.{ClientAnswer, ClientStep, UNAUTHORIZED, client_step}
+use Rattle.stun_auth.specs.Reading.{Reading, reading_of}
+use Rattle.stun_auth.specs.Server.{Sight}
+use Rattle.stun_auth.specs.ServerSigning.{after_signing, server_signed}
+use Rattle.stun_auth.specs.Signed.{error_attribute}
+use Rattle.stun_auth.specs.Validation.{Answer, ServerSeen, after_message, answer, sight}
+use Rattle.stun_proto.specs.Serving.{after_calls}
+use Rattle.stun_proto.specs.declared.replay.call.ServerCall.{ServerCall}
+use Rattle.stun_proto.specs.declared.replay.negotiate.Outcome.{Outcome}
+use Rattle.stun_proto.specs.declared.replay.negotiate.Outcome.TheVariants.{Validated, AlreadyValidated, ServerRefused, ClientRefused}
+
+-- ---- who meets
+
+-- a request: its id, the moment at which the server reads it, the random words of a nonce, and the server's calls just before
+pub record Turn : Type 0 where
+  pub id : ℕ
+  pub now : ℕ
+  pub words : List ℕ
+  pub before : List ServerCall
+
+-- what the client is set to, its address, and its two requests
+pub record Meeting : Type 0 where
+  pub settings : ClientSettings
+  pub from : SocketAddr
+  pub first : Turn
+  pub second : Turn
+
+-- how a run ends, with an outcome or with a signing that is refused, and how both sides are left
+pub record Met : Type 0 where
+  pub ending : Result Outcome StunWriteError
+  pub client : ClientState
+  pub server : ServerSeen
+
+-- ---- messages before they are signed
+
+-- the method of a Binding (section 18.2)
+abbrev pub BINDING : ℕ
+BINDING = 1
+
+-- a Binding request without attributes
+unfoldable pub request : ℕ → List ℕ
+request id = spelled (type_number Class.Request BINDING) id []
+
+-- its success, without attributes
+unfoldable pub success : ℕ → List ℕ
+success id = spelled (type_number Class.Success BINDING) id []
+
+-- the error of a code, with the phrase of that code (section 14.8)
+abbrev pub error : ℕ → CodeAndReason
+error code = record { code = code; reason = default_reason code }
+
+-- its error, with ERROR-CODE alone
+unfoldable pub failure : ℕ → ℕ → List ℕ
+failure code id = spelled (type_number Class.Error BINDING) id (error_attribute (error code) ∷ [])
+
+-- ---- signed messages
+
+-- a message in a writer with the room that a vector gives
+abbrev pub page_of : List ℕ → Page
+page_of message = record { bytes = message; room = 65552 - length message }
+
+-- a request that the client signs
+unfoldable pub asked : ℕ → ClientState → Result Page StunWriteError
+asked id state = added_all (client_additions true state) (page_of (request id))
+
+-- a response that the server signs
+unfoldable pub responded : List ℕ → Sight → Result Page StunWriteError
+responded message s = server_signed s true (page_of message)
+
+-- ---- the steps, the last ones first
+
+-- a signing is refused
+abbrev pub unwritten : StunWriteError → ClientState → ServerSeen → Met
+unwritten reason state server = record { ending = Err reason; client = state; server = server }
+
+abbrev pub ended : Outcome → ClientState → ServerSeen → Met
+ended outcome state server = record { ending = Ok outcome; client = state; server = server }
+
+-- the success: read by the client
+abbrev pub outcome_of : IntegrityAlgorithm → ClientAnswer → Outcome
+outcome_of a (Ok (Read.Validated b)) = Validated a
+outcome_of a (Ok (Read.ResendRequest b)) = ClientRefused Client.Unauthorized
+outcome_of a (Err reason) = ClientRefused reason
+
+abbrev pub confirmed : IntegrityAlgorithm → ServerSeen → ClientStep → Met
+confirmed a server step = ended (outcome_of a step.answer) step.state server
+
+-- signed by the server
+abbrev pub succeeded : Meeting → IntegrityAlgorithm → ClientState → ServerSeen → Result Page StunWriteError → Met
+succeeded m a state server (Err reason) = unwritten reason state server
+succeeded m a state server (Ok page) = confirmed a (after_signing server m.from true) (client_step m.settings state (reading_of page.bytes))
+
+-- the second request: answered by the server
+abbrev pub second_answered : Meeting → ClientState → ServerSeen → Answer → Met
+second_answered m state server (Err reason) = ended (ServerRefused reason) state server
+second_answered m state server (Ok (Served.Validated a)) = succeeded m a state server (responded (success m.second.id) (sight server m.from))
+
+abbrev pub second_read : Meeting → ClientState → ServerSeen → Reading → Met
+second_read m state server r =
+    second_answered m state (after_message server m.from m.second.now m.second.words r) (answer (sight server m.from) m.second.now m.second.words r)
+
+-- signed by the client, and read by the server behind the second list of calls
+abbrev pub second_asked : Meeting → ClientState → ServerSeen → Result Page StunWriteError → Met
+second_asked m state server (Err reason) = unwritten reason state server
+second_asked m state server (Ok page) = second_read m state (after_calls server m.second.before) (reading_of page.bytes)
+
+-- the challenge: answered by the client
+abbrev pub challenge_answered : Meeting → ServerSeen → ClientState → ClientAnswer → Met
+challenge_answered m server state (Ok (Read.ResendRequest a)) = second_asked m state server (asked m.second.id state)
+challenge_answered m server state (Ok (Read.Validated a)) = ended (ClientRefused Client.Unauthorized) state server
+challenge_answered m server state (Err reason) = ended (ClientRefused reason) state server
+
+abbrev pub challenge_read : Meeting → ServerSeen → ClientStep → Met
+challenge_read m server step = challenge_answered m server step.state step.answer
+
+-- signed by the server, and read by the client behind the first list of calls
+abbrev pub challenged : Meeting → ClientState → ServerSeen → Result Page StunWriteError → Met
+challenged m state server (Err reason) = unwritten reason state server
+challenged m state server (Ok page) =
+    challenge_read m (after_calls (after_signing server m.from true) m.first.before) (client_step m.settings state (reading_of page.bytes))
+
+-- the first request: answered by the server
+abbrev pub first_answered : Meeting → ClientState → ServerSeen → Answer → Met
+first_answered m state server (Ok (Served.Validated a)) = ended (AlreadyValidated a) state server
+first_answered m state server (Err Server.Unauthorized) =
+    challenged m state server (responded (failure UNAUTHORIZED m.first.id) (sight server m.from))
+first_answered m state server (Err Server.IntegrityFailed) = ended (ServerRefused Server.IntegrityFailed) state server
+first_answered m state server (Err Server.UnsupportedFeature) = ended (ServerRefused Server.UnsupportedFeature) state server
+first_answered m state server (Err Server.BadRequest) = ended (ServerRefused Server.BadRequest) state server
+first_answered m state server (Err Server.StaleNonce) = ended (ServerRefused Server.StaleNonce) state server
+first_answered m state server (Err Server.OutOfMemory) = ended (ServerRefused Server.OutOfMemory) state server
+
+abbrev pub first_read : Meeting → ClientState → ServerSeen → Reading → Met
+first_read m state server r =
+    first_answered m state (after_message server m.from m.first.now m.first.words r) (answer (sight server m.from) m.first.now m.first.words r)
+
+-- signed by the client, and read by the server
+abbrev pub first_asked : Meeting → ClientState → ServerSeen → Result Page StunWriteError → Met
+first_asked m state server (Err reason) = unwritten reason state server
+first_asked m state server (Ok page) = first_read m state server (reading_of page.bytes)
+
+-- ---- the whole run
+abbrev pub negotiated : Meeting → ClientState → ServerSeen → Met
+negotiated m state server = first_asked m state server (asked m.first.id state)

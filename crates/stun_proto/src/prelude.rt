@@ -1,0 +1,1 @@
+//! Nothing yet: the traits of messages stand in `types::prelude`.

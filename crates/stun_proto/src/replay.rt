@@ -1,0 +1,18 @@
+//! Runs: calls that are made in their order, with what each of them answers.
+
+mod apply;
+mod call;
+mod driven;
+mod event;
+mod negotiate;
+mod serving;
+mod signing;
+mod turn;
+mod words;
+
+pub use call::{ServerCall, ServerReply};
+pub use driven::drive;
+pub use event::{AgentEvent, AgentStep, Stopped};
+pub use negotiate::{NegotiateError, Outcome, nonce_is_renewed, strongest_is_agreed};
+pub use serving::serve;
+pub use words::WordSource;

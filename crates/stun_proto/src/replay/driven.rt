@@ -1,0 +1,112 @@
+//! Driven runs: the events at their moments, and a turn at each moment that a request awaits.
+ghost use Rattle.std.specs.Prelude.{◌≡◌, ◌+◌, IfOk, IfErr, OnOk, OnErr};
+ghost use Rattle.stun_proto.specs.Begun.{TurnsBegin, EventBegins, HasBegun};
+ghost use Rattle.stun_proto.specs.Calls.{HasPassed, TakesTurns, TakesWhole};
+ghost use Rattle.stun_proto.specs.Run.{IsDriven};
+ghost use Rattle.stun_proto.specs.Schedule.{AreInOrder, KeepPlans};
+ghost use Rattle.stun_proto.specs.Steps.{steps_of};
+
+use crate::replay::apply::apply;
+use crate::replay::event::{AgentEvent, AgentStep, Stopped};
+use crate::replay::turn::turn;
+use std::alloc::{AllocError, Allocator};
+use stun_agent::agent::StunAgent;
+use stun_base::instant::Instant;
+
+/// Drives an agent: makes the events happen at their moments, and a turn at each moment that a request awaits up
+/// to `until`, and tells what the agent did, in order.
+///
+/// A turn at a moment takes `poll_transmit` until it answers `None`, then `poll` until it answers `WaitUntil`, and
+/// again while that moment is this one; at `Instant::MAX` there is one turn. Before an event the moments that were
+/// awaited before its own have their turns; then comes the event, and a turn at its moment. After the last event
+/// the awaited moments up to `until` have their turns. Without events nothing happens.
+///
+/// The moments of the events must not go back, and none may be past `until`.
+///
+/// A request that no response, cancellation or change meets up to its end is sent exactly at its moments: the first
+/// one, and then at the sums of its timeouts from there; and it times out once, at its end (RFC 8489, section 6.2.1),
+/// whatever other requests do. The clause `plans` says so.
+///
+/// Where memory is wanting it answers `Stopped`: the first `done` events are complete with their turns, and the agent
+/// stands after a beginning of the run's calls.
+pub fn drive<A: Allocator + Copy>(
+    alloc: A,
+    agent: &mut StunAgent<A>,
+    events: &[(Instant, AgentEvent)],
+    until: Instant,
+) -> Result<Vec<AgentStep<A>, A>, Stopped>
+    requires { AreInOrder until 0 events.now }
+    ensures run { IfOk result (λ steps. IsDriven until agent.old events.now (steps_of steps.items) agent.new) }
+    ensures plans { IfOk result (λ steps. KeepPlans until agent.old events.now (steps_of steps.items)) }
+    ensures stopped { IfErr result (λ stopped. HasBegun until stopped.done agent.old events.now agent.new) }
+{
+    let _awaited = agent.next_awaited();
+    let mut steps = Vec::new(alloc);
+    if events.is_empty() {
+        return Ok(steps);
+    }
+    let mut from = 0;
+    let mut done = 0;
+    for (moment, event) in events {
+        match take_event(alloc, agent, from, *moment, event, &mut steps) {
+            Ok(()) => {}
+            Err(_refused) => return Err(Stopped { done }),
+        }
+        from = moment.as_nanos() as u128 + 1;
+        done += 1;
+    }
+    let bound = until.as_nanos() as u128 + 1;
+    match turns(alloc, agent, from, bound, &mut steps) {
+        Ok(()) => Ok(steps),
+        Err(_refused) => Err(Stopped { done }),
+    }
+}
+
+// The turns before an event, the event, and the turn at its moment.
+fn take_event<A: Allocator + Copy>(
+    alloc: A,
+    agent: &mut StunAgent<A>,
+    from: u128,
+    now: Instant,
+    event: &AgentEvent,
+    steps: &mut Vec<AgentStep<A>, A>,
+) -> Result<(), AllocError>
+    requires { HasPassed from agent.old }
+    ensures whole { OnOk result (TakesWhole from now event.now agent.old agent.new (steps_of steps.old.items) (steps_of steps.new.items)) }
+    ensures passed { OnOk result (HasPassed (now + 1) agent.new) }
+    ensures broken { OnErr result (EventBegins from now event.now agent.old agent.new) }
+{
+    turns(alloc, agent, from, now.as_nanos() as u128, steps)?;
+    apply(alloc, agent, now, event, steps)?;
+    turn(alloc, agent, now, steps)?;
+    Ok(())
+}
+
+// The turns at the awaited moments from one on and below another, both in nanoseconds.
+fn turns<A: Allocator + Copy>(
+    alloc: A,
+    agent: &mut StunAgent<A>,
+    from: u128,
+    bound: u128,
+    steps: &mut Vec<AgentStep<A>, A>,
+) -> Result<(), AllocError>
+    requires { HasPassed from agent.old }
+    ensures whole { OnOk result (TakesTurns bound from agent.old agent.new (steps_of steps.old.items) (steps_of steps.new.items)) }
+    ensures broken { OnErr result (TurnsBegin bound from agent.old agent.new) }
+{
+    let mut from = from;
+    loop {
+        let Some(moment) = agent.next_awaited() else {
+            return Ok(());
+        };
+        let nanos = moment.as_nanos() as u128;
+        if nanos < from {
+            return Ok(());
+        }
+        if bound <= nanos {
+            return Ok(());
+        }
+        turn(alloc, agent, moment, steps)?;
+        from = nanos + 1;
+    }
+}

@@ -1,0 +1,115 @@
+//! What happens to an agent that is driven, and what it does.
+
+use std::alloc::{Allocator, Global};
+use std::net::SocketAddr;
+use std::time::Duration;
+use stun_agent::agent::StunError;
+use stun_base::instant::Instant;
+use stun_base::transaction_id::TransactionId;
+
+/// What happens to an agent.
+#[derive(Debug, Drop, PartialEq, Eq)]
+pub enum AgentEvent {
+    /// An indication or a response is to be sent.
+    Send {
+        /// The bytes of the message.
+        bytes: Vec<u8>,
+        /// The address that it goes to.
+        to: SocketAddr,
+    },
+    /// A request is to be sent.
+    SendRequest {
+        /// The bytes of the request.
+        bytes: Vec<u8>,
+        /// The address that it goes to.
+        to: SocketAddr,
+    },
+    /// Bytes were received.
+    Receive {
+        /// The bytes.
+        bytes: Vec<u8>,
+        /// The address that they came from.
+        from: SocketAddr,
+    },
+    /// The request of this transaction is cancelled.
+    Cancel(TransactionId),
+    /// The request of this transaction is not sent again.
+    CancelRetransmissions(TransactionId),
+    /// The request of this transaction gets other timeouts.
+    Configure {
+        /// The transaction.
+        id: TransactionId,
+        /// The wait after the first transmission.
+        initial: Duration,
+        /// How many transmissions there are over UDP.
+        retransmits: u32,
+        /// The wait after the last transmission.
+        last: Duration,
+        /// The longest wait between two transmissions.
+        max: Duration,
+    },
+    /// An address is named as one whose messages were taken.
+    ValidatePeer(SocketAddr),
+}
+
+/// What an agent does, and when.
+#[derive(Drop)]
+#[derive_where(Debug, PartialEq, Eq)]
+pub enum AgentStep<A: Allocator = Global> {
+    /// A request is sent, for the first time or again.
+    Transmitted {
+        /// The moment.
+        at: Instant,
+        /// The transaction of the request.
+        id: TransactionId,
+        /// The address that it goes to.
+        to: SocketAddr,
+        /// The bytes of the request.
+        bytes: Vec<u8, A>,
+    },
+    /// An indication or a response is sent.
+    Sent {
+        /// The moment.
+        at: Instant,
+        /// The address that it goes to.
+        to: SocketAddr,
+        /// The bytes of the message.
+        bytes: Vec<u8, A>,
+    },
+    /// A message was received.
+    Received {
+        /// The moment.
+        at: Instant,
+        /// Whether the agent took it.
+        accepted: bool,
+    },
+    /// A call was refused. Bytes that were received and are no message are `ParseError`; want of memory never
+    /// stands here.
+    Refused {
+        /// The moment.
+        at: Instant,
+        /// The first reason that holds.
+        error: StunError,
+    },
+    /// A request has ended: no response came in time.
+    TimedOut {
+        /// The moment.
+        at: Instant,
+        /// The transaction of the request.
+        id: TransactionId,
+    },
+    /// A request has ended whose user has cancelled it, or its retransmissions.
+    Cancelled {
+        /// The moment.
+        at: Instant,
+        /// The transaction of the request.
+        id: TransactionId,
+    },
+}
+
+/// Memory was wanting in a run.
+#[derive(Clone, Copy, PartialEq, Eq, Debug, Drop)]
+pub struct Stopped {
+    /// How many of the events or calls are complete.
+    pub done: usize,
+}

@@ -1,0 +1,169 @@
+//! A server's run over a list of calls.
+
+ghost use Rattle.std.specs.Prelude.{◌≡◌, ◌≤◌, Ok, Err, IfOk, OnOk, OnErr, IfErr, IsErr, IsOkAnd, length, take};
+ghost use Rattle.std.specs.declared.net.socket_addr.SocketAddr.{SocketAddr as TheAddress};
+ghost use Rattle.stun_types.specs.Message.{refusal};
+ghost use Rattle.stun_auth.specs.Reading.{reading_of};
+ghost use Rattle.stun_auth.specs.Reasons.{ForReason};
+ghost use Rattle.stun_auth.specs.Validation.{after_message, answer, sight};
+ghost use Rattle.stun_proto.specs.Accepting.{ValidatesAccepted};
+ghost use Rattle.stun_proto.specs.Isolation.{IsIsolated, own, sight_over};
+ghost use Rattle.stun_proto.specs.Serving.{after_call, after_calls, places_unless, replies, replies_of, reply, reply_of, reply_of_answer, reply_unless};
+
+use crate::replay::call::{ServerCall, ServerReply};
+use crate::replay::event::Stopped;
+use crate::replay::signing::sign;
+use crate::replay::words::WordSource;
+use std::alloc::{AllocError, Allocator};
+use std::net::SocketAddr;
+use std::time::Duration;
+use stun_auth::auth::{
+    LongTermServerAuth, LongTermServerAuthErrorReason, LongTermServerValidation,
+    minimum_nonce_expiry_duration,
+};
+use stun_auth::laws;
+use stun_base::credentials::LongTermCredentials;
+use stun_base::instant::Instant;
+use stun_types::message::Message;
+
+/// Makes the calls in their order, and answers the reply to each.
+///
+/// The replies to an address are those of a run over its own calls and the calls on users and settings alone: no call of
+/// another address has a part in them. A request or an indication is validated exactly where it carries a realm, the nonce
+/// that stands for its address, algorithms that agree, and the digest under the key of the present user whom it names (RFC
+/// 8489, section 9.2.4), at the place that its address's own earlier calls leave.
+///
+/// The one error is that memory is wanting: the server then stands behind the first `done` calls. The call that wanted memory
+/// is none of them, unless it was complete and only its reply found no room.
+pub fn serve<A: Allocator + Copy>(
+    alloc: A,
+    server: &mut LongTermServerAuth<A>,
+    calls: &[ServerCall],
+) -> Result<Vec<ServerReply<A>, A>, Stopped>
+    ensures replies { IfOk result (λ given. replies_of given.items ≡ replies server.old calls.now) }
+    ensures server { OnOk result (server.new ≡ after_calls server.old calls.now) }
+    ensures isolated { IfOk result (λ given. IsIsolated server.old calls.now (replies_of given.items)) }
+    ensures place { OnOk result ((a : TheAddress) → sight server.new a ≡ sight_over (sight server.old a) (own a calls.now)) }
+    ensures accepted { IfOk result (λ given. ValidatesAccepted server.old calls.now (replies_of given.items)) }
+    ensures stopped { IfErr result (λ e. (e.done ≤ length calls.now) × (server.new ≡ after_calls server.old (take e.done calls.now))) }
+{
+    laws::accepted_messages_are_validated();
+    let mut replies = Vec::new(alloc);
+    for (done, call) in calls.iter().enumerate() {
+        match serve_call(alloc, server, call) {
+            Ok(reply) => match replies.push(reply) {
+                Ok(()) => {}
+                Err(_) => return Err(Stopped { done: done + 1 }),
+            },
+            Err(_) => return Err(Stopped { done }),
+        }
+    }
+    Ok(replies)
+}
+
+/// Makes one call. The one error is that memory is wanting; the server is then as before.
+fn serve_call<A: Allocator + Copy>(
+    alloc: A,
+    server: &mut LongTermServerAuth<A>,
+    call: &ServerCall,
+) -> Result<ServerReply<A>, AllocError>
+    ensures reply { IfOk result (λ given. reply_of given ≡ reply server.old call.now) }
+    ensures server { OnOk result (server.new ≡ after_call server.old call.now) }
+    ensures err { OnErr result (server.new ≡ server.old) }
+{
+    match call {
+        ServerCall::Validate {
+            from,
+            now,
+            message,
+            words,
+        } => validate(server, message.as_slice(), *from, *now, *words),
+        ServerCall::Sign { to, message } => sign(alloc, server, message.as_slice(), *to),
+        ServerCall::AddUser { name, password } => {
+            let name = String::from_str(alloc, name.as_str())?;
+            let password = String::from_str(alloc, password.as_str())?;
+            server.add_user(LongTermCredentials::new(name, password))?;
+            Ok(ServerReply::Done)
+        }
+        ServerCall::RemoveUser(name) => {
+            server.remove_user(name.as_str());
+            Ok(ServerReply::Done)
+        }
+        ServerCall::AddIntegrity(algorithm) => {
+            server.add_supported_integrity(*algorithm);
+            Ok(ServerReply::Done)
+        }
+        ServerCall::SetIntegrity(algorithm) => {
+            server.set_supported_integrity(*algorithm);
+            Ok(ServerReply::Done)
+        }
+        ServerCall::SetAnonymous(feature) => {
+            server.set_anonymous_username(*feature)?;
+            Ok(ServerReply::Done)
+        }
+        ServerCall::RemoveClient(address) => {
+            server.remove_client(*address);
+            Ok(ServerReply::Done)
+        }
+        ServerCall::SetExpiry(expiry) => Ok(set_expiry(server, *expiry)),
+    }
+}
+
+/// Validates bytes that came from an address, where they are a message.
+fn validate<A: Allocator + Copy>(
+    server: &mut LongTermServerAuth<A>,
+    bytes: &[u8],
+    from: SocketAddr,
+    now: Instant,
+    words: [u32; 16],
+) -> Result<ServerReply<A>, AllocError>
+    ensures reply { IfOk result (λ given. reply_of given ≡ reply_unless (refusal bytes.now) (reply_of_answer (answer (sight server.old from) now words (reading_of bytes.now)))) }
+    ensures server { OnOk result (server.new ≡ record server.old { places = places_unless (refusal bytes.now) server.old.places (after_message server.old from now words (reading_of bytes.now)).places }) }
+    ensures err { OnErr result (server.new ≡ server.old) }
+{
+    let message = match Message::from_bytes(bytes) {
+        Ok(message) => message,
+        Err(error) => return Ok(ServerReply::NotAMessage(error)),
+    };
+    let mut source = WordSource::new(words);
+    match server.validate_incoming_message(&message, from, now, &mut source) {
+        Ok(validation) => Ok(validated(validation)),
+        Err(error) => refused(error.reason()),
+    }
+}
+
+fn validated<A: Allocator>(validation: LongTermServerValidation) -> ServerReply<A>
+    ensures { reply_of result ≡ reply_of_answer (Ok validation) }
+{
+    match validation {
+        LongTermServerValidation::Validated(algorithm) => ServerReply::Validated(algorithm),
+    }
+}
+
+/// The reply to a refusal, where it is not want of memory.
+fn refused<A: Allocator>(
+    reason: LongTermServerAuthErrorReason,
+) -> Result<ServerReply<A>, AllocError>
+    ensures { ForReason reason (IsOkAnd result (λ given. reply_of given ≡ reply_of_answer (Err reason))) (IsErr result) }
+{
+    if reason == LongTermServerAuthErrorReason::OutOfMemory {
+        Err(AllocError)
+    } else {
+        Ok(ServerReply::Refused(reason))
+    }
+}
+
+/// Sets how long nonces stand, where that is not too short.
+fn set_expiry<A: Allocator + Copy>(
+    server: &mut LongTermServerAuth<A>,
+    expiry: Duration,
+) -> ServerReply<A>
+    ensures reply { reply_of result ≡ reply server.old (ServerCall.SetExpiry expiry) }
+    ensures server { server.new ≡ after_call server.old (ServerCall.SetExpiry expiry) }
+{
+    if expiry.as_nanos() < minimum_nonce_expiry_duration().as_nanos() {
+        return ServerReply::TooShort;
+    }
+    server.set_nonce_expiry_duration(expiry);
+    ServerReply::Done
+}

@@ -1,0 +1,52 @@
+-- Which lines are printed: bytes that are no message are refused in three words alone.
+use Rattle.std.proofs.Common.{◌≡◌, ℕ, ◌+◌, lit<, List, length, Bool, true, false, Option, Some, None, Result, Ok, Err, IfOk, refl, sym, subst}
+use Rattle.std.specs.Prelude.{Contains, nat_lt, ◌==◌, if◌then◌else◌}
+use Rattle.stun_base.specs.Header.{HEADER_LENGTH, is_stun, length_field}
+use Rattle.stun_base.specs.declared.error.StunParseError.TheVariants.{Truncated, NotStun, TooLarge}
+use Rattle.stun_base.specs.declared.algorithm.IntegrityAlgorithm.{IntegrityAlgorithm}
+use Rattle.stun_base.specs.declared.algorithm.IntegrityAlgorithm.TheVariants.{Sha1, Sha256}
+use Rattle.stun_types.specs.Integrity.{refusal_of, is_well_formed, stands, integrity_refusal, deciding}
+use Rattle.stun_types.specs.Message.{first_refusal}
+use Rattle.stun_types.specs.Walk.{Member, taken, walk}
+use Rattle.stun_tool.specs.declared.verdict.Verdict.{Verdict}
+use Rattle.stun_tool.specs.Verdict.{verdict_on_integrity, verdict_on_refusal, verdict_without_digest, verdict_of, line_of, printed_lines}
+
+abbrev IsListed : Verdict → Type 0
+IsListed verdict = Contains printed_lines (line_of verdict)
+
+without_digest-listed : (well_formed : Bool) (m : Member) → is_well_formed m.1 ≡ well_formed → IsListed (verdict_without_digest (refusal_of (Some m)))
+without_digest-listed true m is = rw is (2, lit< tt, refl)
+without_digest-listed false m is = rw is (4, lit< tt, refl)
+
+-- whatever the deciding member is
+on_integrity-listed : (standing : Option IntegrityAlgorithm) (deciding : Option Member) → IsListed (verdict_on_integrity standing (refusal_of deciding))
+on_integrity-listed (Some Sha1) deciding = (0, lit< tt, refl)
+on_integrity-listed (Some Sha256) deciding = (1, lit< tt, refl)
+on_integrity-listed None None = (3, lit< tt, refl)
+on_integrity-listed None (Some m) = without_digest-listed (is_well_formed m.1) m refl
+
+-- whichever test refuses the bytes first
+on_refusal-listed : (short stun cut long filled : Bool) (verdict : Verdict) → IsListed verdict
+    → IsListed (verdict_on_refusal
+    (first_refusal (if short then Some Truncated else if stun then None else Some NotStun)
+    (if cut then Some Truncated else if long then Some TooLarge else if filled then None else Some Truncated))
+    verdict)
+on_refusal-listed true stun cut long filled verdict listed = (5, lit< tt, refl)
+on_refusal-listed false false cut long filled verdict listed = (6, lit< tt, refl)
+on_refusal-listed false true true long filled verdict listed = (5, lit< tt, refl)
+on_refusal-listed false true false true filled verdict listed = (7, lit< tt, refl)
+on_refusal-listed false true false false true verdict listed = listed
+on_refusal-listed false true false false false verdict listed = (5, lit< tt, refl)
+
+-- the line of the verdict on any bytes
+verdict_of-listed : (bytes password : List ℕ) → IsListed (verdict_of bytes password)
+verdict_of-listed bytes password =
+    on_refusal-listed (nat_lt (length bytes) HEADER_LENGTH) (is_stun bytes) (nat_lt (length bytes) (HEADER_LENGTH + length_field bytes))
+    (nat_lt (HEADER_LENGTH + length_field bytes) (length bytes)) (HEADER_LENGTH + taken (walk bytes) == length bytes)
+    (verdict_on_integrity (stands bytes password) (integrity_refusal bytes)) (on_integrity-listed (stands bytes password) (deciding bytes))
+
+-- an answer with that verdict has a listed line
+pub answer_listed : {E : Type 0} (answer : Result Verdict E) (bytes password : List ℕ)
+    → IfOk answer (λ verdict. verdict ≡ verdict_of bytes password) → IfOk answer (λ verdict. Contains printed_lines (line_of verdict))
+answer_listed (Ok verdict) bytes password is = subst IsListed (sym is) (verdict_of-listed bytes password)
+answer_listed (Err _) bytes password is = tt

@@ -1,0 +1,24 @@
+-- Which command the words name.
+use Rattle.std.specs.Prelude.{ℕ, List, [], ◌∷◌, ◌++◌, Option, Some, None, codes, nat_eq, if◌then◌else◌, string_bytes}
+use Rattle.std.specs.Cmp.Lexicographic.{pointwise}
+use Rattle.std.specs.declared.string.String.{String}
+use Rattle.std.specs.declared.alloc.Global.{Global}
+
+-- the words behind `check`, if the first word is that
+abbrev pub words_of_check : List (String Global) → Option (List (String Global))
+words_of_check [] = None
+words_of_check (command ∷ others) = if pointwise nat_eq (string_bytes command) (codes "check") then Some others else None
+
+-- the words behind `schedule`, if the first word is that
+abbrev pub words_of_schedule : List (String Global) → Option (List (String Global))
+words_of_schedule [] = None
+words_of_schedule (command ∷ others) = if pointwise nat_eq (string_bytes command) (codes "schedule") then Some others else None
+
+-- the words behind `serve`, if the first word is that
+abbrev pub words_of_serve : List (String Global) → Option (List (String Global))
+words_of_serve [] = None
+words_of_serve (command ∷ others) = if pointwise nat_eq (string_bytes command) (codes "serve") then Some others else None
+
+-- the line for wrong words
+abbrev pub usage_line : List ℕ
+usage_line = codes "usage: stun_tool check PASSWORD | schedule TRANSPORT INITIAL_MS MAX_MS RETRANSMITS FINAL_MS | serve REALM" ++ 10 ∷ []

@@ -1,0 +1,41 @@
+//! The command `check`.
+ghost use Rattle.std.specs.Prelude.{◌≡◌, ◌≢◌, ◌≤◌, ◌+◌, ◌↔◌, length, IfSome};
+ghost use Rattle.stun_tool.specs.Check.{Prints};
+
+use crate::input::{CountedRead, Failure, MAX_READS, read_to_end};
+use crate::output::write_text;
+use crate::status::Status;
+use crate::verdict::verdict_on_input;
+use std::alloc::Allocator;
+use std::io::Write;
+
+/// Reads a message as hexadecimal digits, and prints in a line whether its integrity stands under the
+/// password, which is the one word and whose bytes are the key (RFC 8489, section 9.1.1).
+///
+/// Where a read, a write or a growth fails, or the reader's end does not come within `MAX_READS` reads,
+/// it answers `Failed`, and at most a beginning of the line stands.
+pub fn check<R: CountedRead, W: Write, A: Allocator + Copy>(
+    alloc: A,
+    words: &[String],
+    reader: &mut R,
+    writer: &mut W,
+) -> Status
+    ensures wrong_words { (result ≡ Status.WrongWords) ↔ (length words.now ≢ 1) }
+    ensures untouched { result ≡ Status.WrongWords → (reader.new ≡ reader.old) × (writer.new ≡ writer.old) }
+    ensures prints { IfSome (R.remaining reader.old) (λ input. Prints words.now input result (W.contents writer.old) (W.contents writer.new)) }
+    ensures asked { R.asked reader.new ≤ R.asked reader.old + MAX_READS }
+{
+    let [password] = words else {
+        return Status::WrongWords;
+    };
+    let Ok(input) = read_to_end(alloc, reader) else {
+        return Status::Failed;
+    };
+    let Ok(verdict) = verdict_on_input(alloc, input.as_slice(), password.as_bytes()) else {
+        return Status::Failed;
+    };
+    match write_text(writer, verdict.line().as_bytes()) {
+        Ok(()) => verdict.status(),
+        Err(Failure) => Status::Failed,
+    }
+}

@@ -1,0 +1,83 @@
+//! The one way in which commands read.
+ghost use Rattle.std.specs.Prelude.{◌≡◌, ◌≤◌, ◌+◌, ℕ, IfOk, IfSome};
+ghost use Rattle.std.specs.Io.{ReadsAtMost};
+ghost use Rattle.std.specs.Io.KnownBytes.{ReadConsumes};
+
+use std::alloc::{AllocError, Allocator};
+use std::io;
+use std::io::{ErrorKind, Read};
+
+/// How often a command asks its reader, at most.
+pub const MAX_READS: u32 = 1_048_576;
+
+/// The bytes that one read may give.
+const READ_SIZE: usize = 256;
+
+/// A read or a write failed, or memory was wanting.
+#[derive(Clone, Copy, Debug, PartialEq, Eq)]
+pub struct Failure;
+
+impl From<AllocError> for Failure {
+    fn from(_error: AllocError) -> Failure {
+        Failure
+    }
+}
+
+/// A reader whose reads contracts can count.
+pub trait CountedRead: Read {
+    // How often the reader has been asked. A reader that does not tell stays at one number.
+    ghost asked: { Self → ℕ };
+
+    /// One read, as `read` makes it, which counts also where it is interrupted.
+    fn ask(&mut self, buf: &mut [u8]) -> io::Result<usize>
+        ensures bound { ReadsAtMost result buf.new }
+        ensures bytes { ReadConsumes (Self.remaining self.old) (Self.remaining self.new) result buf.new }
+        ensures counted { asked self.new ≤ asked self.old + 1 };
+}
+
+/// A reader that does not tell how often it is asked.
+#[derive(Drop)]
+pub struct Uncounted<R: Read + Drop>(pub R);
+
+impl<R: Read + Drop> Read for Uncounted<R> {
+    ghost remaining = { λ reader. R.remaining reader.0 };
+
+    fn read(&mut self, buf: &mut [u8]) -> io::Result<usize> {
+        self.0.read(buf)
+    }
+}
+
+impl<R: Read + Drop> CountedRead for Uncounted<R> {
+    ghost asked = { λ _. 0 };
+
+    fn ask(&mut self, buf: &mut [u8]) -> io::Result<usize> {
+        self.read(buf)
+    }
+}
+
+/// All that the reader has left.
+///
+/// It fails where a read or a growth fails, or the end does not come within `MAX_READS` reads. An
+/// interrupted read is asked again, and is one of them.
+pub fn read_to_end<R: CountedRead, A: Allocator>(
+    alloc: A,
+    reader: &mut R,
+) -> Result<Vec<u8, A>, Failure>
+    ensures all { IfSome (R.remaining reader.old) (λ input. IfOk result (λ bytes. bytes.items ≡ input)) }
+    ensures asked { R.asked reader.new ≤ R.asked reader.old + MAX_READS }
+{
+    let mut bytes = Vec::new(alloc);
+    let mut buffer = [0u8; READ_SIZE];
+    for _turn in 0..MAX_READS {
+        match reader.ask(&mut buffer) {
+            Ok(0) => return Ok(bytes),
+            Ok(count) => bytes.extend_from_slice(&buffer[..count])?,
+            Err(error) => {
+                if error.kind() != ErrorKind::Interrupted {
+                    return Err(Failure);
+                }
+            }
+        }
+    }
+    Err(Failure)
+}

@@ -1,0 +1,94 @@
+//! The program: each command is a function over its words, a reader and a writer.
+#![tactic(auto)]
+
+ghost use Rattle.std.specs.Prelude.{◌≡◌, ◌≢◌, ◌≤◌, ◌+◌, ◌↔◌, length, IfSome, IfNone};
+ghost use Rattle.stun_tool.specs.Check.{Prints};
+ghost use Rattle.stun_tool.specs.Output.{AppendsUnlessFailed};
+ghost use Rattle.stun_tool.specs.Run.{words_of_check, words_of_schedule, words_of_serve, usage_line};
+
+mod check;
+mod digits;
+mod input;
+mod output;
+mod schedule;
+mod script;
+mod serve;
+mod status;
+#[cfg(test)]
+mod tests;
+mod verdict;
+
+use check::check;
+use input::{CountedRead, MAX_READS, Uncounted};
+use output::write_text;
+use schedule::schedule;
+use serve::serve;
+use status::Status;
+use std::alloc::Global;
+use std::io::Write;
+use std::process::ExitCode;
+use std::{env, io};
+
+/// What is written for wrong words.
+const USAGE: &str =
+    "usage: stun_tool check PASSWORD | schedule TRANSPORT INITIAL_MS MAX_MS RETRANSMITS FINAL_MS | serve REALM\n";
+
+/// Runs the command that the words name. For wrong words it writes the usage to `errors`, and does
+/// nothing else.
+fn run<R: CountedRead, W: Write, E: Write>(
+    alloc: Global,
+    words: &[String],
+    reader: &mut R,
+    writer: &mut W,
+    errors: &mut E,
+) -> Status
+    ensures other_command { IfNone (words_of_check words.now) (IfNone (words_of_schedule words.now) (IfNone (words_of_serve words.now) (result ≡ Status.WrongWords))) }
+    ensures wrong_words { IfSome (words_of_check words.now) (λ others. (result ≡ Status.WrongWords) ↔ (length others ≢ 1)) }
+    ensures untouched { result ≡ Status.WrongWords → (reader.new ≡ reader.old) × (writer.new ≡ writer.old) }
+    ensures usage { result ≡ Status.WrongWords → AppendsUnlessFailed (E.contents errors.old) (E.contents errors.new) usage_line }
+    ensures silent { result ≢ Status.WrongWords → errors.new ≡ errors.old }
+    ensures prints { IfSome (words_of_check words.now) (λ others. IfSome (R.remaining reader.old)
+        (λ input. Prints others input result (W.contents writer.old) (W.contents writer.new))) }
+    ensures asked { R.asked reader.new ≤ R.asked reader.old + MAX_READS }
+{
+    let status = match words {
+        [command, others @ ..] if command.as_str() == "check" => {
+            check(alloc, others, reader, writer)
+        }
+        [command, others @ ..] if command.as_str() == "schedule" => {
+            schedule(alloc, others, reader, writer)
+        }
+        [command, others @ ..] if command.as_str() == "serve" => {
+            serve(alloc, others, reader, writer)
+        }
+        _ => Status::WrongWords,
+    };
+    if status == Status::WrongWords {
+        let _ = write_text(errors, USAGE.as_bytes());
+    }
+    status
+}
+
+/// The words after the program's name, or none where one of them is no text.
+fn words_of(rt: &(impl std::rt::Env + AllocGlobal)) -> Vec<String> {
+    let words = match env::args(rt) {
+        Ok(mut words) => {
+            words.next();
+            words.collect(rt.alloc()).ok()
+        }
+        Err(_) => None,
+    };
+    words.unwrap_or_else(|| Vec::new(rt.alloc()))
+}
+
+fn main(rt: HostRuntime) -> ExitCode {
+    let words = words_of(&rt);
+    let status = run(
+        rt.alloc(),
+        words.as_slice(),
+        &mut Uncounted(rt.reader()),
+        &mut io::writer(&rt),
+        &mut rt.stderr(),
+    );
+    ExitCode::from(status.code())
+}

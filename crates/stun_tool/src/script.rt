@@ -1,0 +1,236 @@
+//! The script of `serve`: a call of a server in each line that is not empty.
+
+use crate::input::Failure;
+use hex::FromHexError;
+use std::alloc::{AllocError, Global};
+use std::net::{SocketAddr, SocketAddrV4};
+use std::time::Duration;
+use stun_proto::Instant;
+use stun_proto::auth::Feature;
+use stun_proto::replay::ServerCall;
+use stun_types::message::IntegrityAlgorithm;
+
+/// The nanoseconds of a millisecond.
+const NANOS_PER_MILLI: u64 = 1_000_000;
+
+/// What a script is.
+#[derive(Debug, Drop)]
+pub enum Script {
+    /// The calls of its lines.
+    Calls(Vec<ServerCall>),
+    /// The number of its first line that is none, from 1; empty lines count.
+    WrongLine(usize),
+}
+
+/// Reads a script. Its lines end with a line feed or the end of the input; empty ones are skipped.
+pub fn read_script(alloc: Global, script: &[u8]) -> Result<Script, Failure> {
+    let mut calls = Vec::new(alloc);
+    let mut number: usize = 0;
+    for line in script.split(|byte| *byte == b'\n') {
+        number = number.saturating_add(1);
+        if line.is_empty() {
+            continue;
+        }
+        match read_line(alloc, line)? {
+            Some(call) => {
+                if calls.push(call).is_err() {
+                    return Err(Failure);
+                }
+            }
+            None => return Ok(Script::WrongLine(number)),
+        }
+    }
+    Ok(Script::Calls(calls))
+}
+
+/// The call of a line, whose words are parted by single spaces.
+fn read_line(alloc: Global, line: &[u8]) -> Result<Option<ServerCall>, AllocError> {
+    let Ok(text) = str::from_utf8(line) else {
+        return Ok(None);
+    };
+    let mut words = Vec::new(alloc);
+    for word in text.split(' ') {
+        if word.is_empty() {
+            return Ok(None);
+        }
+        words.push(word)?;
+    }
+    match words.as_slice() {
+        [command, arguments @ ..] => call_of(alloc, command, arguments),
+        [] => Ok(None),
+    }
+}
+
+/// The call that a command with these words is.
+fn call_of(
+    alloc: Global,
+    command: &str,
+    arguments: &[&str],
+) -> Result<Option<ServerCall>, AllocError> {
+    match command {
+        "user" => add_user(alloc, arguments),
+        "remove-user" => remove_user(alloc, arguments),
+        "validate" => validate(alloc, arguments),
+        "sign" => sign(alloc, arguments),
+        "integrity" => Ok(integrity(arguments)),
+        "anonymous" => Ok(anonymous(arguments)),
+        "remove-client" => Ok(remove_client(arguments)),
+        "expiry" => Ok(expiry(arguments)),
+        _ => Ok(None),
+    }
+}
+
+fn add_user(alloc: Global, arguments: &[&str]) -> Result<Option<ServerCall>, AllocError> {
+    let [name, password] = arguments else {
+        return Ok(None);
+    };
+    let name = String::from_str(alloc, name)?;
+    let password = String::from_str(alloc, password)?;
+    Ok(Some(ServerCall::AddUser { name, password }))
+}
+
+fn remove_user(alloc: Global, arguments: &[&str]) -> Result<Option<ServerCall>, AllocError> {
+    let [name] = arguments else {
+        return Ok(None);
+    };
+    let name = String::from_str(alloc, name)?;
+    Ok(Some(ServerCall::RemoveUser(name)))
+}
+
+fn validate(alloc: Global, arguments: &[&str]) -> Result<Option<ServerCall>, AllocError> {
+    let [from, milliseconds, letters, digits] = arguments else {
+        return Ok(None);
+    };
+    let (Some(from), Some(now), Some(words)) = (
+        address(from),
+        moment(milliseconds),
+        words_of_letters(letters),
+    ) else {
+        return Ok(None);
+    };
+    match bytes(alloc, digits)? {
+        Some(message) => Ok(Some(ServerCall::Validate {
+            from,
+            now,
+            message,
+            words,
+        })),
+        None => Ok(None),
+    }
+}
+
+fn sign(alloc: Global, arguments: &[&str]) -> Result<Option<ServerCall>, AllocError> {
+    let [to, digits] = arguments else {
+        return Ok(None);
+    };
+    let Some(to) = address(to) else {
+        return Ok(None);
+    };
+    match bytes(alloc, digits)? {
+        Some(message) => Ok(Some(ServerCall::Sign { to, message })),
+        None => Ok(None),
+    }
+}
+
+fn integrity(arguments: &[&str]) -> Option<ServerCall> {
+    let [change, name] = arguments else {
+        return None;
+    };
+    let algorithm = algorithm(name)?;
+    match *change {
+        "add" => Some(ServerCall::AddIntegrity(algorithm)),
+        "set" => Some(ServerCall::SetIntegrity(algorithm)),
+        _ => None,
+    }
+}
+
+fn anonymous(arguments: &[&str]) -> Option<ServerCall> {
+    let [feature] = arguments else {
+        return None;
+    };
+    let feature = match *feature {
+        "auto" => Feature::Auto,
+        "required" => Feature::Required,
+        "disabled" => Feature::Disabled,
+        _ => return None,
+    };
+    Some(ServerCall::SetAnonymous(feature))
+}
+
+fn remove_client(arguments: &[&str]) -> Option<ServerCall> {
+    let [client] = arguments else {
+        return None;
+    };
+    Some(ServerCall::RemoveClient(address(client)?))
+}
+
+fn expiry(arguments: &[&str]) -> Option<ServerCall> {
+    let [seconds] = arguments else {
+        return None;
+    };
+    Some(ServerCall::SetExpiry(Duration::from_secs(number(seconds)?)))
+}
+
+fn algorithm(name: &str) -> Option<IntegrityAlgorithm> {
+    match name {
+        "sha1" => Some(IntegrityAlgorithm::Sha1),
+        "sha256" => Some(IntegrityAlgorithm::Sha256),
+        _ => None,
+    }
+}
+
+/// An IPv4 address and a port, both without leading zeros.
+fn address(word: &str) -> Option<SocketAddr> {
+    let (_, port) = word.split_once(':')?;
+    if port.len() > 1 && port.starts_with('0') {
+        return None;
+    }
+    let address = word.parse::<SocketAddrV4>().ok()?;
+    Some(SocketAddr::V4(address))
+}
+
+/// The number that decimal digits spell, where it takes no more than 64 bits.
+fn number(word: &str) -> Option<u64> {
+    if word.bytes().all(|byte| byte.is_ascii_digit()) {
+        word.parse::<u64>().ok()
+    } else {
+        None
+    }
+}
+
+/// A moment in whole milliseconds, up to `Instant::MAX`.
+fn moment(word: &str) -> Option<Instant> {
+    let nanos = number(word)?.checked_mul(NANOS_PER_MILLI)?;
+    Some(Instant::from_nanos(nanos))
+}
+
+/// Sixteen random words, each spelled by the letter that a nonce has for it.
+fn words_of_letters(letters: &str) -> Option<[u32; 16]> {
+    if letters.len() != 16 {
+        return None;
+    }
+    let mut words = [0; 16];
+    for (word, letter) in words.iter_mut().zip(letters.bytes()) {
+        *word = place_of(letter)?;
+    }
+    Some(words)
+}
+
+/// The place of a letter among `A` to `Z`, `a` to `z` and `0` to `9`.
+fn place_of(letter: u8) -> Option<u32> {
+    match letter {
+        b'A'..=b'Z' => Some(u32::from(letter - b'A')),
+        b'a'..=b'z' => Some(u32::from(letter - b'a') + 26),
+        b'0'..=b'9' => Some(u32::from(letter - b'0') + 52),
+        _ => None,
+    }
+}
+
+/// The bytes that an even number of hexadecimal digits spells, at least two.
+fn bytes(alloc: Global, digits: &str) -> Result<Option<Vec<u8>>, AllocError> {
+    match hex::decode(alloc, digits.as_bytes()) {
+        Ok(bytes) => Ok(Some(bytes)),
+        Err(FromHexError::OutOfMemory) => Err(AllocError),
+        Err(_) => Ok(None),
+    }
+}

@@ -1,0 +1,136 @@
+//! The command `serve`.
+ghost use Rattle.std.specs.Prelude.{◌≡◌, ◌≢◌, ◌≤◌, ◌+◌, ◌↔◌, length};
+
+use crate::input::{CountedRead, Failure, MAX_READS, read_to_end};
+use crate::output::write_text;
+use crate::script::{Script, read_script};
+use crate::status::Status;
+use crate::verdict::Verdict;
+use std::alloc::{AllocError, Global};
+use std::io::Write;
+use stun_proto::auth::{LongTermServerAuth, LongTermServerAuthErrorReason};
+use stun_proto::replay;
+use stun_proto::replay::{ServerCall, ServerReply};
+use stun_types::message::{IntegrityAlgorithm, StunWriteError};
+
+/// Runs a script of calls at a new long-term server of a realm, which is the one word, and prints a line for each reply
+/// (RFC 8489, section 9.2.4).
+///
+/// Where a line is no call, only `wrong line N` is printed for the first such one, nothing is run, and the answer is
+/// `Refused`; refusals by the server are answers. Where a read, a write or a growth fails, or the reader's end does not come
+/// within `MAX_READS` reads, it answers `Failed`, and nothing more is printed.
+pub fn serve<R: CountedRead, W: Write>(
+    alloc: Global,
+    words: &[String],
+    reader: &mut R,
+    writer: &mut W,
+) -> Status
+    ensures wrong_words { (result ≡ Status.WrongWords) ↔ (length words.now ≢ 1) }
+    ensures untouched { result ≡ Status.WrongWords → (reader.new ≡ reader.old) × (writer.new ≡ writer.old) }
+    ensures asked { R.asked reader.new ≤ R.asked reader.old + MAX_READS }
+{
+    let [realm] = words else {
+        return Status::WrongWords;
+    };
+    let Ok(input) = read_to_end(alloc, reader) else {
+        return Status::Failed;
+    };
+    match print_script(alloc, realm.as_str(), input.as_slice(), writer) {
+        Ok(true) => Status::Answered,
+        Ok(false) => Status::Refused,
+        Err(Failure) => Status::Failed,
+    }
+}
+
+/// Prints what a script comes to, and tells whether it was run.
+fn print_script<W: Write>(
+    alloc: Global,
+    realm: &str,
+    script: &[u8],
+    writer: &mut W,
+) -> Result<bool, Failure> {
+    match read_script(alloc, script)? {
+        Script::Calls(calls) => {
+            print_replies(alloc, realm, calls.as_slice(), writer)?;
+            Ok(true)
+        }
+        Script::WrongLine(number) => {
+            let line = format!(in alloc; "wrong line {number}\n")?;
+            write_text(writer, line.as_bytes())?;
+            Ok(false)
+        }
+    }
+}
+
+/// Makes the calls at a new server, and prints a line for each reply.
+fn print_replies<W: Write>(
+    alloc: Global,
+    realm: &str,
+    calls: &[ServerCall],
+    writer: &mut W,
+) -> Result<(), Failure> {
+    let realm = String::from_str(alloc, realm)?;
+    let mut server = LongTermServerAuth::new(alloc, realm);
+    let Ok(replies) = replay::serve(alloc, &mut server, calls) else {
+        return Err(Failure);
+    };
+    for reply in replies.as_slice() {
+        let line = line_of(alloc, reply)?;
+        write_text(writer, line.as_bytes())?;
+    }
+    Ok(())
+}
+
+/// The line for a reply.
+fn line_of(alloc: Global, reply: &ServerReply) -> Result<String, AllocError> {
+    match reply {
+        ServerReply::NotAMessage(error) => {
+            String::from_str(alloc, Verdict::NotAMessage(*error).line())
+        }
+        ServerReply::Validated(IntegrityAlgorithm::Sha1) => {
+            String::from_str(alloc, "validated Sha1\n")
+        }
+        ServerReply::Validated(IntegrityAlgorithm::Sha256) => {
+            String::from_str(alloc, "validated Sha256\n")
+        }
+        ServerReply::Refused(reason) => {
+            let name = reason_name(*reason);
+            format!(in alloc; "refused {name}\n")
+        }
+        ServerReply::Signed(bytes) => {
+            let digits = hex::encode(alloc, bytes.as_slice())?;
+            format!(in alloc; "signed {digits}\n")
+        }
+        ServerReply::SignRefused(error) => {
+            let name = error_name(*error);
+            format!(in alloc; "sign refused {name}\n")
+        }
+        ServerReply::Done => String::from_str(alloc, "ok\n"),
+        ServerReply::TooShort => String::from_str(alloc, "too short\n"),
+    }
+}
+
+/// The name of a reason.
+fn reason_name(reason: LongTermServerAuthErrorReason) -> &'static str {
+    match reason {
+        LongTermServerAuthErrorReason::Unauthorized => "Unauthorized",
+        LongTermServerAuthErrorReason::IntegrityFailed => "IntegrityFailed",
+        LongTermServerAuthErrorReason::UnsupportedFeature => "UnsupportedFeature",
+        LongTermServerAuthErrorReason::BadRequest => "BadRequest",
+        LongTermServerAuthErrorReason::StaleNonce => "StaleNonce",
+        LongTermServerAuthErrorReason::OutOfMemory => "OutOfMemory",
+    }
+}
+
+/// The name of an error.
+fn error_name(error: StunWriteError) -> &'static str {
+    match error {
+        StunWriteError::NotAllowed => "NotAllowed",
+        StunWriteError::MessageIntegrityExists => "MessageIntegrityExists",
+        StunWriteError::AttributeExists(_) => "AttributeExists",
+        StunWriteError::TooLarge => "TooLarge",
+        StunWriteError::TooSmall => "TooSmall",
+        StunWriteError::IntegrityFailed => "IntegrityFailed",
+        StunWriteError::OutOfMemory => "OutOfMemory",
+    }
+}

@@ -1,0 +1,110 @@
+//! The lines of `serve`: a worked script, the first wrong line, and words, readers and writers that fail.
+use super::words;
+use crate::input::Uncounted;
+use crate::serve::serve;
+use crate::status::Status;
+use std::test::Fail;
+
+/// A user, a request without a signature, a 401 that is signed, and an expiry below 30 seconds.
+const SCRIPT: &str = "user user pass
+validate 10.0.0.1:12345 0 AAAAAAAAAAAAAAAA 000100002112a442000000000000000000000001
+sign 10.0.0.1:12345 011100142112a4420000000000000000000000010009001000000401556e617574686f72697a6564
+expiry 29
+";
+
+/// The lines for it: the 401 has NONCE, REALM and PASSWORD-ALGORITHMS more (RFC 8489, section 9.2.4).
+const LINES: &str = "ok
+refused Unauthorized
+signed 0111004c2112a4420000000000000000000000010009001000000401556e617574686f72697a65640015001d6f624d61744a6f73325141414141414141414141414141414141414141000000001400057265616c6d0000008002000400010000
+too short
+";
+
+#[test]
+fn prints_each_reply(rt: HostRuntime) -> Result<(), Fail> {
+    let alloc = rt.alloc();
+    let table = [
+        (SCRIPT, Status::Answered, LINES),
+        ("", Status::Answered, ""),
+        ("\n\n", Status::Answered, ""),
+        (
+            "expiry 30\n\nexpiry 29",
+            Status::Answered,
+            "ok\ntoo short\n",
+        ),
+        (
+            "validate 10.0.0.1:12345 0 AAAAAAAAAAAAAAAA 00",
+            Status::Answered,
+            "not a message: truncated\n",
+        ),
+        ("user user", Status::Refused, "wrong line 1\n"),
+        (
+            "integrity set sha256\n\nanonymous off\n",
+            Status::Refused,
+            "wrong line 3\n",
+        ),
+        ("remove-client 10.0.0.1:0", Status::Answered, "ok\n"),
+        (
+            "remove-client 10.0.0.01:1",
+            Status::Refused,
+            "wrong line 1\n",
+        ),
+        (
+            "remove-client 10.0.0.1:01",
+            Status::Refused,
+            "wrong line 1\n",
+        ),
+        (
+            "remove-client 10.0.0.256:1",
+            Status::Refused,
+            "wrong line 1\n",
+        ),
+        (
+            "remove-client 10.0.0.1:65536",
+            Status::Refused,
+            "wrong line 1\n",
+        ),
+        ("expiry 18446744073709551615", Status::Answered, "ok\n"),
+        (
+            "expiry 18446744073709551616",
+            Status::Refused,
+            "wrong line 1\n",
+        ),
+        ("expiry +1", Status::Refused, "wrong line 1\n"),
+        ("user  user pass", Status::Refused, "wrong line 1\n"),
+        ("user user pass ", Status::Refused, "wrong line 1\n"),
+        ("user user pass\r", Status::Answered, "ok\n"),
+        ("sign 10.0.0.1:1 0", Status::Refused, "wrong line 1\n"),
+        ("sign 10.0.0.1:1 ", Status::Refused, "wrong line 1\n"),
+        (
+            "validate 10.0.0.1:1 18446744073710 AAAAAAAAAAAAAAAA 00",
+            Status::Refused,
+            "wrong line 1\n",
+        ),
+        (
+            "validate 10.0.0.1:1 0 AAAAAAAAAAAAAAA- 00",
+            Status::Refused,
+            "wrong line 1\n",
+        ),
+    ];
+    for (script, status, lines) in &table {
+        let given = words(alloc, &["realm"])?;
+        let mut writer = Vec::new(alloc);
+        let mut reader = Uncounted(script.as_bytes());
+        let answer = serve(alloc, given.as_slice(), &mut reader, &mut writer);
+        assert_eq!(rt; answer, *status, "at {script}");
+        assert_eq!(rt; writer.as_slice(), lines.as_bytes(), "at {script}");
+    }
+    Ok(())
+}
+
+#[test]
+fn refuses_bytes_that_are_no_text(rt: HostRuntime) -> Result<(), Fail> {
+    let alloc = rt.alloc();
+    let given = words(alloc, &["realm"])?;
+    let mut writer = Vec::new(alloc);
+    let mut reader = Uncounted(b"user a b\nuser \xff b\n" as &[u8]);
+    let answer = serve(alloc, given.as_slice(), &mut reader, &mut writer);
+    assert_eq!(rt; answer, Status::Refused);
+    assert_eq!(rt; writer.as_slice(), b"wrong line 2\n".as_slice());
+    Ok(())
+}

@@ -1,0 +1,379 @@
+//! Each request for memory refused in turn: what stands afterwards, and which calls make none.
+ghost use Rattle.std.specs.Prelude.{◌≡◌, ◌≤◌, [], length, IfOk};
+
+use crate::spelled::bytes_of;
+use fail_alloc::RefusingAllocator;
+use std::alloc::{AllocError, Allocator, Global};
+use std::process::Abort;
+use std::test::Fail;
+use stun_types::attribute::{AttributeType, Username};
+use stun_types::data::{Data, OwnedBytes};
+use stun_types::message::{
+    BINDING, IntegrityAlgorithm, IntegrityKey, LongTermCredentials, LongTermKeyCredentials,
+    Message, MessageIntegrityCredentials, MessageWriteMutSlice, MessageWriteVec,
+    ShortTermCredentials, StunWriteError, TransactionId,
+};
+use stun_types::prelude::*;
+
+/// Below this many allocations each run here has met its last one.
+const MOST_ALLOCATIONS: u64 = 100;
+
+/// The bytes of a key that is just too long to stand in the value itself.
+const LONG_KEY: [u8; 33] = [5; 33];
+
+/// A password of just as many bytes.
+const LONG_PASSWORD: &str = "a password of 33 bytes in letters";
+
+/// A Binding request with id 1.
+const HEADER: [u8; 20] = [
+    0, 1, 0, 0, 0x21, 0x12, 0xa4, 0x42, 0, 0, 0, 0, 0, 0, 0, 0, 0, 0, 0, 1,
+];
+
+// Ends the refusals, and says whether none was met.
+fn met_none(heap: &RefusingAllocator<Global>) -> bool {
+    let is_waiting = heap.is_waiting();
+    heap.refuse(0);
+    is_waiting
+}
+
+#[test]
+fn keys(rt: HostRuntime) -> Result<(), Fail> {
+    let heap = RefusingAllocator::new(rt.alloc());
+    heap.refuse(1);
+    let key = IntegrityKey::from_bytes(&heap, &[5; 32])?;
+    assert_eq!(rt; key.as_bytes(), [5; 32].as_slice());
+    assert_eq!(rt; key.clone()?.as_bytes(), [5; 32].as_slice());
+    assert!(rt; heap.is_waiting());
+    assert!(rt; IntegrityKey::from_bytes(&heap, &LONG_KEY).is_err());
+    assert!(rt; !heap.is_waiting());
+    let key = IntegrityKey::from_bytes(&heap, &LONG_KEY)?;
+    assert_eq!(rt; key.as_bytes(), LONG_KEY.as_slice());
+    heap.refuse(1);
+    assert!(rt; key.clone().is_err());
+    assert_eq!(rt; key.as_bytes(), LONG_KEY.as_slice());
+    assert_eq!(rt; key.clone()?.as_bytes(), LONG_KEY.as_slice());
+    Ok(())
+}
+
+#[test]
+fn keys_of_passwords(rt: HostRuntime) -> Result<(), Fail> {
+    let heap = RefusingAllocator::new(rt.alloc());
+    let short = ShortTermCredentials::new(String::from_str(&heap, "password")?);
+    let long = ShortTermCredentials::new(String::from_str(&heap, LONG_PASSWORD)?);
+    heap.refuse(1);
+    assert_eq!(rt; short.make_key()?.as_bytes(), b"password".as_slice());
+    assert!(rt; heap.is_waiting());
+    assert!(rt; long.make_key().is_err());
+    assert!(rt; !heap.is_waiting());
+    assert_eq!(rt; long.password(), LONG_PASSWORD);
+    assert_eq!(rt; long.make_key()?.as_bytes(), LONG_PASSWORD.as_bytes());
+    Ok(())
+}
+
+#[test]
+fn copies_of_a_password(rt: HostRuntime) -> Result<(), Fail> {
+    let heap = RefusingAllocator::new(rt.alloc());
+    let credentials = ShortTermCredentials::new(String::from_str(&heap, "password")?);
+    heap.refuse(1);
+    assert!(rt; credentials.clone().is_err());
+    assert!(rt; !heap.is_waiting());
+    assert_eq!(rt; credentials.password(), "password");
+    assert_eq!(rt; credentials.clone()?.password(), "password");
+    Ok(())
+}
+
+fn user<A: Allocator + Copy>(alloc: A) -> Result<LongTermCredentials<A>, AllocError> {
+    let username = String::from_str(alloc, "user")?;
+    let password = String::from_str(alloc, "pass")?;
+    Ok(LongTermCredentials::new(username, password))
+}
+
+#[test]
+fn copies_of_a_user(rt: HostRuntime) -> Result<(), Fail> {
+    let heap = RefusingAllocator::new(rt.alloc());
+    let user = user(&heap)?;
+    for nth in 1..MOST_ALLOCATIONS {
+        heap.refuse(nth);
+        let answer: Result<_, _> = user.clone();
+        let is_last = met_none(&heap);
+        assert_eq!(rt; (user.username(), user.password()), ("user", "pass"));
+        if let Ok(copy) = answer {
+            assert_eq!(rt; (copy.username(), copy.password()), ("user", "pass"));
+        } else {
+            assert!(rt; !is_last);
+        }
+        if is_last {
+            return Ok(());
+        }
+    }
+    panic!(rt; "each run met a refusal")
+}
+
+#[test]
+fn a_user_at_a_realm(rt: HostRuntime) -> Result<(), Fail> {
+    let heap = RefusingAllocator::new(rt.alloc());
+    let user = user(&heap)?;
+    for nth in 1..MOST_ALLOCATIONS {
+        let realm = String::from_str(&heap, "realm")?;
+        heap.refuse(nth);
+        let answer = user.to_key(realm);
+        let is_last = met_none(&heap);
+        assert_eq!(rt; (user.username(), user.password()), ("user", "pass"));
+        if let Ok(key) = answer {
+            let texts = (key.username(), key.realm(), key.password());
+            assert_eq!(rt; texts, ("user", "realm", "pass"));
+        } else {
+            assert!(rt; !is_last);
+        }
+        if is_last {
+            return Ok(());
+        }
+    }
+    panic!(rt; "each run met a refusal")
+}
+
+fn user_at_realm<A: Allocator + Copy>(alloc: A) -> Result<LongTermKeyCredentials<A>, AllocError> {
+    user(alloc)?.to_key(String::from_str(alloc, "realm")?)
+}
+
+#[test]
+fn copies_of_a_user_at_a_realm(rt: HostRuntime) -> Result<(), Fail> {
+    let heap = RefusingAllocator::new(rt.alloc());
+    let user = user_at_realm(&heap)?;
+    for nth in 1..MOST_ALLOCATIONS {
+        heap.refuse(nth);
+        let answer: Result<_, _> = user.clone();
+        let is_last = met_none(&heap);
+        assert_eq!(rt; user.realm(), "realm");
+        if let Ok(copy) = answer {
+            let texts = (copy.username(), copy.realm(), copy.password());
+            assert_eq!(rt; texts, ("user", "realm", "pass"));
+        } else {
+            assert!(rt; !is_last);
+        }
+        if is_last {
+            return Ok(());
+        }
+    }
+    panic!(rt; "each run met a refusal")
+}
+
+/// The keys of a user at a realm, of 16 and of 32 bytes, take none.
+#[test]
+fn long_term_keys(rt: HostRuntime) -> Result<(), Fail> {
+    let heap = RefusingAllocator::new(rt.alloc());
+    let user = user_at_realm(&heap)?;
+    // MD5 of `user:realm:pass`, as RFC 8489, section 9.2.2, prints it.
+    let expected = bytes_of(rt.alloc(), "8493fbc53ba582fb4c044c456bdc40eb")?;
+    heap.refuse(1);
+    let key = user.make_key(IntegrityAlgorithm::Sha1);
+    assert_eq!(rt; key.as_bytes(), expected.as_slice());
+    assert_eq!(rt;
+        user.make_key(IntegrityAlgorithm::Sha256).as_bytes().len(),
+        32
+    );
+    assert!(rt; heap.is_waiting());
+    Ok(())
+}
+
+// The bytes, owned in memory of this allocator.
+fn owned<'a, A: Allocator>(alloc: A, bytes: &[u8]) -> Result<Data<'a, A>, AllocError> {
+    Data::Borrowed(bytes).into_owned(alloc)
+}
+
+#[test]
+fn borrowed_bytes(rt: HostRuntime) -> Result<(), Fail> {
+    let heap = RefusingAllocator::new(rt.alloc());
+    for nth in 1..MOST_ALLOCATIONS {
+        heap.refuse(nth);
+        let answer = owned(&heap, &LONG_KEY);
+        let is_last = met_none(&heap);
+        if let Ok(data) = answer {
+            assert_eq!(rt; data.bytes(), LONG_KEY.as_slice());
+        } else {
+            assert!(rt; !is_last);
+        }
+        if is_last {
+            return Ok(());
+        }
+    }
+    panic!(rt; "each run met a refusal")
+}
+
+/// Bytes that are owned move as they are.
+#[test]
+fn owned_bytes(rt: HostRuntime) -> Result<(), Fail> {
+    let heap = RefusingAllocator::new(rt.alloc());
+    let data = owned(&heap, &LONG_KEY)?;
+    heap.refuse(1);
+    let data = data.into_owned(&heap)?;
+    assert_eq!(rt; data.bytes(), LONG_KEY.as_slice());
+    assert!(rt; heap.is_waiting());
+    Ok(())
+}
+
+// Begins a Binding request with id 1.
+fn begin<W: MessageWrite>(writer: W) -> Result<W, StunWriteError>
+    requires { W.bytes writer ≡ [] }
+    ensures { IfOk result (λ written. 20 ≤ length (W.bytes written)) }
+{
+    let id = TransactionId::from_u128(1).ok_or(StunWriteError::NotAllowed)?;
+    Message::builder_request(BINDING, id, writer)
+}
+
+// Judges one run of a call: want of memory leaves the header alone, an answer so many bytes. It says whether the run was
+// the last, since it met no refusal.
+fn expect_written(
+    rt: &impl Abort,
+    heap: &RefusingAllocator<Global>,
+    answer: Result<(), StunWriteError>,
+    written: &[u8],
+    length: usize,
+) -> bool {
+    let is_last = met_none(heap);
+    match answer {
+        Ok(()) => {
+            assert_eq!(rt; written.len(), length);
+        }
+        Err(error) => {
+            assert_eq!(rt; error, StunWriteError::OutOfMemory);
+            assert_eq!(rt; written, HEADER.as_slice());
+            assert!(rt; !is_last);
+        }
+    }
+    is_last
+}
+
+#[test]
+fn a_header(rt: HostRuntime) -> Result<(), Fail> {
+    let heap = RefusingAllocator::new(rt.alloc());
+    for nth in 1..MOST_ALLOCATIONS {
+        heap.refuse(nth);
+        let answer = begin(MessageWriteVec::new(&heap));
+        let is_last = met_none(&heap);
+        match answer {
+            Ok(writer) => {
+                assert_eq!(rt; writer.data(), HEADER.as_slice());
+            }
+            Err(error) => {
+                assert_eq!(rt; error, StunWriteError::OutOfMemory);
+                assert!(rt; !is_last);
+            }
+        }
+        if is_last {
+            return Ok(());
+        }
+    }
+    panic!(rt; "each run met a refusal")
+}
+
+#[test]
+fn an_attribute(rt: HostRuntime) -> Result<(), Fail> {
+    let heap = RefusingAllocator::new(rt.alloc());
+    let username = Username::new("a name that the first room lacks")?;
+    for nth in 1..MOST_ALLOCATIONS {
+        let mut writer = begin(MessageWriteVec::new(&heap))?;
+        heap.refuse(nth);
+        let answer = writer.add_attribute(&username);
+        if expect_written(&rt, &heap, answer, writer.data(), 56) {
+            return Ok(());
+        }
+    }
+    panic!(rt; "each run met a refusal")
+}
+
+#[test]
+fn signing_by_credentials(rt: HostRuntime) -> Result<(), Fail> {
+    let heap = RefusingAllocator::new(rt.alloc());
+    let credentials = MessageIntegrityCredentials::from(user_at_realm(&heap)?);
+    for nth in 1..MOST_ALLOCATIONS {
+        let mut writer = begin(MessageWriteVec::new(&heap))?;
+        heap.refuse(nth);
+        let answer = writer.add_message_integrity(&credentials, IntegrityAlgorithm::Sha256);
+        if expect_written(&rt, &heap, answer, writer.data(), 56) {
+            return Ok(());
+        }
+    }
+    panic!(rt; "each run met a refusal")
+}
+
+#[test]
+fn signing_by_a_key(rt: HostRuntime) -> Result<(), Fail> {
+    let heap = RefusingAllocator::new(rt.alloc());
+    let key = IntegrityKey::from_bytes(&heap, &LONG_KEY)?;
+    for nth in 1..MOST_ALLOCATIONS {
+        let mut writer = begin(MessageWriteVec::new(&heap))?;
+        heap.refuse(nth);
+        let answer = writer.add_message_integrity_with_key(&key, IntegrityAlgorithm::Sha1);
+        if expect_written(&rt, &heap, answer, writer.data(), 44) {
+            return Ok(());
+        }
+    }
+    panic!(rt; "each run met a refusal")
+}
+
+#[test]
+fn signing_unchecked(rt: HostRuntime) -> Result<(), Fail> {
+    let heap = RefusingAllocator::new(rt.alloc());
+    let key = IntegrityKey::from_bytes(&heap, &LONG_KEY)?;
+    for nth in 1..MOST_ALLOCATIONS {
+        let mut writer = begin(MessageWriteVec::new(&heap))?;
+        assert!(rt; !writer.has_attribute(AttributeType::MESSAGE_INTEGRITY));
+        assert!(rt; !writer.has_attribute(AttributeType::MESSAGE_INTEGRITY_SHA256));
+        assert_eq!(rt; writer.data().len(), 20);
+        heap.refuse(nth);
+        let answer = writer.add_message_integrity_with_key_unchecked(
+            &key,
+            IntegrityAlgorithm::Sha1,
+        );
+        let answer = answer.map_err(StunWriteError::from);
+        if expect_written(&rt, &heap, answer, writer.data(), 44) {
+            return Ok(());
+        }
+    }
+    panic!(rt; "each run met a refusal")
+}
+
+/// Writing and signing into a slice takes none, whatever the credentials, nor does validation.
+#[test]
+fn a_slice(rt: HostRuntime) -> Result<(), Fail> {
+    let heap = RefusingAllocator::new(rt.alloc());
+    let credentials = MessageIntegrityCredentials::from(user_at_realm(&heap)?);
+    let mut room = [0; 64];
+    heap.refuse(1);
+    let mut writer = begin(MessageWriteMutSlice::new(&mut room))?;
+    writer.add_attribute(&Username::new("a:b")?)?;
+    writer.add_message_integrity(&credentials, IntegrityAlgorithm::Sha256)?;
+    let message = Message::from_bytes(writer.finish())?;
+    let answer = message.validate_integrity(&credentials);
+    assert_eq!(rt; answer, Ok(IntegrityAlgorithm::Sha256));
+    assert!(rt; heap.is_waiting());
+    Ok(())
+}
+
+/// A password of 100 bytes is no key of its own: it is hashed where it stands. The digest is that of Python's `hmac`.
+#[test]
+fn a_long_password(rt: HostRuntime) -> Result<(), Fail> {
+    let heap = RefusingAllocator::new(rt.alloc());
+    let mut password = String::new(&heap);
+    for _ in 0..100 {
+        password.push('p')?;
+    }
+    let credentials = MessageIntegrityCredentials::from(ShortTermCredentials::new(password));
+    let expected = bytes_of(
+        rt.alloc(),
+        "00010020 2112a442 000000000000000000000001 00060003 613a6200
+        00080014 70fcf8badc46191b237604c7c04755d1ba2004b7",
+    )?;
+    let mut room = [0; 52];
+    heap.refuse(1);
+    let mut writer = begin(MessageWriteMutSlice::new(&mut room))?;
+    writer.add_attribute(&Username::new("a:b")?)?;
+    writer.add_message_integrity(&credentials, IntegrityAlgorithm::Sha1)?;
+    assert_eq!(rt; writer.data(), expected.as_slice());
+    let message = Message::from_bytes(expected.as_slice())?;
+    let answer = message.validate_integrity(&credentials);
+    assert_eq!(rt; answer, Ok(IntegrityAlgorithm::Sha1));
+    assert!(rt; heap.is_waiting());
+    Ok(())
+}

@@ -1,0 +1,43 @@
+//! Tests that cross crates.
+#![tactic(auto)]
+
+#[cfg(test)]
+mod agent_loop;
+#[cfg(test)]
+mod agent_memory;
+#[cfg(test)]
+mod agent_requests;
+#[cfg(test)]
+mod agent_statistics;
+#[cfg(test)]
+mod agent_steps;
+#[cfg(test)]
+mod agent_timeouts;
+#[cfg(test)]
+mod allocations;
+#[cfg(test)]
+mod attributes;
+#[cfg(test)]
+mod authenticator_first;
+#[cfg(test)]
+mod digests;
+#[cfg(test)]
+mod headers;
+#[cfg(test)]
+mod hostile;
+#[cfg(test)]
+mod paths;
+#[cfg(test)]
+mod registry;
+#[cfg(test)]
+mod rfc5769;
+#[cfg(test)]
+mod serve;
+#[cfg(test)]
+mod spelled;
+#[cfg(test)]
+mod stats;
+#[cfg(test)]
+mod writers;
+#[cfg(test)]
+mod writing;

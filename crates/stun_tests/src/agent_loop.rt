@@ -22,7 +22,7 @@ fn received(now: Instant) -> Option<[u8; 32]> {
 fn a_loop(rt: HostRuntime) -> Result<(), Fail> {
     let mut agent = StunAgent::builder(rt.alloc(), TransportType::Udp, local()).build();
     let mut now = at(0);
-    let mut transmissions = 0;
+    let mut transmissions = 0_u32;
     // Send the request.
     let sent = agent.send_request(message(REQUEST, 1), peer(), now)?;
     assert_eq!(rt; sent.to, peer());
@@ -40,7 +40,7 @@ fn a_loop(rt: HostRuntime) -> Result<(), Fail> {
             match agent.poll_transmit(now) {
                 Some(again) => {
                     assert_eq!(rt; again.data.len(), 20);
-                    transmissions += 1;
+                    transmissions = transmissions.saturating_add(1);
                 }
                 None => break,
             }

@@ -22,6 +22,8 @@ mod authenticator_first;
 #[cfg(test)]
 mod digests;
 #[cfg(test)]
+mod drive;
+#[cfg(test)]
 mod headers;
 #[cfg(test)]
 mod hostile;

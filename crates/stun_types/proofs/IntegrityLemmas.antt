@@ -1,16 +1,18 @@
 -- Where the deciding attribute stands.
-use Rattle.std.proofs.Common.{◌≡◌, ℕ, zero, suc, ◌+◌, ◌-◌, ◌≤◌, Bool, true, false, cond, List, [], ◌∷◌, length, take, drop, Some, refl, sym, arith, append_assoc}
-use Rattle.std.specs.Prelude.{find, IfSome, ◌==◌}
+use Rattle.std.proofs.Common.{◌≡◌, ℕ, zero, suc, ◌+◌, ◌-◌, ◌≤◌, Bool, true, false, cond, List, [], ◌∷◌, length, take, drop, Some, None, refl, sym, subst, arith, append_assoc}
+use Rattle.std.specs.Prelude.{find, IfSome, Option, ◌==◌}
+use Rattle.std.specs.Option.{option_or}
 use Rattle.std.specs.List.{AllByRecursion}
 use Rattle.std.proofs.lemmas.List.{append-nil, drop-take}
 use Rattle.std.specs.List.{concat}
 use Rattle.byteorder.specs.Endian.{big_bytes}
 use Rattle.std.proofs.lemmas.List.Elements.{All-filter, All-from_recursion, recursion_from_All}
+use Rattle.stun_base.specs.Attributes.{MESSAGE_INTEGRITY, MESSAGE_INTEGRITY_SHA256}
 use Rattle.stun_base.specs.Header.{HEADER_LENGTH}
 use Rattle.stun_types.specs.Attribute.{has_attribute, first_attribute}
-use Rattle.stun_types.specs.Walk.{IsWithin, next_place, walk_up_to, walk}
+use Rattle.stun_types.specs.Walk.{IsWithin, Member, next_place, walk_up_to, walk}
 use Rattle.stun_types.specs.Visible.{counts, visible}
-use Rattle.stun_types.specs.Integrity.{first_of, covered}
+use Rattle.stun_types.specs.Integrity.{first_of, deciding, covered}
 use Rattle.stun_types.proofs.WalkLemmas.{whole_within}
 
 -- what holds of each element holds of the one that is found
@@ -45,6 +47,17 @@ visible-within bytes =
 -- the first attribute of a type stands within
 pub first_of-within : (kind : ℕ) (bytes : List ℕ) → IfSome (first_of kind (visible bytes)) (IsWithin bytes)
 first_of-within kind bytes = IfSome-find (IsWithin bytes) (λ m. m.1.kind == kind) (visible bytes) (visible-within bytes)
+
+-- what holds of one or else the other, where it holds of each
+IfSome-option_or : {X : Type 0} (P : X → Type 0) (one other : Option X) → IfSome one P → IfSome other P → IfSome (option_or one other) P
+IfSome-option_or P (Some x) other holds others = holds
+IfSome-option_or P None other holds others = others
+
+-- the attribute that decides stands within
+pub deciding_within : (bytes : List ℕ) (found : Option Member) → deciding bytes ≡ found → IfSome found (IsWithin bytes)
+deciding_within bytes found decides =
+    subst (λ found. IfSome found (IsWithin bytes)) decides (IfSome-option_or (IsWithin bytes) (first_of MESSAGE_INTEGRITY_SHA256 (visible bytes)) (first_of MESSAGE_INTEGRITY (visible bytes))
+    (first_of-within MESSAGE_INTEGRITY_SHA256 bytes) (first_of-within MESSAGE_INTEGRITY bytes))
 
 -- the bytes before the length field stand in each longer piece
 take-header : (place : ℕ) (bytes : List ℕ) → 20 ≤ place → take 2 (take place bytes) ≡ take 2 bytes

@@ -29,15 +29,22 @@ pub(crate) fn first_of<'a>(
         .find(|found| found.1.get_type() == kind)
 }
 
-/// The attribute whose digest decides, with its place.
+/// The attribute whose digest decides, with its place: the stronger one, where both count.
 fn deciding_attribute<'a>(message: &Message<'a>) -> Option<(usize, RawAttribute<'a>)>
     ensures deciding { result ≡ deciding message.now }
     ensures within { IfSome result (IsWithin message.now) }
 {
-    match first_of(message, AttributeType::MESSAGE_INTEGRITY_SHA256) {
-        Some(found) => Some(found),
-        None => first_of(message, AttributeType::MESSAGE_INTEGRITY),
+    let mut weaker = None;
+    for found in message.iter_attributes() {
+        let kind = found.1.get_type();
+        if kind == AttributeType::MESSAGE_INTEGRITY_SHA256 {
+            return Some(found);
+        }
+        if kind == AttributeType::MESSAGE_INTEGRITY && weaker.is_none() {
+            weaker = Some(found);
+        }
     }
+    weaker
 }
 
 /// The algorithm of an integrity attribute.

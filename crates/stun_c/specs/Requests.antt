@@ -1,0 +1,49 @@
+-- What the building calls make of their arguments: bytes, or the first refusal.
+use Rattle.std.specs.Prelude.{ℕ, List, [], ◌∷◌, length, nat_lt, not, ◌==◌, ◌&&◌, if◌then◌else◌, Option, Some, None, Result, Ok, Err}
+use Rattle.std.specs.Str.{is_utf8}
+use Rattle.byteorder.specs.Endian.{big_number}
+use Rattle.stun_base.specs.declared.algorithm.IntegrityAlgorithm.{IntegrityAlgorithm}
+use Rattle.stun_base.specs.declared.message_type.MessageClass.TheVariants.{Request}
+use Rattle.stun_base.specs.Attributes.{USERNAME}
+use Rattle.stun_base.specs.Keys.{long_term_key, userhash}
+use Rattle.stun_base.specs.MessageType.{type_number}
+use Rattle.stun_types.specs.Grammar.{spelled}
+use Rattle.stun_types.specs.Writing.{with_integrity}
+use Rattle.stun_c.specs.declared.codes.Refusal.{Refusal}
+use Rattle.stun_c.specs.declared.codes.Refusal.TheVariants.{BadArgument, NotText, TextTooLong}
+
+-- the bytes of the longest USERNAME (RFC 8489, section 14.3)
+abbrev pub USERNAME_LIMIT : ℕ
+USERNAME_LIMIT = 513
+
+-- a Binding request with a USERNAME (RFC 8489, sections 5, 14.3 and 18.2)
+abbrev pub binding_request : List ℕ → List ℕ → List ℕ
+binding_request id username = spelled (type_number Request 0x001) (big_number 12 id) (record { kind = USERNAME; value = username } ∷ [])
+
+-- why bytes are no user name, if they are none
+abbrev pub username_refusal : List ℕ → Option Refusal
+username_refusal username =
+    if not (is_utf8 username) then Some NotText else (if nat_lt USERNAME_LIMIT (length username) then Some TextTooLong else None)
+
+-- the bytes, unless something is refused
+abbrev pub unless_refused : Option Refusal → List ℕ → Result (List ℕ) Refusal
+unless_refused None bytes = Ok bytes
+unless_refused (Some refusal) bytes = Err refusal
+
+-- what `stun_build_signed` makes: the request with its integrity attribute
+abbrev pub signed_request : Option IntegrityAlgorithm → List ℕ → List ℕ → List ℕ → Result (List ℕ) Refusal
+signed_request None id username key = Err BadArgument
+signed_request (Some algorithm) id username key =
+    if not (length id == 12) then Err BadArgument
+    else unless_refused (username_refusal username) (with_integrity (binding_request id username) algorithm key)
+
+-- what `stun_long_term_key` makes (section 9.2.2)
+abbrev pub key_of_texts : Option IntegrityAlgorithm → List ℕ → List ℕ → List ℕ → Result (List ℕ) Refusal
+key_of_texts None username realm password = Err BadArgument
+key_of_texts (Some algorithm) username realm password =
+    if is_utf8 username && is_utf8 realm && is_utf8 password then Ok (long_term_key algorithm username realm password) else Err NotText
+
+-- what `stun_userhash` makes (section 14.4)
+abbrev pub userhash_of_texts : List ℕ → List ℕ → Result (List ℕ) Refusal
+userhash_of_texts username realm =
+    if is_utf8 username && is_utf8 realm then Ok (userhash username realm) else Err NotText

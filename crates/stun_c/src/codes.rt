@@ -1,0 +1,105 @@
+//! The numbers that callers get and give, as `include/stun.h` has them.
+
+ghost use Rattle.std.specs.Prelude.{◌≡◌, IfOk, IfErr, Some, None};
+ghost use Rattle.stun_c.specs.Codes.{code_of, algorithm_number, algorithm_numbered};
+
+use stun_base::algorithm::IntegrityAlgorithm;
+use stun_base::error::{StunParseError, ValidateError};
+
+/// Why a call refuses. Each has a number below zero.
+#[derive(Debug, Clone, Copy, PartialEq, Eq)]
+pub enum Refusal {
+    /// -1: bytes are missing at the end, of the header, of the message or of an attribute.
+    Truncated,
+    /// -2: the first 20 bytes are no header of STUN.
+    NotStun,
+    /// -3: bytes stand behind the end of the message.
+    TooLarge,
+    /// -4: the message has no integrity attribute that counts.
+    NoIntegrity,
+    /// -5: the integrity attribute that decides has a wrong length.
+    MalformedIntegrity,
+    /// -6: the integrity attribute that decides has not the digest of the message under the key.
+    IntegrityFailed,
+    /// -7: the algorithm has another number than 1 and 2, or the id not 12 bytes.
+    BadArgument,
+    /// -8: a text is not UTF-8.
+    NotText,
+    /// -9: the user name has more than 513 bytes.
+    TextTooLong,
+    /// -10: the buffer has fewer bytes than are to be written.
+    BufferTooSmall,
+}
+
+impl Refusal {
+    /// The number of the refusal.
+    pub fn code(self) -> i64
+        ensures { result ≡ code_of self }
+    {
+        match self {
+            Refusal::Truncated => -1,
+            Refusal::NotStun => -2,
+            Refusal::TooLarge => -3,
+            Refusal::NoIntegrity => -4,
+            Refusal::MalformedIntegrity => -5,
+            Refusal::IntegrityFailed => -6,
+            Refusal::BadArgument => -7,
+            Refusal::NotText => -8,
+            Refusal::TextTooLong => -9,
+            Refusal::BufferTooSmall => -10,
+        }
+    }
+}
+
+impl From<StunParseError> for Refusal {
+    ghost use Rattle.std.specs.Prelude.{◌≡◌};
+    ghost use Rattle.stun_c.specs.Codes.{refusal_of_parse};
+
+    ghost from_gives = { λ error refusal. refusal ≡ refusal_of_parse error };
+
+    fn from(error: StunParseError) -> Refusal {
+        match error {
+            StunParseError::Truncated => Refusal::Truncated,
+            StunParseError::NotStun => Refusal::NotStun,
+            StunParseError::TooLarge => Refusal::TooLarge,
+            StunParseError::MissingAttribute(_) => Refusal::NoIntegrity,
+            StunParseError::InvalidAttributeData => Refusal::MalformedIntegrity,
+        }
+    }
+}
+
+impl From<ValidateError> for Refusal {
+    ghost use Rattle.std.specs.Prelude.{◌≡◌};
+    ghost use Rattle.stun_c.specs.Codes.{refusal_of_validate};
+
+    ghost from_gives = { λ error refusal. refusal ≡ refusal_of_validate error };
+
+    fn from(error: ValidateError) -> Refusal {
+        match error {
+            ValidateError::Parse(error) => Refusal::from(error),
+            ValidateError::IntegrityFailed => Refusal::IntegrityFailed,
+        }
+    }
+}
+
+/// The number of an algorithm.
+pub fn algorithm_number(algorithm: IntegrityAlgorithm) -> u32
+    ensures { result ≡ algorithm_number algorithm }
+{
+    match algorithm {
+        IntegrityAlgorithm::Sha1 => 1,
+        IntegrityAlgorithm::Sha256 => 2,
+    }
+}
+
+/// The algorithm of a number, or `BadArgument`.
+pub fn algorithm_numbered(number: u32) -> Result<IntegrityAlgorithm, Refusal>
+    ensures ok { IfOk result (λ algorithm. algorithm_numbered number ≡ Some algorithm) }
+    ensures err { IfErr result (λ refusal. (algorithm_numbered number ≡ None) × (refusal ≡ Refusal.BadArgument)) }
+{
+    match number {
+        1 => Ok(IntegrityAlgorithm::Sha1),
+        2 => Ok(IntegrityAlgorithm::Sha256),
+        _ => Err(Refusal::BadArgument),
+    }
+}

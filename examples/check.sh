@@ -1,0 +1,53 @@
+#!/bin/sh
+# Builds the examples against the archive, which is made where it is missing, and compares what they print.
+# Without a C compiler it checks nothing. The last line says what was checked.
+set -eu
+cd "$(dirname "$0")"
+if ! command -v "${CC:-cc}" >/dev/null; then
+    echo "examples: no C compiler"
+    exit 0
+fi
+
+# expect WANTED COMMAND..: the command prints this, whatever its status.
+expect() {
+    wanted=$1
+    shift
+    printed=$("$@" || true)
+    if [ "$printed" != "$wanted" ]; then
+        echo "examples: $*: printed '$printed', not '$wanted'" >&2
+        exit 1
+    fi
+}
+
+make -s -C c CC="${CC:-cc}"
+
+# The archive asks for nothing but these, so no call takes memory.
+needed=$(nm -u ../crates/stun_c/out/libstun_c.a | sed -n 's/^ *U //p' | grep -vxE 'memcpy|memmove|memset|memcmp' || true)
+if [ -n "$needed" ]; then
+    echo "examples: the archive needs" $needed >&2
+    exit 1
+fi
+
+scratch=$(mktemp -d)
+trap 'rm -rf "$scratch"' EXIT
+password='VOkJxbRl1RmTxUk/WvJxBt'
+
+# The request of RFC 5769, section 2.1, without white space.
+printf '\000\001\000\130\041\022\244\102\267\347\247\001\274\064\326\206\372\207\337\256\200\042\000\020STUN test client\000\044\000\004\156\000\001\377\200\051\000\010\223\057\371\261\121\046\073\066\000\006\000\011evtj:h6vY   \000\010\000\024\232\352\247\014\277\330\313\126\170\036\362\265\262\323\362\111\301\265\161\242\200\050\000\004\345\172\073\317' >"$scratch/sample"
+expect 'valid MESSAGE-INTEGRITY' c/out/verify "$password" <"$scratch/sample"
+expect 'invalid' c/out/verify 'another password' <"$scratch/sample"
+expect 'not a message' c/out/verify "$password" </dev/null
+
+c/out/build 1 evtj:h6vY "$password" >"$scratch/sha1"
+expect 'valid MESSAGE-INTEGRITY' c/out/verify "$password" <"$scratch/sha1"
+c/out/build 2 evtj:h6vY "$password" >"$scratch/sha256"
+expect 'valid MESSAGE-INTEGRITY-SHA256' c/out/verify "$password" <"$scratch/sha256"
+checked='C'
+
+if command -v rustc >/dev/null; then
+    rustc --edition 2024 -O rust/main.rs -L ../crates/stun_c/out -o "$scratch/main"
+    expect 'Ok(1)
+Ok(2)' "$scratch/main"
+    checked='C and Rust'
+fi
+echo "examples: passed in $checked"

@@ -1,5 +1,5 @@
 -- A message grows by what is added to it.
-use Rattle.std.proofs.Common.{◌≡◌, ℕ, ◌+◌, ◌-◌, ◌≤◌, List, [], ◌∷◌, ◌++◌, length, take, Option, Some, None, Result, Ok, Err, refl, ap, sym, ◌∙◌, arith, length-append}
+use Rattle.std.proofs.Common.{◌≡◌, ℕ, ◌+◌, ◌≤◌, List, [], ◌∷◌, ◌++◌, length, Option, Some, None, Result, Ok, Err, refl, ap, sym, ◌∙◌, arith, length-append}
 use Rattle.std.proofs.lemmas.List.{length-replicate}
 use Rattle.std.specs.Prelude.{IfOk}
 use Rattle.stun_base.specs.Algorithm.{digest_length, length-digest}
@@ -8,7 +8,7 @@ use Rattle.stun_base.specs.declared.error.StunWriteError.{StunWriteError}
 use Rattle.stun_types.specs.Attribute.{TypedValue, attribute_length}
 use Rattle.stun_types.specs.Grammar.{spelled_attribute}
 use Rattle.stun_types.specs.Message.{with_length}
-use Rattle.stun_types.specs.Writing.{covered_at_end, integrity_attribute, with_attribute, with_integrity}
+use Rattle.stun_types.specs.Writing.{covered_at_end, integrity_attribute, with_integrity}
 use Rattle.stun_auth.specs.Additions.{Addition, attribute, integrity, Page, growth_of, growth, refusal_of, with_addition, unless_refused, added_one, after, added_all, UnlessMemory, page_in, written}
 use Rattle.stun_auth.proofs.AdditionLemmas.{growth-append}
 

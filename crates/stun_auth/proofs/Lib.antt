@@ -3,11 +3,12 @@ pub mod AdditionLemmas
 pub mod Addresses
 pub mod Drawn
 pub mod Growth
+pub mod HashedNames
 pub mod JoinedLemmas
 pub mod JoinedReading
+pub mod LeastNames
 pub mod ListSteps
 pub mod Maps
-pub mod NamesSeen
 pub mod NonceBits
 pub mod NonceLengths
 pub mod NonceTexts

@@ -7,7 +7,8 @@ use Rattle.std.specs.Option.{option_map, option_and_then, IfSome}
 use Rattle.std.specs.Ordering.{is_eq, nat_cmp}
 use Rattle.std.specs.Cmp.Lexicographic.{slice_cmp, nat_list_cmp_total}
 use Rattle.std.specs.FinMap as fin
-use Rattle.std.specs.BTreeMap.{BTreeMap, UpdatesBy, get_by_text}
+use Rattle.std.specs.BTreeMap.{BTreeMap, UpdatesBy, get_by_text, is_at}
+use Rattle.std.specs.Map.{lookup}
 use Rattle.std.proofs.lemmas.Map.Lookups.{exact_bytes}
 use Rattle.std.proofs.lemmas.Map.Text.{btree_map_updates_text, is_eq-slice_cmp}
 use Rattle.std.proofs.lemmas.Slice.Eq.{bytes_eq-Decides}
@@ -31,6 +32,12 @@ passwords_seen-inserted m n name u updates = seen_inserted nat_list_cmp_total ex
 
 pub passwords_seen-removed : {A : Type 0} (m n : BTreeMap (String A) (User A)) (name : List ℕ) → UpdatesBy string_cmp (λ k. slice_cmp nat_cmp name (string_bytes k)) m n None → passwords_seen n.entries ≡ fin.remove (passwords_seen m.entries) name
 passwords_seen-removed m n name updates = seen_removed nat_list_cmp_total exact_bytes string_bytes (λ v. string_bytes v.password) m.entries n.entries name (by_order m n name None updates)
+
+-- the same entries have the same keys, and no entries have none that is missing
+pub keys_where_same : {A : Type 0} (realm : List ℕ) (algorithms : AlgorithmSet) (m : BTreeMap (String A) (User A)) (es : List (String A × User A)) → m.entries ≡ es
+    → ((name : List ℕ) → IfSome (lookup (is_at (λ k. slice_cmp nat_cmp name (string_bytes k))) es) (HasKeys realm algorithms name)) → AllHaveKeys realm algorithms m
+keys_where_same {A = A} realm algorithms m es same all = λ name.
+    subst (λ (es : List (String A × User A)). IfSome (lookup (is_at (λ k. slice_cmp nat_cmp name (string_bytes k))) es) (HasKeys realm algorithms name)) (sym same) (all name)
 
 -- each user still has keys after one was added, and after one was removed
 pub keys_after_add : {A : Type 0} (realm : List ℕ) (algorithms : AlgorithmSet) (m n : BTreeMap (String A) (User A)) (name : List ℕ) (u : User A) → UpdatesBy string_cmp (λ k. slice_cmp nat_cmp name (string_bytes k)) m n (Some u) → HasKeys realm algorithms name u → AllHaveKeys realm algorithms m → AllHaveKeys realm algorithms n

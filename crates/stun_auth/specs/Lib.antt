@@ -8,6 +8,7 @@ pub mod ClientSigning
 pub mod ClientStep
 pub mod Feature
 pub mod Joined
+pub mod NameIndex
 pub mod Nonces
 pub mod Places
 pub mod Reading

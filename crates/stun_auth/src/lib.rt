@@ -9,6 +9,7 @@ mod client;
 mod client_answer;
 mod feature;
 pub mod laws;
+mod name_index;
 mod nonce;
 mod places;
 mod reading;

@@ -1,17 +1,17 @@
 //! The users of a realm, each with a key for each supported algorithm.
 
-ghost use Rattle.std.specs.Prelude.{◌≡◌, Option, None, Some, OnOk, OnErr};
+ghost use Rattle.std.specs.Prelude.{◌≡◌, Option, None, Some, OnOk, OnErr, IfErr, IfNone, IfSome};
+ghost use Rattle.std.specs.Ordering.{nat_cmp};
+ghost use Rattle.std.specs.BTreeMap.{Updates, UpdatesBy, get_by_text};
+ghost use Rattle.std.specs.Cmp.Lexicographic.{slice_cmp};
 ghost use Rattle.std.specs.Option.{option_copied};
 ghost use Rattle.std.specs.String.{string_bytes, string_cmp};
-ghost use Rattle.std.specs.List.{find};
-ghost use Rattle.std.specs.Str.{bytes_eq};
-ghost use Rattle.std.specs.BTreeMap.{IsOrdered, keys};
-ghost use Rattle.stun_base.specs.Keys.{userhash};
 ghost use Rattle.stun_auth.specs.Algorithms.{contains, with_algorithm, only};
 ghost use Rattle.stun_auth.specs.Registered.{key_at, key_if, name_with_hash, new_registered, with_user, without_user};
 ghost use Rattle.stun_auth.specs.Users.{AllHaveKeys, passwords_seen};
 
 use crate::algorithm_set::AlgorithmSet;
+use crate::name_index::NameIndex;
 use std::alloc::{AllocError, Allocator};
 use std::collections::BTreeMap;
 use std::marker::Model;
@@ -104,6 +104,8 @@ pub(crate) struct Registry<A: Allocator> {
     realm: String<A>,
     supported: AlgorithmSet,
     users: BTreeMap<String<A>, User<A>, A>,
+    /// The name of each user by its hash.
+    hashed: NameIndex<A>,
 }
 
 impl<A: Allocator> Model for Registry<A> {
@@ -114,11 +116,13 @@ impl<A: Allocator> Model for Registry<A> {
 
     ghost coded = { coded_registered };
 
+    ghost use Rattle.stun_auth.specs.NameIndex.{IsIndexOf};
     ghost use Rattle.stun_auth.specs.Users.{passwords_seen, AllHaveKeys};
 
     ghost view = { λ r. record { realm = string_bytes r.realm; algorithms = r.supported; passwords = passwords_seen r.users.entries } };
 
-    ghost invariant = { λ r. AllHaveKeys (string_bytes r.realm) r.supported r.users };
+    ghost invariant = { λ r. AllHaveKeys (string_bytes r.realm) r.supported r.users
+        × IsIndexOf (string_bytes r.realm) (passwords_seen r.users.entries) r.hashed };
 }
 
 impl<A: Allocator + Copy> Registry<A> {
@@ -130,6 +134,7 @@ impl<A: Allocator + Copy> Registry<A> {
             realm,
             supported: AlgorithmSet::OnlySha1,
             users: BTreeMap::new(alloc),
+            hashed: NameIndex::new(alloc),
         }
     }
 
@@ -161,10 +166,7 @@ impl<A: Allocator + Copy> Registry<A> {
     pub(crate) fn name_with_hash(&self, hash: &[u8; 32]) -> Option<&str>
         ensures { option_copied result ≡ name_with_hash self.now hash.now }
     {
-        match name_with_hash(&self.users, self.realm.as_str(), hash) {
-            Some(name) => Some(name.as_str()),
-            None => None,
-        }
+        self.hashed.least(hash)
     }
 
     /// Adds a user, or gives a present one another password and its keys.
@@ -180,16 +182,27 @@ impl<A: Allocator + Copy> Registry<A> {
         ensures ok { OnOk result (self.new ≡ with_user self.old (record { username = string_bytes name; password = string_bytes password })) }
         ensures err { OnErr result (self.new ≡ self.old) }
     {
+        let hash = userhash(name.as_str(), self.realm.as_str());
+        self.hashed.insert(hash, name.clone()?)?;
         let user = User::new(name.as_str(), self.realm.as_str(), password, self.supported);
-        self.users.insert(name, user)?;
-        Ok(())
+        match put_user(&mut self.users, name, user) {
+            Ok(()) => Ok(()),
+            Err(refused) => {
+                // Only a new name is refused, which the index did not have before.
+                self.hashed.remove(hash, refused);
+                Err(AllocError)
+            }
+        }
     }
 
     /// Removes a user and the user's keys.
     pub(crate) fn remove_user(&mut self, name: &str)
         ensures { self.new ≡ without_user self.old name.now }
     {
-        let _ = self.users.remove(name);
+        if let Some(name) = take_user(&mut self.users, name) {
+            let hash = userhash(name.as_str(), self.realm.as_str());
+            self.hashed.remove(hash, name);
+        }
     }
 
     /// Supports these algorithms from here on: all users have keys for just these.
@@ -199,6 +212,39 @@ impl<A: Allocator + Copy> Registry<A> {
         make_keys(&mut self.users, self.realm.as_str(), supported);
         self.supported = supported;
     }
+}
+
+/// Puts a user under a name, in the place of the one before. A new name comes back where memory is wanting.
+fn put_user<A: Allocator + Copy>(
+    users: &mut BTreeMap<String<A>, User<A>, A>,
+    name: String<A>,
+    user: User<A>,
+) -> Result<(), String<A>>
+    ensures ok { OnOk result (Updates string_cmp users.old users.new name (Some user)) }
+    ensures refused { IfErr result (λ refused. refused ≡ name) }
+    ensures absent { OnErr result (get_by_text users.old (string_bytes name) ≡ None) }
+    ensures same { OnErr result (users.new.entries ≡ users.old.entries) }
+{
+    match users.insert(name, user) {
+        Ok(_) => Ok(()),
+        Err(refused) => {
+            let (name, _) = refused.value;
+            Err(name)
+        }
+    }
+}
+
+/// Takes out the user of a name, whose kept name comes back. It takes no memory.
+fn take_user<A: Allocator + Copy>(
+    users: &mut BTreeMap<String<A>, User<A>, A>,
+    name: &str,
+) -> Option<String<A>>
+    ensures name { IfSome result (λ kept. string_bytes kept ≡ name.now) }
+    ensures updates { UpdatesBy string_cmp (λ k. slice_cmp nat_cmp name.now (string_bytes k)) users.old users.new None }
+    ensures same { IfNone result (users.new.entries ≡ users.old.entries) }
+{
+    let (name, _) = users.remove_entry(name)?;
+    Some(name)
 }
 
 /// Makes the keys of all users anew. It takes no memory.
@@ -214,23 +260,4 @@ fn make_keys<A: Allocator, B: Allocator + Copy>(
         user.set_keys(name.as_str(), realm, supported);
         true
     });
-}
-
-fn name_with_hash<'a, A: Allocator>(
-    users: &'a BTreeMap<String<A>, User<A>, A>,
-    realm: &str,
-    hash: &[u8; 32],
-) -> Option<&'a String<A>>
-    ensures name { option_copied result ≡ find (λ name. bytes_eq (userhash (string_bytes name) realm.now) hash.now) (keys users.now) }
-    ensures ordered { IsOrdered string_cmp users.now }
-{
-    users
-        .keys()
-        .find(|name| has_hash(name.as_str(), realm, hash))
-}
-
-fn has_hash(name: &str, realm: &str, hash: &[u8; 32]) -> bool
-    ensures { result ≡ bytes_eq (userhash name.now realm.now) hash.now }
-{
-    userhash(name, realm) == *hash
 }

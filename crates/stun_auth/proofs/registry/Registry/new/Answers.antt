@@ -1,0 +1,19 @@
+-- Nobody is present, and the index has no name.
+use Rattle.std.proofs.Common.{List, [], String, ap, subst, sym}
+use Rattle.std.specs.FinMap as fin
+use Rattle.std.specs.String.{string_bytes}
+use Rattle.stun_auth.specs.declared.algorithm_set.AlgorithmSet.TheVariants.{OnlySha1}
+use Rattle.stun_auth.specs.NameIndex.{HashedNames, IsIndexOf}
+use Rattle.stun_auth.specs.declared.registry.User.{User}
+use Rattle.stun_auth.specs.Users.{passwords_seen}
+use Rattle.stun_auth.proofs.LeastNames.{Passwords, indexed_none}
+use Rattle.stun_auth.proofs.UserMaps.{keys_where_same}
+use Rattle.stun_auth.proofs.registry.Registry.new.Goals as goal
+
+pub invariant_of-result : goal.invariant_of-result
+invariant_of-result g c =
+    let realm = string_bytes c.args.realm in (
+      keys_where_same realm OnlySha1 c.new.result [] c.new.ensures.empty (λ name. tt),
+      subst (λ (passwords : Passwords). IsIndexOf realm passwords c.new-2.result) (sym (ap (λ (es : List (String g.row.A.Denot × User g.row.A.Denot)). passwords_seen es) c.new.ensures.empty))
+          (subst (λ (names : HashedNames). IsIndexOf realm fin.empty names) (sym c.new-2.ensures) (indexed_none realm)),
+    )

@@ -1,0 +1,71 @@
+//! Names by their hash: whose hash it is, is looked up without a digest.
+
+ghost use Rattle.std.specs.Prelude.{◌≡◌, OnOk, OnErr};
+ghost use Rattle.std.specs.Option.{option_copied};
+ghost use Rattle.std.specs.FinSet as set;
+ghost use Rattle.std.specs.String.{string_bytes};
+ghost use Rattle.stun_auth.specs.NameIndex.{IsLeastNamed};
+
+use std::alloc::{AllocError, Allocator};
+use std::collections::BTreeSet;
+use std::marker::Model;
+
+/// Names, each with its hash, in the order of the hashes and then of the names.
+#[derive(Drop)]
+pub(crate) struct NameIndex<A: Allocator> {
+    alloc: A,
+    hashed: BTreeSet<([u8; 32], String<A>), A>,
+}
+
+impl<A: Allocator> Model for NameIndex<A> {
+    ghost use Rattle.std.specs.FinSet as set;
+    ghost use Rattle.stun_auth.specs.NameIndex.{hashed_cmp, coded_hashed, names_hashed};
+
+    ghost Value = { set.FinSet hashed_cmp };
+
+    ghost coded = { set.code coded_hashed };
+
+    ghost view = { λ index. names_hashed index.hashed.keys };
+}
+
+impl<A: Allocator + Copy> NameIndex<A> {
+    /// No name at all.
+    pub(crate) fn new(alloc: A) -> Self
+        ensures { result ≡ set.empty }
+    {
+        NameIndex {
+            alloc,
+            hashed: BTreeSet::new(alloc),
+        }
+    }
+
+    /// Adds a name with its hash.
+    pub(crate) fn insert(&mut self, hash: [u8; 32], name: String<A>) -> Result<(), AllocError>
+        ensures ok { OnOk result (self.new ≡ set.insert self.old (hash, string_bytes name)) }
+        ensures err { OnErr result (self.new ≡ self.old) }
+    {
+        self.hashed.insert((hash, name))?;
+        Ok(())
+    }
+
+    /// Removes a name with its hash. It takes no memory.
+    pub(crate) fn remove(&mut self, hash: [u8; 32], name: String<A>)
+        ensures { self.new ≡ set.remove self.old (hash, string_bytes name) }
+    {
+        let pair = (hash, name);
+        self.hashed.remove(&pair);
+    }
+
+    /// The least of the names that have this hash.
+    pub(crate) fn least(&self, hash: &[u8; 32]) -> Option<&str>
+        ensures { IsLeastNamed self.now hash.now (option_copied result) }
+    {
+        let from = (*hash, String::new(self.alloc));
+        let (found, name) = self.hashed.range(from..).next()?;
+        if *found == *hash {
+            Some(name.as_str())
+        } else {
+            None
+        }
+    }
+}

@@ -1,15 +1,22 @@
 -- A message grows by what is added to it.
-use Rattle.std.proofs.Common.{◌≡◌, ℕ, ◌+◌, ◌≤◌, List, [], ◌∷◌, ◌++◌, length, Option, Some, None, Result, Ok, Err, refl, ap, sym, ◌∙◌, arith, length-append}
+use Rattle.std.proofs.Common.{◌≡◌, ℕ, ◌+◌, ◌<◌, ◌≤◌, Bool, true≢false, List, [], ◌∷◌, ◌++◌, length, Option, Some, None, Result, Ok, Err, refl, ap, sym, ◌∙◌, arith, length-append}
 use Rattle.std.proofs.lemmas.List.{length-replicate}
-use Rattle.std.specs.Prelude.{IfOk}
+use Rattle.std.proofs.lemmas.List.Sums.{sum_by-cons}
+use Rattle.std.specs.Prelude.{IfOk, IsOk}
+use Rattle.std.specs.Result.{is_ok}
 use Rattle.stun_base.specs.Algorithm.{digest_length, length-digest}
 use Rattle.stun_base.specs.declared.algorithm.IntegrityAlgorithm.{IntegrityAlgorithm}
 use Rattle.stun_base.specs.declared.error.StunWriteError.{StunWriteError}
+use Rattle.stun_base.specs.declared.error.StunWriteError.TheVariants.{NotAllowed, MessageIntegrityExists, AttributeExists, TooLarge, TooSmall, IntegrityFailed, OutOfMemory}
 use Rattle.stun_types.specs.Attribute.{TypedValue, attribute_length}
 use Rattle.stun_types.specs.Grammar.{spelled_attribute}
 use Rattle.stun_types.specs.Message.{with_length}
 use Rattle.stun_types.specs.Writing.{covered_at_end, integrity_attribute, with_integrity}
 use Rattle.stun_auth.specs.Additions.{Addition, attribute, integrity, Page, growth_of, growth, refusal_of, with_addition, unless_refused, added_one, after, added_all, UnlessMemory, page_in, written}
+use Rattle.stun_auth.specs.Registered.{Registered, key_at}
+use Rattle.stun_auth.specs.Seen.{ClientSeen, PlaceSeen}
+use Rattle.stun_auth.specs.Server.{Sight}
+use Rattle.stun_auth.specs.ServerSigning.{attributes_for, growth_at, protected, protected_for, protection_growth, server_growth, server_signed, signed_at}
 use Rattle.stun_auth.proofs.AdditionLemmas.{growth-append}
 
 length-with_length : (bytes : List ℕ) (n : ℕ) → 20 ≤ length bytes → length (with_length bytes n) ≡ length bytes
@@ -80,3 +87,55 @@ pub grown_answer : {W : Type 0} (bytes : W → List ℕ) (room : W → ℕ) (lis
     → IfOk result (λ signed. length (bytes signed) ≡ length (bytes before) + growth list)
 grown_answer bytes room list before Q (Ok signed) long h = grown_all list (page_in bytes room before) (page_in bytes room signed) long (sym h)
 grown_answer bytes room list before Q (Err reason) long h = tt
+
+-- ---- the server
+
+grown_protected : (a : IntegrityAlgorithm) (key : Option (List ℕ)) (m q : Page) → 20 ≤ length m.bytes → protected a key m ≡ Ok q → length q.bytes ≡ length m.bytes + attribute_length (digest_length a)
+grown_protected a None m q long h = absurd (let clash : Err IntegrityFailed ≡ Ok q = h in cc)
+grown_protected a (Some key) m q long h =
+    let all = grown_all (integrity a key ∷ []) m q long h in
+    let sum = sum_by-cons growth_of (integrity a key) [] in
+    omega (arith, all, sum)
+
+grown_for : (users : Registered) (client : Option ClientSeen) (m q : Page) → 20 ≤ length m.bytes → protected_for users client m ≡ Ok q → length q.bytes ≡ length m.bytes + protection_growth client
+grown_for users None m q long h =
+    let same : m ≡ q = cc in
+    omega (arith, ap (λ (r : Page). length r.bytes) same)
+grown_for users (Some c) m q long h = grown_protected c.algorithm (key_at users c.name c.algorithm) m q long h
+
+grown_then : (list : List Addition) (users : Registered) (client : Option ClientSeen) (p q : Page) → 20 ≤ length p.bytes → (first : Result Page StunWriteError) → added_all list p ≡ first
+    → after first (protected_for users client) ≡ Ok q → length q.bytes ≡ length p.bytes + (growth list + protection_growth client)
+grown_then list users client p q long (Err reason) e h = absurd (let clash : Err reason ≡ Ok q = h in cc)
+grown_then list users client p q long (Ok m) e h =
+    let before = grown_all list p m long e in
+    let last = grown_for users client m q (omega (arith, before, long)) h in
+    omega (arith, before, last)
+
+grown_at : (response : Bool) (users : Registered) (place : Option PlaceSeen) (p q : Page) → 20 ≤ length p.bytes → signed_at response users place p ≡ Ok q → length q.bytes ≡ length p.bytes + growth_at response users place
+grown_at response users None p q long h =
+    let same : p ≡ q = cc in
+    omega (arith, ap (λ (r : Page). length r.bytes) same)
+grown_at response users (Some place) p q long h =
+    grown_then (attributes_for response users place.nonce place.client) users place.client p q long (added_all (attributes_for response users place.nonce place.client) p) refl h
+
+-- a message that a server signed is longer by what signing adds
+pub grown_by_server : (s : Sight) (response : Bool) (p q : Page) → 20 ≤ length p.bytes → server_signed s response p ≡ Ok q → length q.bytes ≡ length p.bytes + server_growth s response
+grown_by_server s response p q long h = grown_at response s.registered s.place p q long h
+
+-- ---- no memory
+
+refused_not : {V : Type 0} (reason : StunWriteError) (page : Result Page StunWriteError) → Err reason ≡ page → IsOk page → V
+refused_not reason page is ok = absurd (true≢false (sym (ap is_ok is ∙ ok)))
+
+-- where nothing else refuses and what is taken was reserved, nothing is refused
+pub succeeds_reserved : {V : Type 0} (answer : Result V StunWriteError → Result Page StunWriteError) → ((reason : StunWriteError) → Err reason ≡ answer (Err reason))
+    → (page : Result Page StunWriteError) (reserved taken : ℕ) (result : Result V StunWriteError)
+    → UnlessMemory result (answer result ≡ page) (reserved < taken) → IsOk page → taken ≤ reserved → IsOk result
+succeeds_reserved answer passes page reserved taken (Ok signed) h ok enough = refl
+succeeds_reserved answer passes page reserved taken (Err NotAllowed) h ok enough = refused_not NotAllowed page (passes NotAllowed ∙ h) ok
+succeeds_reserved answer passes page reserved taken (Err MessageIntegrityExists) h ok enough = refused_not MessageIntegrityExists page (passes MessageIntegrityExists ∙ h) ok
+succeeds_reserved answer passes page reserved taken (Err (AttributeExists kind)) h ok enough = refused_not (AttributeExists kind) page (passes (AttributeExists kind) ∙ h) ok
+succeeds_reserved answer passes page reserved taken (Err TooLarge) h ok enough = refused_not TooLarge page (passes TooLarge ∙ h) ok
+succeeds_reserved answer passes page reserved taken (Err TooSmall) h ok enough = refused_not TooSmall page (passes TooSmall ∙ h) ok
+succeeds_reserved answer passes page reserved taken (Err IntegrityFailed) h ok enough = refused_not IntegrityFailed page (passes IntegrityFailed ∙ h) ok
+succeeds_reserved answer passes page reserved taken (Err OutOfMemory) h ok enough = absurd (omega (arith, h, enough))

@@ -1,10 +1,12 @@
 -- What the nonces of a server ask for.
-use Rattle.std.proofs.Common.{◌≡◌, ℕ, ◌+◌, List, [], ◌∷◌, ◌++◌, length, map, Option, Some, None, Bool, true, false, refl, ◌∙◌, ap, arith, length-append}
+use Rattle.std.proofs.Common.{◌≡◌, ℕ, zero, suc, ◌+◌, ◌<◌, List, [], ◌∷◌, ◌++◌, length, map, Option, Some, None, Bool, true, false, refl, ◌∙◌, ap, arith, length-append}
 use Rattle.std.proofs.lemmas.Bool.{le-leb}
 use Rattle.std.specs.Prelude.{cond, nat_le, ◌==◌, ◌&&◌, take, drop, String, Result, Ok, Err, IfOk}
 use Rattle.std.specs.String.{string_bytes}
 use Rattle.base64.specs.Engines.{standard}
-use Rattle.base64.specs.GeneralPurpose.{decode_of}
+use Rattle.base64.specs.GeneralPurpose.{IsBytes, decode_of, encode_of}
+use Rattle.base64.specs.Rfc4648.{encode_symbols}
+use Rattle.base64.proofs.EngineFacts.{decode_of-encode_of}
 use Rattle.base64.proofs.OnLiterals.{base64_on_literals}
 use Rattle.stun_base.specs.declared.algorithm.IntegrityAlgorithm.TheVariants.{Sha256}
 use Rattle.stun_auth.specs.declared.feature.Feature.{Feature}
@@ -98,3 +100,31 @@ pub asks_for_userhash-made : {A E : Type 0} (algorithms : AlgorithmSet) (feature
     → IfOk made (λ text. asks_for_userhash (string_bytes text) ≡ is_possible feature)
 asks_for_userhash-made algorithms feature words (Ok text) is = ap asks_for_userhash is ∙ asks_for_userhash-nonce_of algorithms feature words
 asks_for_userhash-made algorithms feature words (Err e) is = tt
+
+-- ---- bits that were spelled
+
+three_small : (a b c : ℕ) → a < 256 → b < 256 → c < 256 → IsBytes (a ∷ b ∷ c ∷ [])
+three_small a b c small_a small_b small_c zero = small_a
+three_small a b c small_a small_b small_c (suc zero) = small_b
+three_small a b c small_a small_b small_c (suc (suc zero)) = small_c
+three_small a b c small_a small_b small_c (suc (suc (suc i))) = omega arith
+
+letters_behind : (a b c : ℕ) (text : List ℕ) → take 4 (drop 9 (spelled_bits (a ∷ b ∷ c ∷ []) ++ text)) ≡ encode_of standard (a ∷ b ∷ c ∷ [])
+unfolding spelled_bits encode_symbols
+letters_behind a b c text = refl
+
+length-spelled_bits : (a b c : ℕ) → length (spelled_bits (a ∷ b ∷ c ∷ [])) ≡ 13
+unfolding spelled_bits encode_symbols
+length-spelled_bits a b c = refl
+
+-- they are read again, whatever follows them
+pub bits_read_back : (a b c : ℕ) (text : List ℕ) → a < 256 → b < 256 → c < 256 → security_bits (spelled_bits (a ∷ b ∷ c ∷ []) ++ text) ≡ Some (a ∷ b ∷ c ∷ [])
+unfolding security_bits spelled_bits
+bits_read_back a b c text small_a small_b small_c =
+    let bytes : List ℕ = a ∷ b ∷ c ∷ [] in
+    let thirteen = length-spelled_bits a b c in
+    let both = length-append (spelled_bits bytes) text in
+    let long : nat_le 13 (length (spelled_bits bytes ++ text)) ≡ true = le-leb 13 (length (spelled_bits bytes ++ text)) (omega (arith, thirteen, both)) in
+    ap (λ x. cond x (three_bytes (decode_of standard (take 4 (drop 9 (spelled_bits bytes ++ text))))) None) long
+    ∙ ap (λ letters. three_bytes (decode_of standard letters)) (letters_behind a b c text)
+    ∙ ap three_bytes (decode_of-encode_of standard bytes refl (three_small a b c small_a small_b small_c))

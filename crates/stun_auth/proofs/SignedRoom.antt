@@ -16,7 +16,7 @@ use Rattle.stun_types.specs.Walk.{Member, walk}
 use Rattle.stun_types.specs.Writing.{HasOneMore, IsAddable, IsOpen, has_integrity as has_integrity_attribute, is_set_apart, length_with, max_length, signing_refusal, size_refusal, with_attribute, with_integrity}
 use Rattle.stun_auth.specs.Additions.{Addition, attribute, integrity, Page, added_all, added_one, after, growth, growth_of, is_too_long, refusal_of, unless_refused}
 use Rattle.stun_auth.specs.Joined.{Protection, page_after}
-use Rattle.stun_auth.specs.Signed.{Added, HasRoomFor, IsUnsigned, IsWithinLimits, additions_of, if_there}
+use Rattle.stun_auth.specs.Signed.{Added, HasRoomFor, IsSignable, IsUnsigned, IsWithinLimits, added_kinds, additions_of, if_there, kinds_in}
 use Rattle.stun_auth.proofs.JoinedLemmas.{WritingLaws}
 use Rattle.stun_auth.proofs.SignedReading.{entry, from_algorithm, from_algorithms, from_integrity, from_realm, from_userhash, from_username, listing, text, typed_as}
 
@@ -25,12 +25,12 @@ abbrev Succeeds : List Addition → List ℕ → ℕ → Type 0
 Succeeds list message room =
     added_all list (record { bytes = message; room = room }) ≡ Ok (page_after list (record { bytes = message; room = room }))
 
--- what an attribute of one of these types finds: room and field for so many bytes, and none of the types
-record IsReady (message : List ℕ) (room : ℕ) (kinds : List ℕ) (count : ℕ) : Type 0 where
+-- what additions find: room and field for all of them, and none of their types
+record IsReady (message : List ℕ) (room : ℕ) (list : List Addition) : Type 0 where
   pub is_open : IsOpen message
-  pub fresh : AllByRecursion (λ kind. has_kind kind (walk message) ≡ false) kinds
-  pub field : length message - 20 + count ≤ 65532
-  pub room_is : count ≤ room
+  pub fresh : AllByRecursion (λ kind. has_kind kind (walk message) ≡ false) (kinds_in list)
+  pub field : length message - 20 + growth list ≤ 65532
+  pub room_is : growth list ≤ room
 
 -- a test that does not refuse is passed
 allowed : {E : Type 0} (refuses : Bool) (reason : E) (rest : Option E) → refuses ≡ false → rest ≡ None → (if refuses then Some reason else rest) ≡ None
@@ -62,16 +62,15 @@ still_fresh message longer a (kind ∷ kinds) walked fresh other =
     (rw (walked, both, fresh.0, other.0) refl, still_fresh message longer a kinds walked fresh.1 other.1)
 
 -- one attribute, if it is there, and then the others
-step : WritingLaws → {A : Type 0} (own : ℕ) (value : A → List ℕ) (o : Option A) (others : List Addition) (kinds : List ℕ) (message : List ℕ) (room : ℕ)
-    → IsReady message room (own ∷ kinds) (growth (if_there (λ x. attribute (typed_as own (value x))) o others))
-    → own < 2 ^ 16 → is_set_apart own ≡ false → AllByRecursion (λ kind. (own == kind) ≡ false) kinds
+step : WritingLaws → {A : Type 0} (own : ℕ) (value : A → List ℕ) (o : Option A) (others : List Addition) (message : List ℕ) (room : ℕ)
+    → IsReady message room (if_there (λ x. attribute (typed_as own (value x))) o others)
+    → own < 2 ^ 16 → is_set_apart own ≡ false → AllByRecursion (λ kind. (own == kind) ≡ false) (kinds_in others)
     → IfSome o (λ x. is_too_long (typed_as own (value x)) ≡ false)
-    → ((m : List ℕ) (r : ℕ) → IsReady m r kinds (growth others) → Succeeds others m r)
+    → ((m : List ℕ) (r : ℕ) → IsReady m r others → Succeeds others m r)
     → Succeeds (if_there (λ x. attribute (typed_as own (value x))) o others) message room
 unfolding added_one
-step laws own value None others kinds message room ready small apart other short rest =
-    rest message room (record { is_open = ready.is_open; fresh = ready.fresh.1; field = ready.field; room_is = ready.room_is })
-step laws own value (Some x) others kinds message room ready small apart other short rest =
+step laws own value None others message room ready small apart other short rest = rest message room ready
+step laws own value (Some x) others message room ready small apart other short rest =
     let a : TypedValue = typed_as own (value x) in
     let n = length (value x) in
     let sum = sum_by-cons growth_of (attribute a) others in
@@ -96,13 +95,13 @@ step laws own value (Some x) others kinds message room ready small apart other s
     ap (λ refused. after (unless_refused refused next) (added_all others)) accepted
     ∙ rest longer left (record {
       is_open = laws.opened message a ready.is_open addable apart;
-      fresh = still_fresh message longer a kinds one.walk_is ready.fresh.1 other;
+      fresh = still_fresh message longer a (kinds_in others) one.walk_is ready.fresh.1 other;
       field = omega (arith, ready.field, sum, long, header);
       room_is = omega (arith, ready.room_is, sum);
     })
 
 -- the digest, if there is one
-last_step : (o : Option Protection) (message : List ℕ) (room : ℕ) → IsReady message room [] (growth (if_there (λ (p : Protection). integrity p.algorithm p.key) o []))
+last_step : (o : Option Protection) (message : List ℕ) (room : ℕ) → IsReady message room (if_there (λ (p : Protection). integrity p.algorithm p.key) o [])
     → Succeeds (if_there (λ (p : Protection). integrity p.algorithm p.key) o []) message room
 unfolding added_one
 last_step None message room ready = refl
@@ -134,21 +133,64 @@ short_other : {A : Type 0} (own : ℕ) (value : A → List ℕ) (o : Option A) �
 short_other own value None username realm nonce = tt
 short_other own value (Some x) username realm nonce = rw (username, realm, nonce) refl
 
+-- what holds of the type of an attribute, if it is there, and of the types of the others
+there : {A : Type 0} (P : ℕ → Type 0) (own : ℕ) (value : A → List ℕ) (o : Option A) (others : List Addition) → P own → AllByRecursion P (kinds_in others)
+    → AllByRecursion P (kinds_in (if_there (λ x. attribute (typed_as own (value x))) o others))
+there P own value None others holds rest = rest
+there P own value (Some x) others holds rest = (holds, rest)
+
+module _ (P : ℕ → Type 0) (a : Added) where
+  all-integrity : AllByRecursion P (kinds_in (from_integrity a))
+  all-integrity = elim a.integrity as (λ (o : Option Protection). AllByRecursion P (kinds_in (if_there (λ (p : Protection). integrity p.algorithm p.key) o []))) [
+    | None ↦ tt
+    | Some p ↦ tt
+  ]
+
+  all-algorithm : P PASSWORD_ALGORITHM → AllByRecursion P (kinds_in (from_algorithm a))
+  all-algorithm algorithm = there P PASSWORD_ALGORITHM entry a.algorithm (from_integrity a) algorithm all-integrity
+
+  all-algorithms : P PASSWORD_ALGORITHMS → P PASSWORD_ALGORITHM → AllByRecursion P (kinds_in (from_algorithms a))
+  all-algorithms algorithms algorithm = there P PASSWORD_ALGORITHMS listing a.algorithms (from_algorithm a) algorithms (all-algorithm algorithm)
+
+  all-userhash : P USERHASH → P PASSWORD_ALGORITHMS → P PASSWORD_ALGORITHM → AllByRecursion P (kinds_in (from_userhash a))
+  all-userhash userhash algorithms algorithm = there P USERHASH text a.userhash (from_algorithms a) userhash (all-algorithms algorithms algorithm)
+
+  all-username : P USERNAME → P USERHASH → P PASSWORD_ALGORITHMS → P PASSWORD_ALGORITHM → AllByRecursion P (kinds_in (from_username a))
+  all-username username userhash algorithms algorithm = there P USERNAME text a.username (from_userhash a) username (all-userhash userhash algorithms algorithm)
+
+  all-realm : P REALM → P USERNAME → P USERHASH → P PASSWORD_ALGORITHMS → P PASSWORD_ALGORITHM → AllByRecursion P (kinds_in (from_realm a))
+  all-realm realm username userhash algorithms algorithm = there P REALM text a.realm (from_username a) realm (all-username username userhash algorithms algorithm)
+
 -- the attributes one after another, and the digest
+pub signable_signed : WritingLaws → (a : Added) (message : List ℕ) (room : ℕ) → IsSignable a message room → Succeeds (additions_of a) message room
+signable_signed laws a message room signable =
+    step laws NONCE text a.nonce (from_realm a) message room
+    (record { is_open = signable.is_open; fresh = signable.none_there; field = signable.has_room.field; room_is = signable.has_room.enough })
+    (omega arith) refl (all-realm (λ kind. (NONCE == kind) ≡ false) a refl refl refl refl refl) (short_nonce a.nonce signable.texts.nonce)
+    (λ m r ready. step laws REALM text a.realm (from_username a) m r ready
+    (omega arith) refl (all-username (λ kind. (REALM == kind) ≡ false) a refl refl refl refl) (short_realm a.realm signable.texts.realm)
+    (λ m r ready. step laws USERNAME text a.username (from_userhash a) m r ready
+    (omega arith) refl (all-userhash (λ kind. (USERNAME == kind) ≡ false) a refl refl refl) (short_username a.username signable.texts.username)
+    (λ m r ready. step laws USERHASH text a.userhash (from_algorithms a) m r ready
+    (omega arith) refl (all-algorithms (λ kind. (USERHASH == kind) ≡ false) a refl refl) (short_other USERHASH text a.userhash refl refl refl)
+    (λ m r ready. step laws PASSWORD_ALGORITHMS listing a.algorithms (from_algorithm a) m r ready
+    (omega arith) refl (all-algorithm (λ kind. (PASSWORD_ALGORITHMS == kind) ≡ false) a refl) (short_other PASSWORD_ALGORITHMS listing a.algorithms refl refl refl)
+    (λ m r ready. step laws PASSWORD_ALGORITHM entry a.algorithm (from_integrity a) m r ready
+    (omega arith) refl (all-integrity (λ kind. (PASSWORD_ALGORITHM == kind) ≡ false) a) (short_other PASSWORD_ALGORITHM entry a.algorithm refl refl refl)
+    (λ m r ready. last_step a.integrity m r ready))))))
+
+-- a message that has none of the attributes that signing adds has none of those that it adds here
+pub unsigned_signable : (a : Added) (message : List ℕ) (room : ℕ) → IsUnsigned message → IsWithinLimits a → HasRoomFor a message room → IsSignable a message room
+unsigned_signable a message room unsigned limits has_room =
+    let none : AllByRecursion (λ kind. has_kind kind (walk message) ≡ false) added_kinds = unsigned.none in
+    record {
+      is_open = unsigned.is_open;
+      none_there = there (λ kind. has_kind kind (walk message) ≡ false) NONCE text a.nonce (from_realm a) none.0
+          (all-realm (λ kind. has_kind kind (walk message) ≡ false) a none.1.0 none.1.1.0 none.1.1.1.0 none.1.1.1.1.0 none.1.1.1.1.1.0);
+      texts = limits;
+      has_room = has_room;
+    }
+
 pub signing_succeeds : WritingLaws → (a : Added) (message : List ℕ) (room : ℕ) → IsUnsigned message → IsWithinLimits a → HasRoomFor a message room
     → Succeeds (additions_of a) message room
-signing_succeeds laws a message room unsigned limits has_room =
-    step laws NONCE text a.nonce (from_realm a) (REALM ∷ USERNAME ∷ USERHASH ∷ PASSWORD_ALGORITHMS ∷ PASSWORD_ALGORITHM ∷ []) message room
-    (record { is_open = unsigned.is_open; fresh = unsigned.none; field = has_room.field; room_is = has_room.enough })
-    (omega arith) refl (refl, (refl, (refl, (refl, (refl, tt))))) (short_nonce a.nonce limits.nonce)
-    (λ m r ready. step laws REALM text a.realm (from_username a) (USERNAME ∷ USERHASH ∷ PASSWORD_ALGORITHMS ∷ PASSWORD_ALGORITHM ∷ []) m r ready
-    (omega arith) refl (refl, (refl, (refl, (refl, tt)))) (short_realm a.realm limits.realm)
-    (λ m r ready. step laws USERNAME text a.username (from_userhash a) (USERHASH ∷ PASSWORD_ALGORITHMS ∷ PASSWORD_ALGORITHM ∷ []) m r ready
-    (omega arith) refl (refl, (refl, (refl, tt))) (short_username a.username limits.username)
-    (λ m r ready. step laws USERHASH text a.userhash (from_algorithms a) (PASSWORD_ALGORITHMS ∷ PASSWORD_ALGORITHM ∷ []) m r ready
-    (omega arith) refl (refl, (refl, tt)) (short_other USERHASH text a.userhash refl refl refl)
-    (λ m r ready. step laws PASSWORD_ALGORITHMS listing a.algorithms (from_algorithm a) (PASSWORD_ALGORITHM ∷ []) m r ready
-    (omega arith) refl (refl, tt) (short_other PASSWORD_ALGORITHMS listing a.algorithms refl refl refl)
-    (λ m r ready. step laws PASSWORD_ALGORITHM entry a.algorithm (from_integrity a) [] m r ready
-    (omega arith) refl tt (short_other PASSWORD_ALGORITHM entry a.algorithm refl refl refl)
-    (λ m r ready. last_step a.integrity m r ready))))))
+signing_succeeds laws a message room unsigned limits has_room = signable_signed laws a message room (unsigned_signable a message room unsigned limits has_room)

@@ -1,7 +1,7 @@
 -- What signing adds to a message, by attribute, and what is read of a message that was signed (RFC 8489, sections 9.2.3 to 9.2.5).
 use Rattle.std.specs.Prelude.{◌≡◌, ℕ, ◌+◌, ◌-◌, ◌≤◌, Bool, true, false, ◌||◌, if◌then◌else◌, List, [], ◌∷◌, length, Option, Some, None, IsUtf8}
 use Rattle.std.specs.List.{AllByRecursion}
-use Rattle.std.specs.Option.{IfSome, is_some, option_map}
+use Rattle.std.specs.Option.{IfSome, IsSomeAnd, is_some, option_map}
 use Rattle.stun_base.specs.Attributes.{ERROR_CODE, NONCE, PASSWORD_ALGORITHM, PASSWORD_ALGORITHMS, REALM, USERHASH, USERNAME}
 use Rattle.stun_base.specs.Header.{HEADER_LENGTH}
 use Rattle.stun_base.specs.declared.algorithm.IntegrityAlgorithm.{IntegrityAlgorithm}
@@ -107,6 +107,21 @@ pub record HasRoomFor (a : Added) (message : List ℕ) (room : ℕ) : Type 0 whe
   pub field : length message - HEADER_LENGTH + growth (additions_of a) ≤ max_length
   pub enough : growth (additions_of a) ≤ room
 
+-- the types of the attributes that are added before the digest
+abbrev pub kinds_in : List Addition → List ℕ
+kinds_in [] = []
+kinds_in (attribute a ∷ others) = a.kind ∷ kinds_in others
+kinds_in (integrity algorithm key ∷ others) = kinds_in others
+
+-- nothing but want of memory refuses additions to a message in a writer with so much room: it has no integrity attribute and
+-- no FINGERPRINT, and none of the attributes that are added; texts are within their limits; and length field and writer have
+-- room for all of them
+pub record IsSignable (a : Added) (message : List ℕ) (room : ℕ) : Type 0 where
+  pub is_open : IsOpen message
+  pub none_there : AllByRecursion (λ kind. has_kind kind (walk message) ≡ false) (kinds_in (additions_of a))
+  pub texts : IsWithinLimits a
+  pub has_room : HasRoomFor a message room
+
 -- what is read of a message is its class, its error code, and what was added
 pub record ReadsAs (class : MessageClass) (error : Option ℕ) (a : Added) (r : Reading) : Type 0 where
   pub class_is : r.class ≡ class
@@ -197,3 +212,13 @@ added_at response users (Some p) = added_for response users p.nonce p.client
 -- what a server adds to a message to an address; nothing where the client's user or key is gone
 abbrev pub added_by_server : Sight → Bool → Option Added
 added_by_server s response = added_at response s.registered s.place
+
+-- ---- unchecked signings
+
+-- the caller of an unchecked signing at a client knows this
+abbrev pub ClientMaySign : Bool → ClientState → List ℕ → ℕ → Type 0
+ClientMaySign request state message room = IsSignable (added_by_client request state) message room
+
+-- and at a server this, where the client's user and key are still there
+abbrev pub ServerMaySign : Sight → Bool → List ℕ → ℕ → Type 0
+ServerMaySign s response message room = IsSomeAnd (added_by_server s response) (λ a. IsSignable a message room)

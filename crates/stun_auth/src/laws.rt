@@ -1,5 +1,5 @@
 //! Laws over the definitions that the contracts of this crate cite.
-ghost use Rattle.std.specs.Prelude.{◌≡◌, ◌<◌, ◌≤◌, ◌^◌, ◌||◌, ℕ, ◌+◌, Bool, List, [], ◌∷◌, length, Ok, Option, Some, None, if◌then◌else◌, IsOk, IsUtf8};
+ghost use Rattle.std.specs.Prelude.{◌≡◌, ◌<◌, ◌≤◌, ◌^◌, ◌||◌, ℕ, ◌+◌, Bool, List, [], ◌∷◌, ◌++◌, length, Ok, Option, Some, None, if◌then◌else◌, IsOk, IsUtf8};
 ghost use Rattle.std.specs.List.{AllByRecursion};
 ghost use Rattle.std.specs.Option.{IsSome, is_some};
 ghost use Rattle.stun_base.specs.MessageType.{class_of};
@@ -16,11 +16,11 @@ ghost use Rattle.stun_auth.specs.Client.{ClientState};
 ghost use Rattle.stun_auth.specs.ClientSigning.{client_additions};
 ghost use Rattle.stun_auth.specs.Feature.{is_possible};
 ghost use Rattle.stun_auth.specs.Joined.{HasAdded, IsReadBack, IsTyped, page_after};
-ghost use Rattle.stun_auth.specs.Nonces.{asks_for_algorithms, asks_for_userhash, nonce_of, security_bits};
+ghost use Rattle.stun_auth.specs.Nonces.{asks_for_algorithms, asks_for_userhash, nonce_of, security_bits, spelled_bits};
 ghost use Rattle.stun_auth.specs.Reading.{Reading, class_in, error_code, is_error, reading_of};
 ghost use Rattle.stun_auth.specs.Server.{Sight};
 ghost use Rattle.stun_auth.specs.ServerSigning.{server_signed};
-ghost use Rattle.stun_auth.specs.Signed.{Added, HasRoomFor, IsBuilt, IsSmall, IsText, IsUnsigned, IsWithinLimits, IsWritable, ReadsAs, added_by_client, added_by_server, additions_of, error_attribute};
+ghost use Rattle.stun_auth.specs.Signed.{Added, ClientMaySign, HasRoomFor, IsBuilt, IsSignable, IsSmall, IsText, IsUnsigned, IsWithinLimits, IsWritable, ReadsAs, ServerMaySign, added_by_client, added_by_server, additions_of, error_attribute};
 ghost use Rattle.stun_auth.specs.Validation.{ValidatesAccepted, answer};
 
 /// What was added is what is read: after successful additions to an open message, its own attributes count as before and
@@ -72,6 +72,8 @@ pub fn signing_succeeds_with_room()
         → HasRoomFor a message room }
     ensures succeeds { (a : Added) (message : List ℕ) (room : ℕ) → IsUnsigned message → IsWithinLimits a → HasRoomFor a message room
         → added_all (additions_of a) (record { bytes = message; room = room }) ≡ Ok (page_after (additions_of a) (record { bytes = message; room = room })) }
+    ensures signable { (a : Added) (message : List ℕ) (room : ℕ) → IsSignable a message room
+        → added_all (additions_of a) (record { bytes = message; room = room }) ≡ Ok (page_after (additions_of a) (record { bytes = message; room = room })) }
 {
     stun_types::laws::writing_adds_one_attribute();
     stun_types::laws::signed_message_stands();
@@ -95,6 +97,23 @@ pub fn nonces_ask_for_what_is_supported()
     ensures there { (set : AlgorithmSet) (feature : TheFeature) (words : List ℕ) → is_some (security_bits (nonce_of set feature words)) ≡ (contains Sha256 set || is_possible feature) }
     ensures alike { (set : AlgorithmSet) (feature : TheFeature) (words others : List ℕ) → security_bits (nonce_of set feature words) ≡ security_bits (nonce_of set feature others) }
     ensures short { (set : AlgorithmSet) (feature : TheFeature) (words : List ℕ) → length (nonce_of set feature words) ≤ 13 + length words }
+{}
+
+/// Both sides sign what they may sign: nothing but want of memory refuses it.
+pub fn sides_sign_what_they_may()
+    ensures client { (request : Bool) (state : ClientState) (message : List ℕ) (room : ℕ) → ClientMaySign request state message room
+        → IsOk (added_all (client_additions request state) (record { bytes = message; room = room })) }
+    ensures server { (s : Sight) (response : Bool) (message : List ℕ) (room : ℕ) → ServerMaySign s response message room
+        → IsOk (server_signed s response (record { bytes = message; room = room })) }
+{
+    signing_succeeds_with_room();
+    sides_add_by_attribute();
+}
+
+/// The security bits of a nonce are those that it begins with, whatever text follows them (RFC 8489, section 9.2).
+pub fn security_bits_are_read_back()
+    ensures { (a b c : ℕ) (text : List ℕ) → a < 2 ^ 8 → b < 2 ^ 8 → c < 2 ^ 8
+        → security_bits (spelled_bits (a ∷ b ∷ c ∷ []) ++ text) ≡ Some (a ∷ b ∷ c ∷ []) }
 {}
 
 /// Both sides sign built messages in writers with room for 2,148 bytes.

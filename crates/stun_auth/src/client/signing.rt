@@ -9,10 +9,12 @@ ghost use Rattle.stun_auth.specs.AddedAttribute.{attribute_of};
 ghost use Rattle.stun_auth.specs.Additions.{IsAdded, IsOutcome, UnlessMemory, added_all, growth, page_in, written};
 ghost use Rattle.stun_auth.specs.ClientKept.{challenge_seen, naming_seen, state_seen};
 ghost use Rattle.stun_auth.specs.ClientSigning.{algorithm_choice, challenge_additions, client_additions, identity, is_request, kept_challenge, name_attribute};
+ghost use Rattle.stun_auth.specs.Signed.{ClientMaySign};
 
 use crate::addition::{AddedAttribute, add, add_integrity, attribute_bytes, integrity_bytes};
 use crate::challenge::{KeptChallenge, UserNaming};
 use crate::client::{LongTermClientAuth, State};
+use crate::laws::sides_sign_what_they_may;
 use std::alloc::{AllocError, Allocator};
 use std::convert::AsSlice;
 use stun_types::message::{IntegrityAlgorithm, MessageClass, StunWriteError};
@@ -172,8 +174,13 @@ impl<A: Allocator> LongTermClientAuth<A> {
             UnlessMemory result (written W.bytes W.room result ≡ added_all additions (page_in W.bytes W.room writer)) (W.reserved writer < growth additions) }
         ensures grows { IfOk result (λ signed. length (W.bytes signed)
             ≡ length (W.bytes writer) + growth (client_additions (is_request (class_of (type_field (W.bytes writer)))) self.old.state)) }
+
+        // What is reserved already takes no memory.
+        ensures succeeds { let request = is_request (class_of (type_field (W.bytes writer))) in
+            ClientMaySign request self.old.state (W.bytes writer) (W.room writer) → growth (client_additions request self.old.state) ≤ W.reserved writer → IsOk result }
         ensures stays { self.new ≡ self.old }
     {
+        sides_sign_what_they_may();
         self.signed(writer)
     }
 
@@ -191,18 +198,25 @@ impl<A: Allocator> LongTermClientAuth<A> {
         Ok(writer)
     }
 
-    /// Signs a message of which the caller knows that nothing but want of memory refuses it.
+    /// Signs a message of which the caller knows that nothing but want of memory refuses it: it has no integrity attribute
+    /// and none that signing adds, names and realm are within their limits, and writer and length field have room for
+    /// what is added. The message is the one that `sign_outgoing_message` gives.
     pub fn sign_outgoing_message_unchecked<W: MessageWrite>(
         &mut self,
         writer: W,
     ) -> Result<W, AllocError>
         requires header { BeginsWithHeader (W.bytes writer) }
-        requires signable { IsOk (added_all (client_additions (is_request (class_of (type_field (W.bytes writer)))) self.old.state) (page_in W.bytes W.room writer)) }
+        requires signable { ClientMaySign (is_request (class_of (type_field (W.bytes writer)))) self.old.state (W.bytes writer) (W.room writer) }
         ensures signed { IfOk result (λ signed. Ok (page_in W.bytes W.room signed)
             ≡ added_all (client_additions (is_request (class_of (type_field (W.bytes writer)))) self.old.state) (page_in W.bytes W.room writer)) }
+        ensures grows { IfOk result (λ signed. length (W.bytes signed)
+            ≡ length (W.bytes writer) + growth (client_additions (is_request (class_of (type_field (W.bytes writer)))) self.old.state)) }
+
+        // What is reserved already takes no memory.
+        ensures succeeds { growth (client_additions (is_request (class_of (type_field (W.bytes writer)))) self.old.state) ≤ W.reserved writer → IsOk result }
         ensures stays { self.new ≡ self.old }
     {
-        match self.signed(writer) {
+        match self.sign_outgoing_message(writer) {
             Ok(signed) => Ok(signed),
             Err(_) => Err(AllocError),
         }

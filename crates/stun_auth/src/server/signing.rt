@@ -8,10 +8,12 @@ ghost use Rattle.stun_auth.specs.Additions.{IsAdded, IsOutcome, UnlessMemory, gr
 ghost use Rattle.stun_auth.specs.Places.{client_seen, place_seen};
 ghost use Rattle.stun_auth.specs.Reading.{is_response as is_response_class};
 ghost use Rattle.stun_auth.specs.ServerSigning.{after_signing, algorithms_for, attributes_for, challenge, growth_at, named_algorithm, offer, protected_for, protection_growth, server_growth, server_signed, signed_at};
+ghost use Rattle.stun_auth.specs.Signed.{ServerMaySign};
 ghost use Rattle.stun_auth.specs.Validation.{sight};
 
 use crate::addition::{AddedAttribute, add, add_integrity, attribute_bytes, integrity_bytes};
 use crate::algorithm_set::AlgorithmSet;
+use crate::laws::sides_sign_what_they_may;
 use crate::places::{Client, Place};
 use crate::server::LongTermServerAuth;
 use std::alloc::{AllocError, Allocator};
@@ -59,9 +61,16 @@ impl<A: Allocator + Copy> LongTermServerAuth<A> {
         ensures answer { let response = is_response_class (class_of (type_field (W.bytes writer))) in
             UnlessMemory result (written W.bytes W.room result ≡ server_signed (sight self.old to) response (page_in W.bytes W.room writer))
             (W.reserved writer < server_growth (sight self.old to) response) }
+        ensures grows { IfOk result (λ signed. length (W.bytes signed)
+            ≡ length (W.bytes writer) + server_growth (sight self.old to) (is_response_class (class_of (type_field (W.bytes writer))))) }
+
+        // What is reserved already takes no memory.
+        ensures succeeds { let response = is_response_class (class_of (type_field (W.bytes writer))) in
+            ServerMaySign (sight self.old to) response (W.bytes writer) (W.room writer) → server_growth (sight self.old to) response ≤ W.reserved writer → IsOk result }
         ensures signed { OnOk result (self.new ≡ after_signing self.old to (is_response_class (class_of (type_field (W.bytes writer))))) }
         ensures refused { OnErr result (self.new ≡ self.old) }
     {
+        sides_sign_what_they_may();
         let mut writer = writer;
         let is_response = is_response(&writer);
         self.add_signature(&mut writer, to, is_response)?;
@@ -72,16 +81,23 @@ impl<A: Allocator + Copy> LongTermServerAuth<A> {
         Ok(writer)
     }
 
-    /// Signs a message of which the caller knows that nothing but want of memory refuses it.
+    /// Signs a message of which the caller knows that nothing but want of memory refuses it: it has no integrity attribute
+    /// and none that signing adds, the realm is within its limit, writer and length field have room for what is added, and
+    /// the client's user and key are still there. The message is the one that `sign_outgoing_message` gives.
     pub fn sign_outgoing_message_unchecked<W: MessageWrite>(
         &mut self,
         writer: W,
         to: SocketAddr,
     ) -> Result<W, AllocError>
         requires header { BeginsWithHeader (W.bytes writer) }
-        requires signable { IsOk (server_signed (sight self.old to) (is_response_class (class_of (type_field (W.bytes writer)))) (page_in W.bytes W.room writer)) }
+        requires signable { ServerMaySign (sight self.old to) (is_response_class (class_of (type_field (W.bytes writer)))) (W.bytes writer) (W.room writer) }
         ensures answer { IfOk result (λ signed. Ok (page_in W.bytes W.room signed)
             ≡ server_signed (sight self.old to) (is_response_class (class_of (type_field (W.bytes writer)))) (page_in W.bytes W.room writer)) }
+        ensures grows { IfOk result (λ signed. length (W.bytes signed)
+            ≡ length (W.bytes writer) + server_growth (sight self.old to) (is_response_class (class_of (type_field (W.bytes writer))))) }
+
+        // What is reserved already takes no memory.
+        ensures succeeds { server_growth (sight self.old to) (is_response_class (class_of (type_field (W.bytes writer)))) ≤ W.reserved writer → IsOk result }
         ensures signed { OnOk result (self.new ≡ after_signing self.old to (is_response_class (class_of (type_field (W.bytes writer))))) }
         ensures refused { OnErr result (self.new ≡ self.old) }
     {

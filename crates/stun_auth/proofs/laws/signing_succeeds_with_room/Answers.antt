@@ -1,7 +1,7 @@
 use Rattle.stun_auth.proofs.JoinedLemmas.{WritingLaws}
 use Rattle.stun_auth.proofs.SignedGrowth.{growth-most, room-enough}
 use Rattle.stun_auth.proofs.SignedReading.{written-within}
-use Rattle.stun_auth.proofs.SignedRoom.{signing_succeeds}
+use Rattle.stun_auth.proofs.SignedRoom.{signable_signed, signing_succeeds}
 use Rattle.stun_auth.proofs.laws.signing_succeeds_with_room.Goals as goal
 
 writing : (c : goal.After-signed_message_stands) → WritingLaws
@@ -24,3 +24,6 @@ returns-clause-room c = room-enough
 
 pub returns-clause-succeeds : goal.returns-clause-succeeds
 returns-clause-succeeds c = signing_succeeds (writing c)
+
+pub returns-clause-signable : goal.returns-clause-signable
+returns-clause-signable c = signable_signed (writing c)

@@ -1,0 +1,5 @@
+use Rattle.stun_auth.proofs.NonceBits.{bits_read_back}
+use Rattle.stun_auth.proofs.laws.security_bits_are_read_back.Goals as goal
+
+pub returns : goal.returns
+returns c = bits_read_back

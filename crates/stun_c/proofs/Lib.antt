@@ -1,3 +1,4 @@
+mod Lengths
 mod Signed
 mod Sizes
 mod Texts

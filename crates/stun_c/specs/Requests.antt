@@ -3,6 +3,7 @@ use Rattle.std.specs.Prelude.{ℕ, List, [], ◌∷◌, length, nat_lt, not, ◌
 use Rattle.std.specs.Str.{is_utf8}
 use Rattle.byteorder.specs.Endian.{big_number}
 use Rattle.stun_base.specs.declared.algorithm.IntegrityAlgorithm.{IntegrityAlgorithm}
+use Rattle.stun_base.specs.declared.algorithm.IntegrityAlgorithm.TheVariants.{Sha1, Sha256}
 use Rattle.stun_base.specs.declared.message_type.MessageClass.TheVariants.{Request}
 use Rattle.stun_base.specs.Attributes.{USERNAME}
 use Rattle.stun_base.specs.Keys.{long_term_key, userhash}
@@ -36,6 +37,11 @@ signed_request None id username key = Err BadArgument
 signed_request (Some algorithm) id username key =
     if not (length id == 12) then Err BadArgument
     else unless_refused (username_refusal username) (with_integrity (binding_request id username) algorithm key)
+
+-- the bytes of a long-term key (sections 9.2.2 and 18.5.1)
+abbrev pub key_length : IntegrityAlgorithm → ℕ
+key_length Sha1 = 16
+key_length Sha256 = 32
 
 -- what `stun_long_term_key` makes (section 9.2.2)
 abbrev pub key_of_texts : Option IntegrityAlgorithm → List ℕ → List ℕ → List ℕ → Result (List ℕ) Refusal

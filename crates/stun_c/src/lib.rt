@@ -11,6 +11,7 @@ ghost use Rattle.stun_c.specs.Requests.{signed_request, key_of_texts, userhash_o
 mod buffer;
 mod codes;
 mod keys;
+pub mod laws;
 mod request;
 mod text;
 mod verdict;

@@ -1,11 +1,17 @@
 #!/bin/sh
-# Builds the examples against the archive, which is made where it is missing, and compares what they print.
-# Without a C compiler it checks nothing. The last line says what was checked.
+# Builds the archive and the examples against it, and compares what they print.
+# Without a C compiler and make it checks nothing. The last line says what was checked.
 set -eu
 cd "$(dirname "$0")"
-if ! command -v "${CC:-cc}" >/dev/null; then
-    echo "examples: no C compiler"
+if ! command -v "${CC:-cc}" >/dev/null || ! command -v make >/dev/null; then
+    echo "examples: no C compiler and make"
     exit 0
+fi
+scratch=$(mktemp -d)
+trap 'rm -rf "$scratch"' EXIT
+if ! (cd ../crates/stun_c && rt lib) >"$scratch/lib" 2>&1; then
+    cat "$scratch/lib" >&2
+    exit 1
 fi
 
 # expect WANTED COMMAND..: the command prints this, whatever its status.
@@ -19,6 +25,7 @@ expect() {
     fi
 }
 
+rm -rf c/out
 make -s -C c CC="${CC:-cc}"
 
 # The archive asks for nothing but these, so no call takes memory.
@@ -28,8 +35,6 @@ if [ -n "$needed" ]; then
     exit 1
 fi
 
-scratch=$(mktemp -d)
-trap 'rm -rf "$scratch"' EXIT
 password='VOkJxbRl1RmTxUk/WvJxBt'
 
 # The request of RFC 5769, section 2.1, without white space.

@@ -9,6 +9,7 @@ ghost use Rattle.stun_tool.specs.Run.{words_of_check, words_of_schedule, words_o
 mod check;
 mod digits;
 mod input;
+mod names;
 mod output;
 mod schedule;
 mod script;
@@ -17,15 +18,16 @@ mod status;
 #[cfg(test)]
 mod tests;
 mod verdict;
+mod words;
 
 use check::check;
-use input::{CountedRead, MAX_READS, Uncounted};
+use input::{CountedRead, Failure, MAX_READS, Uncounted};
 use output::write_text;
 use schedule::schedule;
 use serve::serve;
 use status::Status;
 use std::alloc::Global;
-use std::io::Write;
+use std::io::{ErrorKind, Write};
 use std::process::ExitCode;
 use std::{env, io};
 
@@ -69,20 +71,22 @@ fn run<R: CountedRead, W: Write, E: Write>(
     status
 }
 
-/// The words after the program's name, or none where one of them is no text.
-fn words_of(rt: &(impl std::rt::Env + AllocGlobal)) -> Vec<String> {
-    let words = match env::args(rt) {
+/// The words after the program's name, or none where one of them is no text. It fails where memory is wanting.
+fn words_of(rt: &(impl std::rt::Env + AllocGlobal)) -> Result<Vec<String>, Failure> {
+    match env::args(rt) {
         Ok(mut words) => {
             words.next();
-            words.collect(rt.alloc()).ok()
+            Ok(words.collect(rt.alloc())?)
         }
-        Err(_) => None,
-    };
-    words.unwrap_or_else(|| Vec::new(rt.alloc()))
+        Err(error) if error.kind() == ErrorKind::OutOfMemory => Err(Failure),
+        Err(_) => Ok(Vec::new(rt.alloc())),
+    }
 }
 
 fn main(rt: HostRuntime) -> ExitCode {
-    let words = words_of(&rt);
+    let Ok(words) = words_of(&rt) else {
+        return ExitCode::from(Status::Failed.code());
+    };
     let status = run(
         rt.alloc(),
         words.as_slice(),

@@ -4,7 +4,8 @@ ghost use Rattle.std.specs.Prelude.{◌≡◌};
 use crate::input::{CountedRead, Failure};
 use crate::output::write_text;
 use crate::status::Status;
-use std::alloc::Global;
+use crate::words::number;
+use std::alloc::{Allocator, Global};
 use std::io::Write;
 use std::net::{IpAddr, Ipv4Addr, SocketAddr};
 use std::time::Duration;
@@ -20,7 +21,7 @@ const MOST_TRANSMISSIONS: u64 = 1000;
 
 /// When a request is sent again and given up.
 #[derive(Clone, Copy, Debug, PartialEq, Eq)]
-struct Settings {
+pub struct Settings {
     transport: TransportType,
     initial: Duration,
     max: Duration,
@@ -48,14 +49,17 @@ pub fn schedule<R: CountedRead, W: Write>(
     let Some(settings) = settings_of(words) else {
         return Status::WrongWords;
     };
-    match print_schedule(alloc, settings, writer) {
+    let Ok(request) = binding_request(alloc) else {
+        return Status::Failed;
+    };
+    match print_schedule(alloc, settings, request, writer) {
         Ok(()) => Status::Answered,
         Err(Failure) => Status::Failed,
     }
 }
 
 /// The settings that the words name, if they name some.
-fn settings_of(words: &[String]) -> Option<Settings> {
+pub fn settings_of(words: &[String]) -> Option<Settings> {
     let [transport, initial, max, retransmits, final_wait] = words else {
         return None;
     };
@@ -88,19 +92,11 @@ fn milliseconds(word: &str) -> Option<Duration> {
     Some(Duration::from_millis(number(word)?))
 }
 
-/// The number that decimal digits spell, where it takes no more than 64 bits.
-fn number(word: &str) -> Option<u64> {
-    if word.bytes().all(|byte| byte.is_ascii_digit()) {
-        word.parse::<u64>().ok()
-    } else {
-        None
-    }
-}
-
-/// A line for each step of the request.
-fn print_schedule<W: Write>(
-    alloc: Global,
+/// A line for each step of a request.
+pub fn print_schedule<W: Write, A: Allocator + Copy>(
+    alloc: A,
     settings: Settings,
+    request: Vec<u8>,
     writer: &mut W,
 ) -> Result<(), Failure> {
     let local = SocketAddr::new(IpAddr::V4(Ipv4Addr::new(10, 0, 0, 1)), 3478);
@@ -115,10 +111,7 @@ fn print_schedule<W: Write>(
         .build();
     let events = [(
         Instant::ZERO,
-        AgentEvent::SendRequest {
-            bytes: binding_request(alloc)?,
-            to,
-        },
+        AgentEvent::SendRequest { bytes: request, to },
     )];
     let Ok(steps) = drive(alloc, &mut agent, &events, Instant::MAX) else {
         return Err(Failure);
@@ -138,7 +131,7 @@ fn print_schedule<W: Write>(
 }
 
 /// A Binding request with id 1.
-fn binding_request(alloc: Global) -> Result<Vec<u8>, Failure> {
+pub fn binding_request(alloc: Global) -> Result<Vec<u8>, Failure> {
     let id = TransactionId::from_u128(1).ok_or(Failure)?;
     match Message::builder_request(BINDING, id, MessageWriteVec::new(alloc)) {
         Ok(writer) => Ok(writer.finish()),
@@ -147,8 +140,8 @@ fn binding_request(alloc: Global) -> Result<Vec<u8>, Failure> {
 }
 
 /// The word, and the moment in milliseconds.
-fn print_line<W: Write>(
-    alloc: Global,
+fn print_line<W: Write, A: Allocator>(
+    alloc: A,
     word: &str,
     moment: Instant,
     writer: &mut W,

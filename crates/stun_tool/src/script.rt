@@ -1,14 +1,13 @@
 //! The script of `serve`: a call of a server in each line that is not empty.
 
 use crate::input::Failure;
+use crate::words::{algorithm, feature, number};
 use hex::FromHexError;
 use std::alloc::{AllocError, Global};
 use std::net::{SocketAddr, SocketAddrV4};
 use std::time::Duration;
 use stun_proto::Instant;
-use stun_proto::auth::Feature;
 use stun_proto::replay::ServerCall;
-use stun_types::message::IntegrityAlgorithm;
 
 /// The nanoseconds of a millisecond.
 const NANOS_PER_MILLI: u64 = 1_000_000;
@@ -145,16 +144,10 @@ fn integrity(arguments: &[&str]) -> Option<ServerCall> {
 }
 
 fn anonymous(arguments: &[&str]) -> Option<ServerCall> {
-    let [feature] = arguments else {
+    let [name] = arguments else {
         return None;
     };
-    let feature = match *feature {
-        "auto" => Feature::Auto,
-        "required" => Feature::Required,
-        "disabled" => Feature::Disabled,
-        _ => return None,
-    };
-    Some(ServerCall::SetAnonymous(feature))
+    Some(ServerCall::SetAnonymous(feature(name)?))
 }
 
 fn remove_client(arguments: &[&str]) -> Option<ServerCall> {
@@ -171,14 +164,6 @@ fn expiry(arguments: &[&str]) -> Option<ServerCall> {
     Some(ServerCall::SetExpiry(Duration::from_secs(number(seconds)?)))
 }
 
-fn algorithm(name: &str) -> Option<IntegrityAlgorithm> {
-    match name {
-        "sha1" => Some(IntegrityAlgorithm::Sha1),
-        "sha256" => Some(IntegrityAlgorithm::Sha256),
-        _ => None,
-    }
-}
-
 /// An IPv4 address and a port, both without leading zeros.
 fn address(word: &str) -> Option<SocketAddr> {
     let (_, port) = word.split_once(':')?;
@@ -187,15 +172,6 @@ fn address(word: &str) -> Option<SocketAddr> {
     }
     let address = word.parse::<SocketAddrV4>().ok()?;
     Some(SocketAddr::V4(address))
-}
-
-/// The number that decimal digits spell, where it takes no more than 64 bits.
-fn number(word: &str) -> Option<u64> {
-    if word.bytes().all(|byte| byte.is_ascii_digit()) {
-        word.parse::<u64>().ok()
-    } else {
-        None
-    }
 }
 
 /// A moment in whole milliseconds, up to `Instant::MAX`.

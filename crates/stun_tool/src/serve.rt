@@ -2,16 +2,16 @@
 ghost use Rattle.std.specs.Prelude.{◌≡◌, ◌≢◌, ◌≤◌, ◌+◌, ◌↔◌, length};
 
 use crate::input::{CountedRead, Failure, MAX_READS, read_to_end};
+use crate::names::{algorithm_name, error_name, server_reason_name};
 use crate::output::write_text;
 use crate::script::{Script, read_script};
 use crate::status::Status;
 use crate::verdict::Verdict;
-use std::alloc::{AllocError, Global};
+use std::alloc::{AllocError, Allocator, Global};
 use std::io::Write;
-use stun_proto::auth::{LongTermServerAuth, LongTermServerAuthErrorReason};
+use stun_proto::auth::LongTermServerAuth;
 use stun_proto::replay;
 use stun_proto::replay::{ServerCall, ServerReply};
-use stun_types::message::{IntegrityAlgorithm, StunWriteError};
 
 /// Runs a script of calls at a new long-term server of a realm, which is the one word, and prints a line for each reply
 /// (RFC 8489, section 9.2.4).
@@ -63,8 +63,8 @@ fn print_script<W: Write>(
 }
 
 /// Makes the calls at a new server, and prints a line for each reply.
-fn print_replies<W: Write>(
-    alloc: Global,
+pub fn print_replies<W: Write, A: Allocator + Copy>(
+    alloc: A,
     realm: &str,
     calls: &[ServerCall],
     writer: &mut W,
@@ -82,19 +82,17 @@ fn print_replies<W: Write>(
 }
 
 /// The line for a reply.
-fn line_of(alloc: Global, reply: &ServerReply) -> Result<String, AllocError> {
+fn line_of<A: Allocator + Copy>(alloc: A, reply: &ServerReply<A>) -> Result<String<A>, AllocError> {
     match reply {
         ServerReply::NotAMessage(error) => {
             String::from_str(alloc, Verdict::NotAMessage(*error).line())
         }
-        ServerReply::Validated(IntegrityAlgorithm::Sha1) => {
-            String::from_str(alloc, "validated Sha1\n")
-        }
-        ServerReply::Validated(IntegrityAlgorithm::Sha256) => {
-            String::from_str(alloc, "validated Sha256\n")
+        ServerReply::Validated(algorithm) => {
+            let name = algorithm_name(*algorithm);
+            format!(in alloc; "validated {name}\n")
         }
         ServerReply::Refused(reason) => {
-            let name = reason_name(*reason);
+            let name = server_reason_name(*reason);
             format!(in alloc; "refused {name}\n")
         }
         ServerReply::Signed(bytes) => {
@@ -107,30 +105,5 @@ fn line_of(alloc: Global, reply: &ServerReply) -> Result<String, AllocError> {
         }
         ServerReply::Done => String::from_str(alloc, "ok\n"),
         ServerReply::TooShort => String::from_str(alloc, "too short\n"),
-    }
-}
-
-/// The name of a reason.
-fn reason_name(reason: LongTermServerAuthErrorReason) -> &'static str {
-    match reason {
-        LongTermServerAuthErrorReason::Unauthorized => "Unauthorized",
-        LongTermServerAuthErrorReason::IntegrityFailed => "IntegrityFailed",
-        LongTermServerAuthErrorReason::UnsupportedFeature => "UnsupportedFeature",
-        LongTermServerAuthErrorReason::BadRequest => "BadRequest",
-        LongTermServerAuthErrorReason::StaleNonce => "StaleNonce",
-        LongTermServerAuthErrorReason::OutOfMemory => "OutOfMemory",
-    }
-}
-
-/// The name of an error.
-fn error_name(error: StunWriteError) -> &'static str {
-    match error {
-        StunWriteError::NotAllowed => "NotAllowed",
-        StunWriteError::MessageIntegrityExists => "MessageIntegrityExists",
-        StunWriteError::AttributeExists(_) => "AttributeExists",
-        StunWriteError::TooLarge => "TooLarge",
-        StunWriteError::TooSmall => "TooSmall",
-        StunWriteError::IntegrityFailed => "IntegrityFailed",
-        StunWriteError::OutOfMemory => "OutOfMemory",
     }
 }

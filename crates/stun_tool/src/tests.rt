@@ -4,7 +4,7 @@ mod schedule;
 mod serve;
 
 use crate::check::check;
-use crate::input::Uncounted;
+use crate::input::{Failure, Uncounted};
 use crate::run;
 use crate::status::Status;
 use fail_alloc::RefusingAllocator;
@@ -34,6 +34,23 @@ fn words(alloc: Global, texts: &[&str]) -> Result<Vec<String>, Fail> {
         words.push(text.to_string(alloc)?)?;
     }
     Ok(words)
+}
+
+/// Takes so many bytes, one at each write, and then ends in this way.
+fn slow_writer(alloc: Global, left: u32, end: WriteEnd) -> SlowWriter {
+    SlowWriter {
+        taken: Vec::new(alloc),
+        left,
+        end,
+    }
+}
+
+/// Compares what was printed with the lines: all of them, or a beginning where memory was wanting.
+fn expect_beginning(rt: &impl Abort, answer: Result<(), Failure>, printed: &[u8], lines: &str) {
+    match answer {
+        Ok(()) => assert_eq!(rt; printed, lines.as_bytes()),
+        Err(Failure) => assert!(rt; lines.as_bytes().starts_with(printed)),
+    }
 }
 
 /// Checks each input under the password, and compares status and line.
@@ -175,6 +192,10 @@ fn wrong_words(rt: HostRuntime) -> Result<(), Fail> {
         &["Check", "a"],
         &["checks", "a"],
         &["", "a"],
+        &["serve"],
+        &["serve", "a", "b"],
+        &["schedule"],
+        &["schedule", "udp", "500", "-", "1001", "8000"],
     ] {
         let given = words(alloc, texts)?;
         let mut reader = EndlessReader { asked: 0 };
@@ -256,11 +277,7 @@ fn byte_by_byte(rt: HostRuntime) -> Result<(), Fail> {
         rest: SAMPLE_REQUEST.as_bytes(),
         is_interrupted: false,
     });
-    let mut writer = SlowWriter {
-        taken: Vec::new(alloc),
-        left: 1000,
-        end: WriteEnd::Fails,
-    };
+    let mut writer = slow_writer(alloc, 1000, WriteEnd::Fails);
     let status = check(alloc, password.as_slice(), &mut reader, &mut writer);
     assert_eq!(rt; status, Status::Answered);
     assert_eq!(rt; writer.taken.as_slice(), SAMPLE_LINE);
@@ -278,11 +295,7 @@ fn a_writer_that_stops(rt: HostRuntime) -> Result<(), Fail> {
     ] {
         for left in [0, 1, 23, 24] {
             let mut reader = Uncounted(SAMPLE_REQUEST.as_bytes());
-            let mut writer = SlowWriter {
-                taken: Vec::new(alloc),
-                left,
-                end,
-            };
+            let mut writer = slow_writer(alloc, left, end);
             let status = check(alloc, password.as_slice(), &mut reader, &mut writer);
             if left < 24 {
                 assert_eq!(rt; status, Status::Failed, "{end:?} after {left}");

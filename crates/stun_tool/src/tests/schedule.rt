@@ -1,14 +1,18 @@
 //! The lines of `schedule`, its wrong words, and a writer that fails.
-use super::fakes::WriteEnd;
-use super::words;
+use super::fakes::{EndlessReader, WriteEnd};
+use super::{expect_beginning, slow_writer, words};
 use crate::input::Uncounted;
-use crate::schedule::schedule;
+use crate::schedule::{binding_request, print_schedule, schedule, settings_of};
 use crate::status::Status;
+use fail_alloc::RefusingAllocator;
 use std::test::Fail;
 
 /// A request of the default settings over UDP (RFC 8489, section 6.2.1).
 const DEFAULT_LINES: &str =
     "sent 0\nsent 500\nsent 1500\nsent 3500\nsent 7500\nsent 15500\nsent 31500\ntimed out 39500\n";
+
+/// Words that name the default settings.
+const DEFAULT_WORDS: &[&str] = &["udp", "500", "-", "7", "8000"];
 
 #[test]
 fn prints_each_moment(rt: HostRuntime) -> Result<(), Fail> {
@@ -67,10 +71,53 @@ fn finds_wrong_words_first(rt: HostRuntime) -> Result<(), Fail> {
     for texts in &table {
         let given = words(alloc, texts)?;
         let mut writer = Vec::new(alloc);
-        let mut reader = Uncounted(b"".as_slice());
+        let mut reader = EndlessReader { asked: 0 };
         let status = schedule(alloc, given.as_slice(), &mut reader, &mut writer);
         assert_eq!(rt; status, Status::WrongWords);
+        assert_eq!(rt; reader.asked, 0);
         assert!(rt; writer.is_empty());
     }
     Ok(())
+}
+
+#[test]
+fn a_writer_that_stops(rt: HostRuntime) -> Result<(), Fail> {
+    let alloc = rt.alloc();
+    let given = words(alloc, DEFAULT_WORDS)?;
+    for left in 0..=DEFAULT_LINES.len() {
+        let mut reader = Uncounted(b"".as_slice());
+        let mut writer = slow_writer(alloc, left as u32, WriteEnd::TakesNothing);
+        let status = schedule(alloc, given.as_slice(), &mut reader, &mut writer);
+        if left < DEFAULT_LINES.len() {
+            assert_eq!(rt; status, Status::Failed, "after {left}");
+        } else {
+            assert_eq!(rt; status, Status::Answered, "after {left}");
+        }
+        assert_eq!(rt; writer.taken.len(), left);
+        assert!(rt;
+            DEFAULT_LINES
+                .as_bytes()
+                .starts_with(writer.taken.as_slice())
+        );
+    }
+    Ok(())
+}
+
+#[test]
+fn each_allocation_refused(rt: HostRuntime) -> Result<(), Fail> {
+    let alloc = rt.alloc();
+    let settings = settings_of(words(alloc, DEFAULT_WORDS)?.as_slice()).ok_or("right words")?;
+    let heap = RefusingAllocator::new(alloc);
+    for nth in 1..200 {
+        let request = binding_request(alloc).ok().ok_or("ample memory")?;
+        let mut writer = Vec::new(alloc);
+        heap.refuse(nth);
+        let answer = print_schedule(&heap, settings, request, &mut writer);
+        assert!(rt; answer.is_ok() || !heap.is_waiting());
+        expect_beginning(&rt, answer, writer.as_slice(), DEFAULT_LINES);
+        if heap.is_waiting() {
+            return Ok(());
+        }
+    }
+    panic!(rt; "each run met a refusal")
 }

@@ -1,9 +1,14 @@
 //! The lines of `serve`: a worked script, the first wrong line, and words, readers and writers that fail.
-use super::words;
+use super::fakes::{EndlessReader, FailingReader, SlowReader, WriteEnd};
+use super::{expect_beginning, slow_writer, words};
 use crate::input::Uncounted;
-use crate::serve::serve;
+use crate::script::{Script, read_script};
+use crate::serve::{print_replies, serve};
 use crate::status::Status;
+use fail_alloc::RefusingAllocator;
+use std::alloc::Global;
 use std::test::Fail;
+use stun_proto::replay::ServerCall;
 
 /// A user, a request without a signature, a 401 that is signed, and an expiry below 30 seconds.
 const SCRIPT: &str = "user user pass
@@ -76,7 +81,17 @@ fn prints_each_reply(rt: HostRuntime) -> Result<(), Fail> {
         ("sign 10.0.0.1:1 0", Status::Refused, "wrong line 1\n"),
         ("sign 10.0.0.1:1 ", Status::Refused, "wrong line 1\n"),
         (
+            "validate 10.0.0.1:1 18446744073709 AAAAAAAAAAAAAAAA 00",
+            Status::Answered,
+            "not a message: truncated\n",
+        ),
+        (
             "validate 10.0.0.1:1 18446744073710 AAAAAAAAAAAAAAAA 00",
+            Status::Refused,
+            "wrong line 1\n",
+        ),
+        (
+            "validate 10.0.0.1:1 18446744073709551616 AAAAAAAAAAAAAAAA 00",
             Status::Refused,
             "wrong line 1\n",
         ),
@@ -107,4 +122,77 @@ fn refuses_bytes_that_are_no_text(rt: HostRuntime) -> Result<(), Fail> {
     assert_eq!(rt; answer, Status::Refused);
     assert_eq!(rt; writer.as_slice(), b"wrong line 2\n".as_slice());
     Ok(())
+}
+
+#[test]
+fn byte_by_byte(rt: HostRuntime) -> Result<(), Fail> {
+    let alloc = rt.alloc();
+    let given = words(alloc, &["realm"])?;
+    // The last line ends with the input.
+    let mut reader = Uncounted(SlowReader {
+        rest: SCRIPT.trim_end().as_bytes(),
+        is_interrupted: false,
+    });
+    let mut writer = slow_writer(alloc, 1000, WriteEnd::Fails);
+    let status = serve(alloc, given.as_slice(), &mut reader, &mut writer);
+    assert_eq!(rt; status, Status::Answered);
+    assert_eq!(rt; writer.taken.as_slice(), LINES.as_bytes());
+    Ok(())
+}
+
+#[test]
+fn a_reader_that_fails(rt: HostRuntime) -> Result<(), Fail> {
+    let alloc = rt.alloc();
+    let given = words(alloc, &["realm"])?;
+    let mut writer = Vec::new(alloc);
+    let mut reader = Uncounted(FailingReader { left: 20 });
+    let status = serve(alloc, given.as_slice(), &mut reader, &mut writer);
+    assert_eq!(rt; status, Status::Failed);
+    let mut reader = EndlessReader { asked: 0 };
+    let status = serve(alloc, given.as_slice(), &mut reader, &mut writer);
+    assert_eq!(rt; status, Status::Failed);
+    assert_eq!(rt; reader.asked, 1_048_576);
+    assert!(rt; writer.is_empty());
+    Ok(())
+}
+
+#[test]
+fn a_writer_that_stops(rt: HostRuntime) -> Result<(), Fail> {
+    let alloc = rt.alloc();
+    let given = words(alloc, &["realm"])?;
+    for left in 0..LINES.len() {
+        let mut reader = Uncounted(SCRIPT.as_bytes());
+        let mut writer = slow_writer(alloc, left as u32, WriteEnd::Fails);
+        let status = serve(alloc, given.as_slice(), &mut reader, &mut writer);
+        assert_eq!(rt; status, Status::Failed, "after {left}");
+        assert_eq!(rt; writer.taken.len(), left);
+        assert!(rt; LINES.as_bytes().starts_with(writer.taken.as_slice()));
+    }
+    Ok(())
+}
+
+/// The calls of the script.
+fn calls_of_script(alloc: Global) -> Result<Vec<ServerCall>, Fail> {
+    match read_script(alloc, SCRIPT.as_bytes()) {
+        Ok(Script::Calls(calls)) => Ok(calls),
+        _ => Err(Fail::from("each line is a call")),
+    }
+}
+
+#[test]
+fn each_allocation_refused(rt: HostRuntime) -> Result<(), Fail> {
+    let alloc = rt.alloc();
+    let calls = calls_of_script(alloc)?;
+    let heap = RefusingAllocator::new(alloc);
+    for nth in 1..200 {
+        let mut writer = Vec::new(alloc);
+        heap.refuse(nth);
+        let answer = print_replies(&heap, "realm", calls.as_slice(), &mut writer);
+        assert!(rt; answer.is_ok() || !heap.is_waiting());
+        expect_beginning(&rt, answer, writer.as_slice(), LINES);
+        if heap.is_waiting() {
+            return Ok(());
+        }
+    }
+    panic!(rt; "each run met a refusal")
 }

@@ -1,0 +1,37 @@
+//! The names that are printed, those of the variants.
+
+use stun_proto::auth::LongTermServerAuthErrorReason;
+use stun_types::message::{IntegrityAlgorithm, StunWriteError};
+
+/// The name of an algorithm.
+pub fn algorithm_name(algorithm: IntegrityAlgorithm) -> &'static str {
+    match algorithm {
+        IntegrityAlgorithm::Sha1 => "Sha1",
+        IntegrityAlgorithm::Sha256 => "Sha256",
+    }
+}
+
+/// The name of a server's reason.
+pub fn server_reason_name(reason: LongTermServerAuthErrorReason) -> &'static str {
+    match reason {
+        LongTermServerAuthErrorReason::Unauthorized => "Unauthorized",
+        LongTermServerAuthErrorReason::IntegrityFailed => "IntegrityFailed",
+        LongTermServerAuthErrorReason::UnsupportedFeature => "UnsupportedFeature",
+        LongTermServerAuthErrorReason::BadRequest => "BadRequest",
+        LongTermServerAuthErrorReason::StaleNonce => "StaleNonce",
+        LongTermServerAuthErrorReason::OutOfMemory => "OutOfMemory",
+    }
+}
+
+/// The name of an error of writing.
+pub fn error_name(error: StunWriteError) -> &'static str {
+    match error {
+        StunWriteError::NotAllowed => "NotAllowed",
+        StunWriteError::MessageIntegrityExists => "MessageIntegrityExists",
+        StunWriteError::AttributeExists(_) => "AttributeExists",
+        StunWriteError::TooLarge => "TooLarge",
+        StunWriteError::TooSmall => "TooSmall",
+        StunWriteError::IntegrityFailed => "IntegrityFailed",
+        StunWriteError::OutOfMemory => "OutOfMemory",
+    }
+}

@@ -46,6 +46,7 @@ fn run<R: CountedRead, W: Write, E: Write>(
 ) -> Status
     ensures other_command { IfNone (words_of_check words.now) (IfNone (words_of_schedule words.now) (IfNone (words_of_serve words.now) (result ≡ Status.WrongWords))) }
     ensures wrong_words { IfSome (words_of_check words.now) (λ others. (result ≡ Status.WrongWords) ↔ (length others ≢ 1)) }
+    ensures wrong_realm { IfSome (words_of_serve words.now) (λ others. (result ≡ Status.WrongWords) ↔ (length others ≢ 1)) }
     ensures untouched { result ≡ Status.WrongWords → (reader.new ≡ reader.old) × (writer.new ≡ writer.old) }
     ensures usage { result ≡ Status.WrongWords → AppendsUnlessFailed (E.contents errors.old) (E.contents errors.new) usage_line }
     ensures silent { result ≢ Status.WrongWords → errors.new ≡ errors.old }

@@ -1,5 +1,5 @@
 //! The command `schedule`.
-ghost use Rattle.std.specs.Prelude.{◌≡◌};
+ghost use Rattle.std.specs.Prelude.{◌≡◌, ◌≢◌, length, IfSome};
 
 use crate::input::{CountedRead, Failure};
 use crate::output::write_text;
@@ -43,6 +43,7 @@ pub fn schedule<R: CountedRead, W: Write>(
     _reader: &mut R,
     writer: &mut W,
 ) -> Status
+    ensures other_count { length words.now ≢ 5 → result ≡ Status.WrongWords }
     ensures untouched { result ≡ Status.WrongWords → writer.new ≡ writer.old }
     ensures unread { _reader.new ≡ _reader.old }
 {
@@ -59,7 +60,9 @@ pub fn schedule<R: CountedRead, W: Write>(
 }
 
 /// The settings that the words name, if they name some.
-pub fn settings_of(words: &[String]) -> Option<Settings> {
+pub fn settings_of(words: &[String]) -> Option<Settings>
+    ensures { IfSome result (λ _. length words.now ≡ 5) }
+{
     let [transport, initial, max, retransmits, final_wait] = words else {
         return None;
     };

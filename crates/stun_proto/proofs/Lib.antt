@@ -1,6 +1,7 @@
 pub mod AcceptingLemmas
 pub mod Addresses
 pub mod AfterCalls
+pub mod Along
 pub mod Answered
 pub mod Ascending
 pub mod Chosen
@@ -8,6 +9,7 @@ pub mod DrawnWords
 pub mod DriveLemmas
 pub mod EntryLemmas
 pub mod Hashes
+pub mod Heard
 pub mod IsolationLemmas
 pub mod Matched
 pub mod Meeting
@@ -16,6 +18,7 @@ pub mod OneTransaction
 pub mod Refusals
 pub mod Renewed
 pub mod RunLemmas
+pub mod Runs
 pub mod ScheduleLaw
 pub mod ServedCalls
 pub mod Sights
@@ -24,5 +27,6 @@ pub mod SignedRuns
 pub mod SigningLemmas
 pub mod SoonerLemmas
 pub mod TurnLemmas
+pub mod Typed
 pub mod ValidateLemmas
 pub mod Work

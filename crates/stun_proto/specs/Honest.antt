@@ -17,7 +17,7 @@ use Rattle.stun_auth.specs.Validation.{ServerSeen, sight}
 use Rattle.stun_proto.specs.Best.{best}
 use Rattle.stun_proto.specs.Matching.{AreJoined, AreOfOthers, AreTexts}
 use Rattle.stun_proto.specs.Negotiation.{Meeting, Met, negotiated}
-use Rattle.stun_proto.specs.declared.replay.negotiate.Outcome.TheVariants.{Validated, ClientRefused}
+use Rattle.stun_proto.specs.declared.replay.negotiation.Outcome.TheVariants.{Validated, ClientRefused}
 
 -- no two present users share a hash
 abbrev pub HaveOwnHashes : Registered → Type 0
@@ -57,8 +57,12 @@ abbrev pub ComesTo : SocketAddr → NameAndPassword → Option IntegrityAlgorith
 ComesTo from who (Some a) met = AgreesOn from who a met
 ComesTo from who None met = GivesUp met
 
+-- the strongest algorithm that a client and a server support, if there is one
+abbrev pub strongest : Meeting → ServerSeen → Option IntegrityAlgorithm
+strongest m server = best m.settings.supported (listed server.registered.algorithms) m.settings.feature server.feature
+
 -- an honest client and its server come to the strongest algorithm of both, where there is one; else the client gives up
 abbrev pub StrongestIsAgreed : Type 0
 StrongestIsAgreed = (m : Meeting) (who : NameAndPassword) (server : ServerSeen)
     → AreTexts server.registered.realm who.username → IsHonest m who server
-    → ComesTo m.from who (best m.settings.supported (listed server.registered.algorithms) m.settings.feature server.feature) (negotiated m initial server)
+    → ComesTo m.from who (strongest m server) (negotiated m initial server)

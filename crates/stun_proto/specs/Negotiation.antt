@@ -25,8 +25,8 @@ use Rattle.stun_auth.specs.Signed.{error_attribute}
 use Rattle.stun_auth.specs.Validation.{Answer, ServerSeen, after_message, answer, sight}
 use Rattle.stun_proto.specs.Serving.{after_calls}
 use Rattle.stun_proto.specs.declared.replay.call.ServerCall.{ServerCall}
-use Rattle.stun_proto.specs.declared.replay.negotiate.Outcome.{Outcome}
-use Rattle.stun_proto.specs.declared.replay.negotiate.Outcome.TheVariants.{Validated, AlreadyValidated, ServerRefused, ClientRefused}
+use Rattle.stun_proto.specs.declared.replay.negotiation.Outcome.{Outcome}
+use Rattle.stun_proto.specs.declared.replay.negotiation.Outcome.TheVariants.{Validated, AlreadyValidated, ServerRefused, ClientRefused}
 
 -- ---- who meets
 

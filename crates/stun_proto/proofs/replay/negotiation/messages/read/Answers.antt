@@ -1,0 +1,51 @@
+use Rattle.std.proofs.Common.{rules, ◌≡◌, List, ℕ, sym, ◌∙◌, ap, subst, Ok, Err, IfOk, OnOk, OnErr}
+use Rattle.std.specs.Prelude.{IsErr}
+use Rattle.stun_auth.specs.Client.{ClientSide}
+use Rattle.stun_auth.specs.ClientStep.{ClientAnswer, ForReason, client_step}
+use Rattle.stun_auth.specs.Reading.{reading_of}
+use Rattle.stun_auth.specs.declared.client_answer.LongTermClientAuthErrorReason.{LongTermClientAuthErrorReason}
+use Rattle.stun_proto.proofs.Heard.{either_client, off_told, off_untold, on_told, on_untold, told, untold}
+use Rattle.stun_proto.proofs.replay.negotiation.messages.read.Goals as goal
+
+pub message_in-response-requires : goal.message_in-response-requires
+message_in-response-requires g c = c.requires
+
+pub returns-in-Ok-clause-answer : goal.returns-in-Ok-clause-answer
+returns-in-Ok-clause-answer g c =
+    let k = c.args.client.now in
+    c.in-Ok.ensures.answer ∙ ap (λ m. (client_step k.settings k.state (reading_of m)).answer) c.message_in-response.ensures
+
+pub returns-in-Ok-clause-client : goal.returns-in-Ok-clause-client
+returns-in-Ok-clause-client g c =
+    let k = c.args.client.now in
+    c.in-Ok.ensures.state ∙ ap (λ m. record k { state = (client_step k.settings k.state (reading_of m)).state }) c.message_in-response.ensures
+
+pub returns-in-Err-clause-answer : goal.returns-in-Err-clause-answer
+returns-in-Err-clause-answer g c =
+    let k = c.args.client.now in
+    let reason = c.in-Err.error in
+    let right : ClientAnswer = (client_step k.settings k.state (reading_of c.args.bytes.now)).answer in
+    let P : LongTermClientAuthErrorReason → Type 0 = λ r. ForReason r (c.client_refusal.result ≡ Ok (Err r)) (IsErr c.client_refusal.result) in
+    either_client reason
+    (λ given is. told c.client_refusal.result (Err reason) right given (is ∙ ap (λ m. (client_step k.settings k.state (reading_of m)).answer) c.message_in-response.ensures))
+    (λ none is. untold c.client_refusal.result right none)
+    (subst P c.reason.ensures c.client_refusal.ensures) c.in-Err.ensures.answer
+
+pub returns-in-Err-clause-client : goal.returns-in-Err-clause-client
+returns-in-Err-clause-client g c =
+    let k = c.args.client.now in
+    let reason = c.in-Err.error in
+    let P : LongTermClientAuthErrorReason → Type 0 = λ r. ForReason r (c.client_refusal.result ≡ Ok (Err r)) (IsErr c.client_refusal.result) in
+    either_client reason
+    (λ given is. on_told c.client_refusal.result (Err reason) _ given (is ∙ ap (λ m. record k { state = (client_step k.settings k.state (reading_of m)).state }) c.message_in-response.ensures))
+    (λ none is. on_untold c.client_refusal.result _ none)
+    (subst P c.reason.ensures c.client_refusal.ensures) c.in-Err.ensures.state
+
+pub returns-in-Err-clause-err : goal.returns-in-Err-clause-err
+returns-in-Err-clause-err g c =
+    let reason = c.in-Err.error in
+    let P : LongTermClientAuthErrorReason → Type 0 = λ r. ForReason r (c.client_refusal.result ≡ Ok (Err r)) (IsErr c.client_refusal.result) in
+    either_client reason
+    (λ given is. off_told c.client_refusal.result (Err reason) _ given)
+    (λ none is. off_untold c.client_refusal.result _ is)
+    (subst P c.reason.ensures c.client_refusal.ensures) c.in-Err.ensures.state

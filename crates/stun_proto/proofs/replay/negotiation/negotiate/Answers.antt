@@ -1,0 +1,55 @@
+use Rattle.std.proofs.Common.{arith, ◌≡◌, Option, Some, None, sym, ◌∙◌, ap, subst, IfSome, Ok, Err}
+use Rattle.std.specs.Prelude.{Contains, IsUtf8}
+use Rattle.stun_base.specs.Credentials.{NameAndPassword}
+use Rattle.stun_auth.specs.Client.{ClientState, initial}
+use Rattle.stun_proto.specs.Honest.{ComesTo, IsHonest, strongest}
+use Rattle.stun_proto.specs.Matching.{AreTexts}
+use Rattle.stun_proto.specs.Meetings.{meeting_of, turn_of}
+use Rattle.stun_proto.specs.Negotiating.{lists, meeting, met_by, turn_at}
+use Rattle.stun_proto.specs.Negotiation.{Meeting, Met, Turn, negotiated}
+use Rattle.stun_proto.specs.Sides.{IsRun, sides_of}
+use Rattle.stun_proto.proofs.replay.negotiation.negotiate.Goals as goal
+
+if_some_map : {A : Type 0} {P Q : A → Type 0} (o : Option A) → ((a : A) → P a → Q a) → IfSome o P → IfSome o Q
+if_some_map (Some a) f h = f a h
+if_some_map None f h = tt
+
+-- the run of the meeting that the contract speaks of
+whole : (g : _) (c : goal.After-meet g) → IsRun c.meet.result c.args.client.now c.meet.new.client c.meet.new.server
+    (negotiated (meeting c.args.client.now.settings c.args.from c.args.ids c.args.moments c.args.words (lists c.args.between)) c.args.client.now.state c.args.server.now)
+    (sides_of (meeting c.args.client.now.settings c.args.from c.args.ids c.args.moments c.args.words (lists c.args.between)) c.args.client.now.state c.args.server.now)
+whole g c =
+    let k = c.args.client.now in
+    let s = c.args.server.now in
+    let same =
+    ap (λ (t : Turn). let m : Meeting = record { settings = k.settings; from = c.args.from; first = t; second = turn_of c.turn_at-second.result } in m) c.turn_at-first.ensures
+    ∙ ap (λ (t : Turn). let m : Meeting = record { settings = k.settings; from = c.args.from; first = turn_at 0 c.args.ids c.args.moments c.args.words (lists c.args.between); second = t } in m) c.turn_at-second.ensures in
+    subst (λ (m : Meeting). IsRun c.meet.result k c.meet.new.client c.meet.new.server (negotiated m k.state s) (sides_of m k.state s)) same c.meet.ensures
+
+pub turn_at-first-requires : goal.turn_at-first-requires
+turn_at-first-requires g c = omega arith
+
+pub turn_at-second-requires : goal.turn_at-second-requires
+turn_at-second-requires g c = omega arith
+
+pub returns-clause-settings : goal.returns-clause-settings
+returns-clause-settings g c = (whole g c).settings
+
+pub returns-clause-steps : goal.returns-clause-steps
+returns-clause-steps g c = (whole g c).steps
+
+pub returns-clause-strongest : goal.returns-clause-strongest
+returns-clause-strongest g c = λ new who honest.
+    let k = c.args.client.now in
+    let s = c.args.server.now in
+    let m = meeting k.settings c.args.from c.args.ids c.args.moments c.args.words (lists c.args.between) in
+    let name = subst (λ (o : Option NameAndPassword). IfSome o (λ user. IsUtf8 user.username)) honest.credentials c.name_is_text.ensures in
+    let texts : AreTexts s.registered.realm who.username = record { realm = c.realm_is_text.ensures; username = name } in
+    let law = subst (λ (state : ClientState). ComesTo c.args.from who (strongest m s) (negotiated m state s)) (sym new) (c.strongest_is_agreed.ensures m who s texts honest) in
+    if_some_map (met_by c.meet.result c.meet.new.client.state c.meet.new.server) (λ met is. subst (ComesTo c.args.from who (strongest m s)) (sym is) law) (whole g c).steps
+
+pub returns-clause-memory : goal.returns-clause-memory
+returns-clause-memory g c = (whole g c).memory
+
+pub returns-clause-write : goal.returns-clause-write
+returns-clause-write g c = (whole g c).write

@@ -1,0 +1,53 @@
+-- What a run of a meeting answers and leaves.
+use Rattle.std.specs.Prelude.{ℕ, List, [], map, slice_index, slice_index_or, Option, Some, None}
+use Rattle.std.specs.declared.result.Result.{Result}
+use Rattle.std.specs.declared.result.Result.TheVariants.{Ok, Err}
+use Rattle.std.specs.Borrow.{Bor}
+use Rattle.std.specs.declared.net.socket_addr.SocketAddr.{SocketAddr}
+use Rattle.stun_base.specs.declared.error.StunWriteError.{StunWriteError}
+use Rattle.stun_base.specs.declared.error.StunWriteError.TheVariants.{NotAllowed, MessageIntegrityExists, AttributeExists, TooLarge, TooSmall, IntegrityFailed, OutOfMemory}
+use Rattle.stun_auth.specs.Client.{ClientSettings, ClientState}
+use Rattle.stun_auth.specs.Validation.{ServerSeen}
+use Rattle.stun_proto.specs.Negotiation.{Meeting, Met, Turn, ended, unwritten}
+use Rattle.stun_proto.specs.declared.replay.call.ServerCall.{ServerCall}
+use Rattle.stun_proto.specs.declared.replay.negotiation.NegotiateError.{NegotiateError}
+use Rattle.stun_proto.specs.declared.replay.negotiation.NegotiateError.TheVariants.{Memory, Write}
+use Rattle.stun_proto.specs.declared.replay.negotiation.Outcome.{Outcome}
+
+-- lists of calls behind references
+abbrev pub lists : List (Bor (List ServerCall)) → List (List ServerCall)
+lists between = map (λ (calls : Bor (List ServerCall)). calls.now) between
+
+-- the request at an index
+abbrev pub turn_at : ℕ → List ℕ → List ℕ → List (List ℕ) → List (List ServerCall) → Turn
+turn_at i ids moments words between = record {
+  id = slice_index ids i;
+  now = slice_index moments i;
+  words = slice_index_or words i [];
+  before = slice_index_or between i [];
+}
+
+-- the meeting of a client that is set so, by two of each: the first is that of the first request
+abbrev pub meeting : ClientSettings → SocketAddr → List ℕ → List ℕ → List (List ℕ) → List (List ServerCall) → Meeting
+meeting settings from ids moments words between = record {
+  settings = settings;
+  from = from;
+  first = turn_at 0 ids moments words between;
+  second = turn_at 1 ids moments words between;
+}
+
+-- how a run has ended and what it has left, where no memory was wanting
+abbrev pub met_by : Result Outcome NegotiateError → ClientState → ServerSeen → Option Met
+met_by (Ok outcome) client server = Some (ended outcome client server)
+met_by (Err (Write reason)) client server = Some (unwritten reason client server)
+met_by (Err Memory) client server = None
+
+-- a refused signing as an error of the run
+abbrev pub error_of : StunWriteError → NegotiateError
+error_of NotAllowed = Write NotAllowed
+error_of MessageIntegrityExists = Write MessageIntegrityExists
+error_of (AttributeExists kind) = Write (AttributeExists kind)
+error_of TooLarge = Write TooLarge
+error_of TooSmall = Write TooSmall
+error_of IntegrityFailed = Write IntegrityFailed
+error_of OutOfMemory = Memory

@@ -1,0 +1,100 @@
+-- Where both sides of a meeting stand after each of its steps: the server has read a message, or signed one, or made a call;
+-- the client has read a message. A signing of the client changes nothing.
+use Rattle.std.specs.Prelude.{◌≡◌, ◌≢◌, List, [], ◌∷◌, true, Contains, IfSome}
+use Rattle.std.specs.declared.result.Result.{Result}
+use Rattle.std.specs.declared.result.Result.TheVariants.{Ok, Err}
+use Rattle.stun_base.specs.declared.error.StunWriteError.{StunWriteError}
+use Rattle.stun_base.specs.declared.error.StunWriteError.TheVariants.{OutOfMemory}
+use Rattle.stun_auth.specs.declared.client_answer.LongTermClientValidation.TheVariants.{ResendRequest}
+use Rattle.stun_auth.specs.declared.server_reason.LongTermServerAuthErrorReason.TheVariants.{Unauthorized}
+use Rattle.stun_auth.specs.Additions.{Page}
+use Rattle.stun_auth.specs.Client.{ClientSide, ClientState}
+use Rattle.stun_auth.specs.ClientStep.{ClientAnswer, UNAUTHORIZED, client_step}
+use Rattle.stun_auth.specs.Reading.{reading_of}
+use Rattle.stun_auth.specs.ServerSigning.{after_signing}
+use Rattle.stun_auth.specs.Validation.{Answer, ServerSeen, after_message, answer, sight}
+use Rattle.stun_proto.specs.Negotiating.{met_by}
+use Rattle.stun_proto.specs.Negotiation.{Meeting, Met, asked, failure, responded, success}
+use Rattle.stun_proto.specs.Serving.{after_call}
+use Rattle.stun_proto.specs.declared.replay.call.ServerCall.{ServerCall}
+use Rattle.stun_proto.specs.declared.replay.negotiation.NegotiateError.{NegotiateError}
+use Rattle.stun_proto.specs.declared.replay.negotiation.NegotiateError.TheVariants.{Memory, Write}
+use Rattle.stun_proto.specs.declared.replay.negotiation.Outcome.{Outcome}
+
+pub record Sides : Type 0 where
+  pub client : ClientState
+  pub server : ServerSeen
+
+abbrev pub sides : ClientState → ServerSeen → Sides
+sides client server = record { client = client; server = server }
+
+-- ---- what follows, if the run goes on
+
+-- behind a signing that is not refused
+abbrev pub if_signed : Result Page StunWriteError → (Page → List Sides) → List Sides
+if_signed (Ok page) next = next page
+if_signed (Err reason) next = []
+
+-- behind a first request that is to be challenged
+abbrev pub if_unauthorized : Answer → List Sides → List Sides
+if_unauthorized (Err Unauthorized) next = next
+if_unauthorized _ next = []
+
+-- behind a challenge that is taken up
+abbrev pub if_resent : ClientAnswer → List Sides → List Sides
+if_resent (Ok (ResendRequest a)) next = next
+if_resent _ next = []
+
+-- behind a second request that is accepted
+abbrev pub if_accepted : Answer → List Sides → List Sides
+if_accepted (Ok a) next = next
+if_accepted (Err reason) next = []
+
+-- behind each call of a list, and then behind all of them
+abbrev pub behind_calls : ClientState → ServerSeen → List ServerCall → (ServerSeen → List Sides) → List Sides
+behind_calls state server [] next = next server
+behind_calls state server (call ∷ calls) next =
+    sides state (after_call server call) ∷ behind_calls state (after_call server call) calls next
+
+-- ---- the sides behind each step, the last steps first
+
+-- the success is signed, and read by the client
+abbrev pub behind_success : Meeting → ClientState → ServerSeen → List Sides
+behind_success m state server = if_signed (responded (success m.second.id) (sight server m.from)) (λ page.
+    let signed = after_signing server m.from true in
+    sides state signed ∷ sides (client_step m.settings state (reading_of page.bytes)).state signed ∷ [])
+
+-- the second list of calls is made, and the second request is read by the server
+abbrev pub behind_second : Meeting → ClientState → ServerSeen → List Sides
+behind_second m state server = if_signed (asked m.second.id state) (λ page.
+    behind_calls state server m.second.before (λ called.
+    let read = after_message called m.from m.second.now m.second.words (reading_of page.bytes) in
+    sides state read ∷ if_accepted (answer (sight called m.from) m.second.now m.second.words (reading_of page.bytes)) (behind_success m state read)))
+
+-- the challenge is signed, the first list of calls is made, and the challenge is read by the client
+abbrev pub behind_challenge : Meeting → ClientState → ServerSeen → List Sides
+behind_challenge m state server = if_signed (responded (failure UNAUTHORIZED m.first.id) (sight server m.from)) (λ page.
+    let signed = after_signing server m.from true in
+    sides state signed ∷ behind_calls state signed m.first.before (λ called.
+    let step = client_step m.settings state (reading_of page.bytes) in
+    sides step.state called ∷ if_resent step.answer (behind_second m step.state called)))
+
+-- the first request is read by the server
+abbrev pub behind_first : Meeting → ClientState → ServerSeen → List Sides
+behind_first m state server = if_signed (asked m.first.id state) (λ page.
+    let read = after_message server m.from m.first.now m.first.words (reading_of page.bytes) in
+    sides state read ∷ if_unauthorized (answer (sight server m.from) m.first.now m.first.words (reading_of page.bytes)) (behind_challenge m state read))
+
+-- ---- the whole run: both sides at its beginning and behind each step
+abbrev pub sides_of : Meeting → ClientState → ServerSeen → List Sides
+sides_of m state server = sides state server ∷ behind_first m state server
+
+-- ---- a run that has ended
+
+-- it has come to this end and this is left, where no memory was wanting; where memory was, both sides stand behind some of the
+-- steps; the client's settings stay, and want of memory is never the reason of a refused signing
+pub record IsRun (result : Result Outcome NegotiateError) (old new : ClientSide) (server : ServerSeen) (met : Met) (along : List Sides) : Type 0 where
+  pub settings : new.settings ≡ old.settings
+  pub steps : IfSome (met_by result new.state server) (λ end. end ≡ met)
+  pub memory : result ≡ Err Memory → Contains along (sides new.state server)
+  pub write : result ≢ Err (Write OutOfMemory)

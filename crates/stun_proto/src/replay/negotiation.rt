@@ -1,0 +1,194 @@
+//! A client and a server that meet.
+
+ghost use Rattle.std.specs.Prelude.{◌≡◌, ◌≢◌, ◌<◌, Contains, IfSome, IsUtf8, Err};
+ghost use Rattle.stun_base.specs.Credentials.{NameAndPassword};
+ghost use Rattle.stun_auth.specs.Client.{initial};
+ghost use Rattle.stun_proto.specs.Honest.{ComesTo, IsHonest, StrongestIsAgreed, strongest};
+ghost use Rattle.stun_proto.specs.Meetings.{turn_of};
+ghost use Rattle.stun_proto.specs.Negotiating.{lists, meeting, met_by, turn_at};
+ghost use Rattle.stun_proto.specs.Negotiation.{negotiated};
+ghost use Rattle.stun_proto.specs.Sides.{sides, sides_of};
+ghost use Rattle.stun_proto.specs.Renewal.{NonceIsRenewed};
+
+mod meeting;
+mod messages;
+
+use crate::replay::call::ServerCall;
+use crate::replay::event::Stopped;
+use crate::replay::negotiation::meeting::{Meeting, Turn, meet};
+use std::alloc::{AllocError, Allocator};
+use std::net::SocketAddr;
+use stun_auth::auth::{
+    LongTermClientAuth, LongTermClientAuthErrorReason, LongTermServerAuth,
+    LongTermServerAuthErrorReason,
+};
+use stun_auth::laws;
+use stun_base::algorithm::IntegrityAlgorithm;
+use stun_base::error::StunWriteError;
+use stun_base::instant::Instant;
+use stun_base::transaction_id::TransactionId;
+
+/// What a client and a server come to.
+#[derive(Clone, Copy, Debug, PartialEq, Eq)]
+pub enum Outcome {
+    /// Both sides said so: the server accepted the second request with this algorithm, and the client its success.
+    Validated(IntegrityAlgorithm),
+    /// The server accepted the first request with this algorithm already.
+    AlreadyValidated(IntegrityAlgorithm),
+    /// The server refused a request.
+    ServerRefused(LongTermServerAuthErrorReason),
+    /// The client refused a response.
+    ClientRefused(LongTermClientAuthErrorReason),
+}
+
+/// Why a run came to no outcome.
+#[derive(Clone, Copy, Debug, PartialEq, Eq)]
+pub enum NegotiateError {
+    /// Memory was wanting.
+    Memory,
+    /// A signing was refused for another reason.
+    Write(StunWriteError),
+}
+
+impl From<StunWriteError> for NegotiateError {
+    ghost use Rattle.stun_proto.specs.Meetings.{turn_of};
+    ghost use Rattle.stun_proto.specs.Negotiating.{error_of};
+
+    ghost from_gives = { λ reason error. error ≡ error_of reason };
+
+    fn from(reason: StunWriteError) -> NegotiateError {
+        match reason {
+            StunWriteError::OutOfMemory => NegotiateError::Memory,
+            reason => NegotiateError::Write(reason),
+        }
+    }
+}
+
+impl From<AllocError> for NegotiateError {
+    ghost use Rattle.stun_proto.specs.declared.replay.negotiation.NegotiateError.TheVariants.{Memory};
+
+    ghost from_gives = { λ _ error. error ≡ Memory };
+
+    fn from(_error: AllocError) -> NegotiateError {
+        NegotiateError::Memory
+    }
+}
+
+impl From<Stopped> for NegotiateError {
+    ghost use Rattle.stun_proto.specs.declared.replay.negotiation.NegotiateError.TheVariants.{Memory};
+
+    ghost from_gives = { λ _ error. error ≡ Memory };
+
+    fn from(_error: Stopped) -> NegotiateError {
+        NegotiateError::Memory
+    }
+}
+
+/// A client and a server meet: a Binding request with the first id, which the server reads at the first moment; a 401, which
+/// the client reads; a request with the second id, which the server reads at the second moment; a success, which the client
+/// reads. Each message is signed by the side that sends it, and read through its bytes. The server makes the first list of
+/// calls just before the client reads the 401, and the second one just before it reads the second request.
+///
+/// An honest client is accepted with its second request and with the strongest algorithm that both sides support; the server
+/// knows it then, and it the server. Where there is none, it answers `UnsupportedFeature` and keeps nothing (RFC 8489, section
+/// 9.2).
+///
+/// The answer is the outcome that ends the run: a first request that is accepted, a refusal of the server other than
+/// `Unauthorized` to the first request, a refusal of the client, an answer of the client to the 401 other than
+/// `ResendRequest`, or both sides' acceptance. `Write` is the reason of a signing that was refused, and never that memory was
+/// wanting. `Memory` is answered where it was; both sides then stand behind the first steps of the run, each call of a list
+/// being one.
+#[tactic(none)]
+pub fn negotiate<A: Allocator + Copy>(
+    alloc: A,
+    client: &mut LongTermClientAuth<A>,
+    server: &mut LongTermServerAuth<A>,
+    from: SocketAddr,
+    ids: [TransactionId; 2],
+    moments: [Instant; 2],
+    words: [[u32; 16]; 2],
+    between: [&[ServerCall]; 2],
+) -> Result<Outcome, NegotiateError>
+    ensures settings { client.new.settings ≡ client.old.settings }
+    ensures steps { let m = meeting client.old.settings from ids moments words (lists between.entry) in
+        IfSome (met_by result client.new.state server.new) (λ met. met ≡ negotiated m client.old.state server.old) }
+    ensures strongest { let m = meeting client.old.settings from ids moments words (lists between.entry) in
+        client.old.state ≡ initial → (who : NameAndPassword) → IsHonest m who server.old
+        → IfSome (met_by result client.new.state server.new) (ComesTo from who (strongest m server.old)) }
+    ensures memory { let m = meeting client.old.settings from ids moments words (lists between.entry) in
+        result ≡ Err NegotiateError.Memory → Contains (sides_of m client.old.state server.old) (sides client.new.state server.new) }
+    ensures write { result ≢ Err (NegotiateError.Write StunWriteError.OutOfMemory) }
+{
+    strongest_is_agreed();
+    realm_is_text(server);
+    name_is_text(client);
+    let first = turn_at(0, ids, moments, words, between);
+    let second = turn_at(1, ids, moments, words, between);
+    let meeting = Meeting {
+        from,
+        first,
+        second,
+    };
+    meet(alloc, client, server, &meeting)
+}
+
+/// The request at an index.
+fn turn_at<'a>(
+    index: usize,
+    ids: [TransactionId; 2],
+    moments: [Instant; 2],
+    words: [[u32; 16]; 2],
+    between: [&'a [ServerCall]; 2],
+) -> Turn<'a>
+    requires { index < 2 }
+    ensures { turn_of result ≡ turn_at index ids moments words (lists between.entry) }
+{
+    Turn {
+        id: ids[index],
+        moment: moments[index],
+        words: words[index],
+        before: between[index],
+    }
+}
+
+/// The realm of a server is a text.
+fn realm_is_text<A: Allocator + Copy>(server: &LongTermServerAuth<A>)
+    ensures { IsUtf8 server.now.registered.realm }
+{
+    let _realm = server.realm();
+}
+
+/// The name of a client's user is a text.
+fn name_is_text<A: Allocator>(client: &LongTermClientAuth<A>)
+    ensures { IfSome client.now.settings.credentials (λ who. IsUtf8 who.username) }
+{
+    match client.credentials() {
+        Some(user) => {
+            let _name = user.username();
+        }
+        None => {}
+    }
+}
+
+/// An honest client is accepted with its second request and with the strongest algorithm that both sides support; the server
+/// knows it then, and it the server. Where there is none, it gives up and keeps nothing (RFC 8489, section 9.2).
+///
+/// This is a law over the steps of a meeting, which are computed over the bytes of its messages.
+pub fn strongest_is_agreed()
+    ensures { StrongestIsAgreed }
+{
+    laws::nonces_ask_for_what_is_supported();
+    laws::signed_messages_are_read();
+    laws::built_messages_can_be_signed();
+    laws::sides_add_by_attribute();
+}
+
+/// A client whose nonce has run out is told the new one, and is accepted with it (RFC 8489, sections 9.2.4 and 9.2.6).
+pub fn nonce_is_renewed()
+    ensures { NonceIsRenewed }
+{
+    laws::nonces_ask_for_what_is_supported();
+    laws::signed_messages_are_read();
+    laws::built_messages_can_be_signed();
+    laws::sides_add_by_attribute();
+}

@@ -1,0 +1,197 @@
+//! The messages of a meeting: they are built, signed and read through their bytes.
+
+ghost use Rattle.std.specs.Prelude.{◌≡◌, ⊤, true, IfOk, OnOk, OnErr, IsErr, Ok, Err};
+ghost use Rattle.stun_base.specs.Header.{transaction_id_field, type_field};
+ghost use Rattle.stun_base.specs.MessageType.{method_of};
+ghost use Rattle.stun_types.specs.Message.{IsMessage};
+ghost use Rattle.stun_types.specs.Writing.{IsOpen};
+ghost use Rattle.stun_auth.specs.Additions.{UnlessMemory};
+ghost use Rattle.stun_auth.specs.ClientStep.{ForReason as ForClientReason, UNAUTHORIZED, client_step};
+ghost use Rattle.stun_auth.specs.Reading.{class_in, is_response, reading_of};
+ghost use Rattle.stun_auth.specs.Reasons.{ForReason as ForServerReason};
+ghost use Rattle.stun_auth.specs.ServerSigning.{after_signing};
+ghost use Rattle.stun_auth.specs.Validation.{after_message, answer, sight};
+ghost use Rattle.stun_proto.specs.FirstAnswers.{answer_of};
+ghost use Rattle.stun_proto.specs.Negotiation.{BINDING as BINDING_METHOD, asked, failure, responded, success};
+ghost use Rattle.stun_proto.specs.Signed.{signed_page, written_message};
+
+use crate::replay::words::WordSource;
+use std::alloc::{AllocError, Allocator};
+use std::net::SocketAddr;
+use stun_auth::auth::{
+    LongTermClientAuth, LongTermClientAuthErrorReason, LongTermClientValidation,
+    LongTermServerAuth, LongTermServerAuthErrorReason, LongTermServerValidation,
+};
+use stun_auth::laws;
+use stun_base::algorithm::IntegrityAlgorithm;
+use stun_base::error::StunWriteError;
+use stun_base::instant::Instant;
+use stun_base::transaction_id::TransactionId;
+use stun_types::attribute::ErrorCode;
+use stun_types::message::{BINDING, Message, MessageWriteVec};
+use stun_types::prelude::*;
+
+/// A Binding request that the client signs.
+pub(crate) fn request<A: Allocator + Copy>(
+    alloc: A,
+    client: &mut LongTermClientAuth<A>,
+    id: TransactionId,
+) -> Result<MessageWriteVec<A>, StunWriteError>
+    ensures answer { UnlessMemory result (signed_page result ≡ asked id client.old.state) ⊤ }
+    ensures message { IfOk result (λ signed. IsMessage signed.bytes) }
+    ensures method { IfOk result (λ signed. method_of (type_field signed.bytes) ≡ BINDING_METHOD) }
+    ensures id { IfOk result (λ signed. transaction_id_field signed.bytes ≡ id) }
+    ensures stays { client.new ≡ client.old }
+{
+    laws::additions_are_read_back();
+    laws::sides_add_by_attribute();
+    let writer = Message::builder_request(BINDING, id, MessageWriteVec::new(alloc))?;
+    client.sign_outgoing_message(writer)
+}
+
+/// The error of code 401 to a request, signed by the server.
+pub(crate) fn challenge<A: Allocator + Copy>(
+    alloc: A,
+    server: &mut LongTermServerAuth<A>,
+    request: &Message<'_>,
+    to: SocketAddr,
+) -> Result<MessageWriteVec<A>, StunWriteError>
+    requires { method_of (type_field request.now) ≡ BINDING_METHOD }
+    ensures answer { UnlessMemory result (signed_page result ≡ responded (failure UNAUTHORIZED (transaction_id_field request.now)) (sight server.old to)) ⊤ }
+    ensures message { IfOk result (λ signed. IsMessage signed.bytes) }
+    ensures server { OnOk result (server.new ≡ after_signing server.old to true) }
+    ensures refused { OnErr result (server.new ≡ server.old) }
+{
+    let writer = unauthorized(alloc, request)?;
+    sign(server, writer, to)
+}
+
+/// The success of a request, signed by the server.
+pub(crate) fn success<A: Allocator + Copy>(
+    alloc: A,
+    server: &mut LongTermServerAuth<A>,
+    request: &Message<'_>,
+    to: SocketAddr,
+) -> Result<MessageWriteVec<A>, StunWriteError>
+    requires { method_of (type_field request.now) ≡ BINDING_METHOD }
+    ensures answer { UnlessMemory result (signed_page result ≡ responded (success (transaction_id_field request.now)) (sight server.old to)) ⊤ }
+    ensures message { IfOk result (λ signed. IsMessage signed.bytes) }
+    ensures server { OnOk result (server.new ≡ after_signing server.old to true) }
+    ensures refused { OnErr result (server.new ≡ server.old) }
+{
+    let writer = Message::builder_success(request, MessageWriteVec::new(alloc))?;
+    sign(server, writer, to)
+}
+
+/// The error of code 401 to a request, without other attributes.
+fn unauthorized<A: Allocator>(
+    alloc: A,
+    request: &Message<'_>,
+) -> Result<MessageWriteVec<A>, StunWriteError>
+    requires { method_of (type_field request.now) ≡ BINDING_METHOD }
+    ensures answer { UnlessMemory result (written_message result ≡ Ok (failure UNAUTHORIZED (transaction_id_field request.now))) ⊤ }
+    ensures open { IfOk result (λ writer. IsOpen writer.bytes) }
+{
+    let error = ErrorCode::builder(ErrorCode::UNAUTHORIZED).build()?;
+    let mut writer = Message::builder_error(request, MessageWriteVec::new(alloc))?;
+    writer.add_attribute(&error)?;
+    Ok(writer)
+}
+
+/// A response that the server signs.
+fn sign<A: Allocator + Copy>(
+    server: &mut LongTermServerAuth<A>,
+    writer: MessageWriteVec<A>,
+    to: SocketAddr,
+) -> Result<MessageWriteVec<A>, StunWriteError>
+    requires open { IsOpen writer.bytes }
+    requires response { is_response (class_in writer.bytes) ≡ true }
+    ensures answer { UnlessMemory result (signed_page result ≡ responded writer.bytes (sight server.old to)) ⊤ }
+    ensures message { IfOk result (λ signed. IsMessage signed.bytes) }
+    ensures server { OnOk result (server.new ≡ after_signing server.old to true) }
+    ensures refused { OnErr result (server.new ≡ server.old) }
+{
+    laws::additions_are_read_back();
+    laws::sides_add_by_attribute();
+    server.sign_outgoing_message(writer, to)
+}
+
+/// The message that these bytes are.
+pub(crate) fn message_in(bytes: &[u8]) -> Message<'_>
+    requires { IsMessage bytes.now }
+    ensures { result ≡ bytes.now }
+{
+    Message::from_bytes(bytes).unwrap()
+}
+
+/// What the server makes of a request: the algorithm with which it is accepted, or why it is refused. The one error is that
+/// memory is wanting; the server is then as before.
+pub(crate) fn judged<A: Allocator + Copy>(
+    server: &mut LongTermServerAuth<A>,
+    request: &Message<'_>,
+    from: SocketAddr,
+    now: Instant,
+    words: [u32; 16],
+) -> Result<Result<IntegrityAlgorithm, LongTermServerAuthErrorReason>, AllocError>
+    ensures answer { IfOk result (λ a. answer_of a ≡ answer (sight server.old from) now words (reading_of request.now)) }
+    ensures server { OnOk result (server.new ≡ after_message server.old from now words (reading_of request.now)) }
+    ensures err { OnErr result (server.new ≡ server.old) }
+{
+    let mut source = WordSource::new(words);
+    match server.validate_incoming_message(request, from, now, &mut source) {
+        Ok(validation) => Ok(Ok(algorithm_of(validation))),
+        Err(error) => server_refusal(error.reason()),
+    }
+}
+
+/// The algorithm with which a message is accepted.
+fn algorithm_of(validation: LongTermServerValidation) -> IntegrityAlgorithm
+    ensures { LongTermServerValidation.Validated result ≡ validation }
+{
+    match validation {
+        LongTermServerValidation::Validated(algorithm) => algorithm,
+    }
+}
+
+/// A refusal of the server, where it is not want of memory.
+fn server_refusal(
+    reason: LongTermServerAuthErrorReason,
+) -> Result<Result<IntegrityAlgorithm, LongTermServerAuthErrorReason>, AllocError>
+    ensures { ForServerReason reason (result ≡ Ok (Err reason)) (IsErr result) }
+{
+    if reason == LongTermServerAuthErrorReason::OutOfMemory {
+        Err(AllocError)
+    } else {
+        Ok(Err(reason))
+    }
+}
+
+/// What the client makes of a response. The one error is that memory is wanting; the client is then as before.
+pub(crate) fn read<A: Allocator + Copy>(
+    client: &mut LongTermClientAuth<A>,
+    bytes: &[u8],
+) -> Result<Result<LongTermClientValidation, LongTermClientAuthErrorReason>, AllocError>
+    requires { IsMessage bytes.now }
+    ensures answer { IfOk result (λ a. a ≡ (client_step client.old.settings client.old.state (reading_of bytes.now)).answer) }
+    ensures client { OnOk result (client.new ≡ record client.old { state = (client_step client.old.settings client.old.state (reading_of bytes.now)).state }) }
+    ensures err { OnErr result (client.new ≡ client.old) }
+{
+    let response = message_in(bytes);
+    match client.validate_incoming_message(&response) {
+        Ok(validation) => Ok(Ok(validation)),
+        Err(error) => client_refusal(error.reason()),
+    }
+}
+
+/// A refusal of the client, where it is not want of memory.
+fn client_refusal(
+    reason: LongTermClientAuthErrorReason,
+) -> Result<Result<LongTermClientValidation, LongTermClientAuthErrorReason>, AllocError>
+    ensures { ForClientReason reason (result ≡ Ok (Err reason)) (IsErr result) }
+{
+    if reason == LongTermClientAuthErrorReason::OutOfMemory {
+        Err(AllocError)
+    } else {
+        Ok(Err(reason))
+    }
+}

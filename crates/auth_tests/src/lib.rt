@@ -1,0 +1,21 @@
+//! Tests of the authenticators.
+#![tactic(auto)]
+
+#[cfg(test)]
+mod array_writer;
+#[cfg(test)]
+mod messages;
+#[cfg(test)]
+mod nonces;
+#[cfg(test)]
+mod server;
+#[cfg(test)]
+mod server_messages;
+#[cfg(test)]
+mod server_steps;
+#[cfg(test)]
+mod short_term;
+#[cfg(test)]
+mod spelled;
+#[cfg(test)]
+mod words;

@@ -1,0 +1,14 @@
+//! Bytes from hexadecimal digits.
+use std::alloc::Global;
+use std::test::Fail;
+
+/// The bytes that the digits spell, with white space between them.
+pub(crate) fn bytes_of(alloc: Global, digits: &str) -> Result<Vec<u8>, Fail> {
+    let mut pairs = Vec::new(alloc);
+    for byte in digits.as_bytes() {
+        if !byte.is_ascii_whitespace() {
+            pairs.push(*byte)?;
+        }
+    }
+    Ok(hex::decode(alloc, pairs.as_slice())?)
+}

@@ -4,13 +4,27 @@
 #[cfg(test)]
 mod array_writer;
 #[cfg(test)]
+mod client;
+#[cfg(test)]
+mod client_memory;
+#[cfg(test)]
+mod client_messages;
+#[cfg(test)]
+mod client_steps;
+#[cfg(test)]
 mod messages;
 #[cfg(test)]
 mod nonces;
 #[cfg(test)]
 mod server;
 #[cfg(test)]
+mod server_addresses;
+#[cfg(test)]
+mod server_memory;
+#[cfg(test)]
 mod server_messages;
+#[cfg(test)]
+mod server_signing;
 #[cfg(test)]
 mod server_steps;
 #[cfg(test)]

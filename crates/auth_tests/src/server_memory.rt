@@ -1,0 +1,350 @@
+//! Each allocation that a server asks for refused in turn: it is then as before, and the call succeeds when it is made again.
+use crate::messages::{FULL_NONCE, Part, begin, message};
+use crate::server_steps::{
+    Answer, BAD_REQUEST, FAILED, FULL_REQUEST, ONES, OUT_OF_MEMORY, SHA256, STALE_NONCE,
+    UNAUTHORIZED, ZEROS, address, asked, expect_answer, expect_nonce, expect_sizes, full_server,
+    knocked, offering_server, signed_challenge, signed_for, user,
+};
+use fail_alloc::RefusingAllocator;
+use std::alloc::Global;
+use std::process::Abort;
+use std::test::Fail;
+use stun_auth::auth::{Feature, LongTermServerAuth};
+use stun_types::message::{
+    IntegrityAlgorithm, MessageClass, MessageWriteMutSlice, MessageWriteVec, StunWriteError,
+};
+use stun_types::prelude::*;
+
+/// Below this many allocations each run here has met its last one.
+const MOST_ALLOCATIONS: u64 = 100;
+
+type Heap = RefusingAllocator<Global>;
+
+/// Ends the refusals, and says whether none was met.
+fn met_none(heap: &Heap) -> bool {
+    let is_waiting = heap.is_waiting();
+    heap.refuse(0);
+    is_waiting
+}
+
+/// What a server answers to a request of these attributes while the nth allocation is refused, and whether none was.
+fn asked_short<'a>(
+    heap: &'a Heap,
+    server: &mut LongTermServerAuth<&'a Heap>,
+    bytes: &[u8],
+    (nanos, words): (u64, [u32; 16]),
+    nth: u64,
+) -> Result<(Answer, bool), Fail> {
+    heap.refuse(nth);
+    let answer = asked(server, bytes, (address(1), nanos), words)?;
+    Ok((answer, met_none(heap)))
+}
+
+/// An unsigned request to a new server: its nonce is made, or there is none.
+fn first_request(rt: &impl Abort, heap: &Heap, bytes: &[u8], nth: u64) -> Result<bool, Fail> {
+    let mut server = full_server(heap, Feature::Auto)?;
+    let (answer, is_last) = asked_short(heap, &mut server, bytes, (0, ZEROS), nth)?;
+    if is_last {
+        assert_eq!(rt; answer, UNAUTHORIZED);
+    } else {
+        assert_eq!(rt; answer, OUT_OF_MEMORY);
+        expect_nonce(rt, &server, None);
+        let again = asked(&mut server, bytes, (address(1), 0), ZEROS)?;
+        assert_eq!(rt; again, UNAUTHORIZED);
+    }
+    expect_nonce(rt, &server, Some(FULL_NONCE));
+    Ok(is_last)
+}
+
+#[test]
+fn a_first_nonce_is_made_or_not(rt: HostRuntime) -> Result<(), Fail> {
+    let heap = RefusingAllocator::new(rt.alloc());
+    let bytes = message(rt.alloc(), MessageClass::Request, &[])?;
+    for nth in 1..MOST_ALLOCATIONS {
+        if first_request(&rt, &heap, bytes.as_slice(), nth)? {
+            return Ok(());
+        }
+    }
+    panic!(rt; "each run met a refusal")
+}
+
+/// A signed request: its client is kept, or there is none.
+fn accepted_request(
+    rt: &impl Abort,
+    (alloc, heap): (Global, &Heap),
+    bytes: &[u8],
+    nth: u64,
+) -> Result<bool, Fail> {
+    let mut server = offering_server(alloc, heap)?;
+    let (answer, is_last) = asked_short(heap, &mut server, bytes, (0, ONES), nth)?;
+    if is_last {
+        assert_eq!(rt; answer, SHA256);
+    } else {
+        assert_eq!(rt; answer, OUT_OF_MEMORY);
+        expect_sizes(rt, &server, (0, 60));
+        let again = asked(&mut server, bytes, (address(1), 0), ONES)?;
+        assert_eq!(rt; again, SHA256);
+    }
+    expect_nonce(rt, &server, Some(FULL_NONCE));
+    expect_sizes(rt, &server, (44, 92));
+    Ok(is_last)
+}
+
+#[test]
+fn a_client_is_kept_or_not(rt: HostRuntime) -> Result<(), Fail> {
+    let heap = RefusingAllocator::new(rt.alloc());
+    let bytes = message(rt.alloc(), MessageClass::Request, &FULL_REQUEST)?;
+    for nth in 1..MOST_ALLOCATIONS {
+        if accepted_request(&rt, (rt.alloc(), &heap), bytes.as_slice(), nth)? {
+            return Ok(());
+        }
+    }
+    panic!(rt; "each run met a refusal")
+}
+
+/// A moment at which each nonce of the first moment has run out.
+const LATE: u64 = 3_600_000_000_001;
+
+/// A signed request whose nonce has run out: another is made, or the old one and the client stay.
+fn late_request(
+    rt: &impl Abort,
+    (alloc, heap): (Global, &Heap),
+    bytes: &[u8],
+    nth: u64,
+) -> Result<bool, Fail> {
+    let mut server = offering_server(alloc, heap)?;
+    let kept = asked(&mut server, bytes, (address(1), 0), ONES)?;
+    assert_eq!(rt; kept, SHA256);
+    let (answer, is_last) = asked_short(heap, &mut server, bytes, (LATE, ONES), nth)?;
+    if !is_last {
+        assert_eq!(rt; answer, OUT_OF_MEMORY);
+        expect_nonce(rt, &server, Some(FULL_NONCE));
+        // Up to its end the old nonce stands, with the list that was offered.
+        let again = asked(&mut server, bytes, (address(1), LATE - 1), ONES)?;
+        assert_eq!(rt; again, SHA256);
+    }
+    expect_sizes(rt, &server, (44, 92));
+    let last = asked(&mut server, bytes, (address(1), LATE), ONES)?;
+    assert_eq!(rt; last, STALE_NONCE);
+    expect_nonce(rt, &server, Some("obMatJos2wAAABBBBBBBBBBBBBBBB"));
+    Ok(is_last)
+}
+
+#[test]
+fn a_nonce_is_renewed_or_not(rt: HostRuntime) -> Result<(), Fail> {
+    let heap = RefusingAllocator::new(rt.alloc());
+    let bytes = message(rt.alloc(), MessageClass::Request, &FULL_REQUEST)?;
+    for nth in 1..MOST_ALLOCATIONS {
+        if late_request(&rt, (rt.alloc(), &heap), bytes.as_slice(), nth)? {
+            return Ok(());
+        }
+    }
+    panic!(rt; "each run met a refusal")
+}
+
+/// Gives the user another password while the nth allocation is refused: whether it was given, and whether none was refused.
+fn added_short<'a>(
+    heap: &'a Heap,
+    server: &mut LongTermServerAuth<&'a Heap>,
+    nth: u64,
+) -> Result<(bool, bool), Fail> {
+    let user = user(heap, "another")?;
+    heap.refuse(nth);
+    let is_added = server.add_user(user).is_ok();
+    Ok((is_added, met_none(heap)))
+}
+
+/// Another password of a present user: it is given, or the old one stays.
+fn another_password(
+    rt: &impl Abort,
+    (alloc, heap): (Global, &Heap),
+    bytes: &[u8],
+    nth: u64,
+) -> Result<bool, Fail> {
+    let mut server = offering_server(alloc, heap)?;
+    let (is_added, is_last) = added_short(heap, &mut server, nth)?;
+    assert!(rt; is_added || !is_last);
+    let answer = asked(&mut server, bytes, (address(1), 0), ONES)?;
+    let expected = if is_added { UNAUTHORIZED } else { SHA256 };
+    assert_eq!(rt; answer, expected);
+    server.add_user(user(heap, "another")?)?;
+    let answer = asked(&mut server, bytes, (address(1), 0), ONES)?;
+    assert_eq!(rt; answer, UNAUTHORIZED);
+    Ok(is_last)
+}
+
+#[test]
+fn a_password_is_given_or_not(rt: HostRuntime) -> Result<(), Fail> {
+    let heap = RefusingAllocator::new(rt.alloc());
+    let bytes = message(rt.alloc(), MessageClass::Request, &FULL_REQUEST)?;
+    for nth in 1..MOST_ALLOCATIONS {
+        if another_password(&rt, (rt.alloc(), &heap), bytes.as_slice(), nth)? {
+            return Ok(());
+        }
+    }
+    panic!(rt; "each run met a refusal")
+}
+
+/// A new user: it is there, or not.
+fn new_user(
+    rt: &impl Abort,
+    (alloc, heap): (Global, &Heap),
+    bytes: &[u8],
+    nth: u64,
+) -> Result<bool, Fail> {
+    let mut server = offering_server(alloc, heap)?;
+    server.remove_user("user");
+    let (is_added, is_last) = added_short(heap, &mut server, nth)?;
+    assert!(rt; is_added || !is_last);
+    server.remove_user("user");
+    server.add_user(user(heap, "pass")?)?;
+    let answer = asked(&mut server, bytes, (address(1), 0), ONES)?;
+    assert_eq!(rt; answer, SHA256);
+    Ok(is_last)
+}
+
+#[test]
+fn a_user_is_added_or_not(rt: HostRuntime) -> Result<(), Fail> {
+    let heap = RefusingAllocator::new(rt.alloc());
+    let bytes = message(rt.alloc(), MessageClass::Request, &FULL_REQUEST)?;
+    for nth in 1..MOST_ALLOCATIONS {
+        if new_user(&rt, (rt.alloc(), &heap), bytes.as_slice(), nth)? {
+            return Ok(());
+        }
+    }
+    panic!(rt; "each run met a refusal")
+}
+
+/// Signs a success for the first address while the nth allocation is refused: its length or the refusal, and whether none
+/// was refused.
+fn signed_short<'a>(
+    heap: &'a Heap,
+    server: &mut LongTermServerAuth<&'a Heap>,
+    nth: u64,
+) -> Result<(Result<usize, StunWriteError>, bool), Fail> {
+    let writer = begin(MessageClass::Success, MessageWriteVec::new(heap))?;
+    heap.refuse(nth);
+    let answer = signed_for(server, writer).map(|signed| signed.data().len());
+    Ok((answer, met_none(heap)))
+}
+
+/// The offer of the algorithms: it is made, or not.
+fn offer(
+    rt: &impl Abort,
+    (alloc, heap): (Global, &Heap),
+    bytes: &[u8],
+    nth: u64,
+) -> Result<bool, Fail> {
+    let mut server = full_server(heap, Feature::Auto)?;
+    let _challenged = knocked(alloc, &mut server, address(1), ZEROS)?;
+    let (answer, is_last) = signed_short(heap, &mut server, nth)?;
+    if is_last {
+        assert_eq!(rt; answer, Ok(80));
+    } else {
+        assert_eq!(rt; answer, Err(StunWriteError::OutOfMemory));
+        let unoffered = asked(&mut server, bytes, (address(1), 0), ONES)?;
+        assert_eq!(rt; unoffered, BAD_REQUEST);
+        let _offered = signed_challenge(alloc, &mut server)?;
+    }
+    let answer = asked(&mut server, bytes, (address(1), 0), ONES)?;
+    assert_eq!(rt; answer, SHA256);
+    Ok(is_last)
+}
+
+#[test]
+fn algorithms_are_offered_or_not(rt: HostRuntime) -> Result<(), Fail> {
+    let heap = RefusingAllocator::new(rt.alloc());
+    let bytes = message(rt.alloc(), MessageClass::Request, &FULL_REQUEST)?;
+    for nth in 1..MOST_ALLOCATIONS {
+        if offer(&rt, (rt.alloc(), &heap), bytes.as_slice(), nth)? {
+            return Ok(());
+        }
+    }
+    panic!(rt; "each run met a refusal")
+}
+
+/// A success to a client: it is signed, or the client stays as it is.
+fn success(
+    rt: &impl Abort,
+    (alloc, heap): (Global, &Heap),
+    bytes: &[u8],
+    nth: u64,
+) -> Result<bool, Fail> {
+    let mut server = offering_server(alloc, heap)?;
+    let _accepted = asked(&mut server, bytes, (address(1), 0), ONES)?;
+    let (answer, is_last) = signed_short(heap, &mut server, nth)?;
+    let expected = if is_last {
+        Ok(112)
+    } else {
+        Err(StunWriteError::OutOfMemory)
+    };
+    assert_eq!(rt; answer, expected);
+    expect_sizes(rt, &server, (44, 92));
+    let (answer, _) = signed_short(heap, &mut server, 0)?;
+    assert_eq!(rt; answer, Ok(112));
+    Ok(is_last)
+}
+
+#[test]
+fn a_success_is_signed_or_not(rt: HostRuntime) -> Result<(), Fail> {
+    let heap = RefusingAllocator::new(rt.alloc());
+    let bytes = message(rt.alloc(), MessageClass::Request, &FULL_REQUEST)?;
+    for nth in 1..MOST_ALLOCATIONS {
+        if success(&rt, (rt.alloc(), &heap), bytes.as_slice(), nth)? {
+            return Ok(());
+        }
+    }
+    panic!(rt; "each run met a refusal")
+}
+
+/// Where a nonce stands, or none is needed, a refusal of the message takes no memory.
+#[test]
+fn refusals_take_no_memory(rt: HostRuntime) -> Result<(), Fail> {
+    let alloc = rt.alloc();
+    let heap = RefusingAllocator::new(alloc);
+    let mut server = offering_server(alloc, &heap)?;
+    heap.refuse(1);
+    let name = Part::Username("user");
+    let digest = Part::Sha1(b"key");
+    let realm = Part::Realm("realm");
+    let stale = Part::Nonce("obMatJos2wAAABBBBBBBBBBBBBBBB");
+    let standing = Part::Nonce(FULL_NONCE);
+    expect_answer(&rt, alloc, &mut server, &[], UNAUTHORIZED)?;
+    expect_answer(&rt, alloc, &mut server, &[digest], BAD_REQUEST)?;
+    expect_answer(
+        &rt,
+        alloc,
+        &mut server,
+        &[stale, realm, name, digest],
+        STALE_NONCE,
+    )?;
+    expect_answer(
+        &rt,
+        alloc,
+        &mut server,
+        &[standing, realm, name, digest],
+        UNAUTHORIZED,
+    )?;
+    assert!(rt; heap.is_waiting());
+    Ok(())
+}
+
+/// The settings and a response take no memory, nor does signing into a slice.
+#[test]
+fn settings_and_responses_take_no_memory(rt: HostRuntime) -> Result<(), Fail> {
+    let heap = RefusingAllocator::new(rt.alloc());
+    let mut server = offering_server(rt.alloc(), &heap)?;
+    let bytes = message(rt.alloc(), MessageClass::Success, &[])?;
+    let mut room = [0; 80];
+    heap.refuse(1);
+    server.set_supported_integrity(IntegrityAlgorithm::Sha1);
+    server.add_supported_integrity(IntegrityAlgorithm::Sha256);
+    server.set_anonymous_username(Feature::Disabled)?;
+    let answer = asked(&mut server, bytes.as_slice(), (address(1), 0), ONES)?;
+    assert_eq!(rt; answer, FAILED);
+    let writer = begin(MessageClass::Success, MessageWriteMutSlice::new(&mut room))?;
+    let signed = signed_for(&mut server, writer)?;
+    assert_eq!(rt; signed.data().len(), 80);
+    assert!(rt; heap.is_waiting());
+    Ok(())
+}

@@ -14,6 +14,11 @@ abbrev pub words_of_schedule : List (String Global) → Option (List (String Glo
 words_of_schedule [] = None
 words_of_schedule (command ∷ others) = if pointwise nat_eq (string_bytes command) (codes "schedule") then Some others else None
 
+-- the words behind `negotiate`, if the first word is that
+abbrev pub words_of_negotiate : List (String Global) → Option (List (String Global))
+words_of_negotiate [] = None
+words_of_negotiate (command ∷ others) = if pointwise nat_eq (string_bytes command) (codes "negotiate") then Some others else None
+
 -- the words behind `serve`, if the first word is that
 abbrev pub words_of_serve : List (String Global) → Option (List (String Global))
 words_of_serve [] = None
@@ -21,4 +26,4 @@ words_of_serve (command ∷ others) = if pointwise nat_eq (string_bytes command)
 
 -- the line for wrong words
 abbrev pub usage_line : List ℕ
-usage_line = codes "usage: stun_tool check PASSWORD | schedule TRANSPORT INITIAL_MS MAX_MS RETRANSMITS FINAL_MS | serve REALM" ++ 10 ∷ []
+usage_line = codes "usage: stun_tool check PASSWORD | schedule TRANSPORT INITIAL_MS MAX_MS RETRANSMITS FINAL_MS | negotiate CLIENT_ALGORITHMS CLIENT_FEATURE SERVER_ALGORITHMS SERVER_FEATURE | serve REALM" ++ 10 ∷ []

@@ -4,12 +4,13 @@
 ghost use Rattle.std.specs.Prelude.{◌≡◌, ◌≢◌, ◌≤◌, ◌+◌, ◌↔◌, length, IfSome, IfNone};
 ghost use Rattle.stun_tool.specs.Check.{Prints};
 ghost use Rattle.stun_tool.specs.Output.{AppendsUnlessFailed};
-ghost use Rattle.stun_tool.specs.Run.{words_of_check, words_of_schedule, words_of_serve, usage_line};
+ghost use Rattle.stun_tool.specs.Run.{words_of_check, words_of_negotiate, words_of_schedule, words_of_serve, usage_line};
 
 mod check;
 mod digits;
 mod input;
 mod names;
+mod negotiate;
 mod output;
 mod schedule;
 mod script;
@@ -22,6 +23,7 @@ mod words;
 
 use check::check;
 use input::{CountedRead, Failure, MAX_READS, Uncounted};
+use negotiate::negotiate;
 use output::write_text;
 use schedule::schedule;
 use serve::serve;
@@ -33,7 +35,7 @@ use std::{env, io};
 
 /// What is written for wrong words.
 const USAGE: &str =
-    "usage: stun_tool check PASSWORD | schedule TRANSPORT INITIAL_MS MAX_MS RETRANSMITS FINAL_MS | serve REALM\n";
+    "usage: stun_tool check PASSWORD | schedule TRANSPORT INITIAL_MS MAX_MS RETRANSMITS FINAL_MS | negotiate CLIENT_ALGORITHMS CLIENT_FEATURE SERVER_ALGORITHMS SERVER_FEATURE | serve REALM\n";
 
 /// Runs the command that the words name. For wrong words it writes the usage to `errors`, and does
 /// nothing else.
@@ -44,7 +46,7 @@ fn run<R: CountedRead, W: Write, E: Write>(
     writer: &mut W,
     errors: &mut E,
 ) -> Status
-    ensures other_command { IfNone (words_of_check words.now) (IfNone (words_of_schedule words.now) (IfNone (words_of_serve words.now) (result ≡ Status.WrongWords))) }
+    ensures other_command { IfNone (words_of_check words.now) (IfNone (words_of_schedule words.now) (IfNone (words_of_negotiate words.now) (IfNone (words_of_serve words.now) (result ≡ Status.WrongWords)))) }
     ensures wrong_words { IfSome (words_of_check words.now) (λ others. (result ≡ Status.WrongWords) ↔ (length others ≢ 1)) }
     ensures wrong_realm { IfSome (words_of_serve words.now) (λ others. (result ≡ Status.WrongWords) ↔ (length others ≢ 1)) }
     ensures untouched { result ≡ Status.WrongWords → (reader.new ≡ reader.old) × (writer.new ≡ writer.old) }
@@ -60,6 +62,9 @@ fn run<R: CountedRead, W: Write, E: Write>(
         }
         [command, others @ ..] if command.as_str() == "schedule" => {
             schedule(alloc, others, reader, writer)
+        }
+        [command, others @ ..] if command.as_str() == "negotiate" => {
+            negotiate(alloc, others, reader, writer)
         }
         [command, others @ ..] if command.as_str() == "serve" => {
             serve(alloc, others, reader, writer)

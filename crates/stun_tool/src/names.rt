@@ -1,6 +1,6 @@
 //! The names that are printed, those of the variants.
 
-use stun_proto::auth::LongTermServerAuthErrorReason;
+use stun_proto::auth::{LongTermClientAuthErrorReason, LongTermServerAuthErrorReason};
 use stun_types::message::{IntegrityAlgorithm, StunWriteError};
 
 /// The name of an algorithm.
@@ -20,6 +20,16 @@ pub fn server_reason_name(reason: LongTermServerAuthErrorReason) -> &'static str
         LongTermServerAuthErrorReason::BadRequest => "BadRequest",
         LongTermServerAuthErrorReason::StaleNonce => "StaleNonce",
         LongTermServerAuthErrorReason::OutOfMemory => "OutOfMemory",
+    }
+}
+
+/// The name of a client's reason.
+pub fn client_reason_name(reason: LongTermClientAuthErrorReason) -> &'static str {
+    match reason {
+        LongTermClientAuthErrorReason::Unauthorized => "Unauthorized",
+        LongTermClientAuthErrorReason::IntegrityFailed => "IntegrityFailed",
+        LongTermClientAuthErrorReason::UnsupportedFeature => "UnsupportedFeature",
+        LongTermClientAuthErrorReason::OutOfMemory => "OutOfMemory",
     }
 }
 

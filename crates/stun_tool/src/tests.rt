@@ -1,5 +1,6 @@
 //! The lines of `check`, and what it does with readers, writers and memory that fail.
 mod fakes;
+mod negotiate;
 mod schedule;
 mod serve;
 
@@ -196,6 +197,7 @@ fn wrong_words(rt: HostRuntime) -> Result<(), Fail> {
         &["serve", "a", "b"],
         &["schedule"],
         &["schedule", "udp", "500", "-", "1001", "8000"],
+        &["negotiate", "sha1", "auto", "sha1"],
     ] {
         let given = words(alloc, texts)?;
         let mut reader = EndlessReader { asked: 0 };
@@ -213,7 +215,7 @@ fn wrong_words(rt: HostRuntime) -> Result<(), Fail> {
         assert!(rt; writer.is_empty());
         assert_eq!(rt;
             errors.as_slice(),
-            b"usage: stun_tool check PASSWORD | schedule TRANSPORT INITIAL_MS MAX_MS RETRANSMITS FINAL_MS | serve REALM\n".as_slice()
+            b"usage: stun_tool check PASSWORD | schedule TRANSPORT INITIAL_MS MAX_MS RETRANSMITS FINAL_MS | negotiate CLIENT_ALGORITHMS CLIENT_FEATURE SERVER_ALGORITHMS SERVER_FEATURE | serve REALM\n".as_slice()
         );
     }
     Ok(())

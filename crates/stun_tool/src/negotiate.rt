@@ -1,0 +1,184 @@
+//! The command `negotiate`.
+ghost use Rattle.std.specs.Prelude.{◌≡◌, ◌≢◌, length, IfOk, IfSome};
+
+use crate::input::{CountedRead, Failure};
+use crate::names::{algorithm_name, client_reason_name, server_reason_name};
+use crate::output::write_text;
+use crate::status::Status;
+use crate::words::{algorithm, feature};
+use std::alloc::{AllocError, Allocator};
+use std::io::Write;
+use std::net::{IpAddr, Ipv4Addr, SocketAddr};
+use stun_proto::auth::{Feature, LongTermClientAuth, LongTermServerAuth};
+use stun_proto::replay::Outcome;
+use stun_proto::{Instant, replay};
+use stun_types::message::{IntegrityAlgorithm, LongTermCredentials, TransactionId};
+
+/// The name of the one user.
+const NAME: &str = "user";
+
+/// The user's password, at both sides.
+const PASSWORD: &str = "pass";
+
+/// The realm of the server.
+const REALM: &str = "realm";
+
+/// What a side supports.
+#[derive(Clone, Copy, Debug, PartialEq, Eq)]
+pub struct Side {
+    /// The algorithm that is added first.
+    first: IntegrityAlgorithm,
+    /// The one that is added then.
+    second: Option<IntegrityAlgorithm>,
+    /// Whether users are named by a hash.
+    feature: Feature,
+}
+
+/// Prints what a new client and a new server come to that know one user: `validated` and the algorithm where the client is
+/// accepted, or `already validated` where its first request is, which are answers; or `refused` and the reason where a
+/// side gives up, which is a refusal (RFC 8489, section 9.2). No call is made between theirs, both requests are read at
+/// moment 0, and all random words are 0.
+///
+/// The words are the algorithms of the client, `sha1`, `sha256`, or both in the order of adding and parted by a comma;
+/// whether it names users by a hash, `auto`, `required` or `disabled`; and the same of the server. Other words are wrong;
+/// then nothing is read or printed. Where a write fails or memory is wanting it answers `Failed`, and nothing more is
+/// printed. Nothing is read.
+pub fn negotiate<R: CountedRead, W: Write, A: Allocator + Copy>(
+    alloc: A,
+    words: &[String],
+    _reader: &mut R,
+    writer: &mut W,
+) -> Status
+    ensures other_count { length words.now ≢ 4 → result ≡ Status.WrongWords }
+    ensures untouched { result ≡ Status.WrongWords → writer.new ≡ writer.old }
+    ensures unread { _reader.new ≡ _reader.old }
+{
+    let Some((client, server)) = sides_of(words) else {
+        return Status::WrongWords;
+    };
+    let Ok(outcome) = outcome_of(alloc, client, server) else {
+        return Status::Failed;
+    };
+    match print_outcome(alloc, outcome, writer) {
+        Ok(status) => status,
+        Err(Failure) => Status::Failed,
+    }
+}
+
+/// The client and the server that the words name, if they name some.
+fn sides_of(words: &[String]) -> Option<(Side, Side)>
+    ensures { IfSome result (λ _. length words.now ≡ 4) }
+{
+    let [
+        client_algorithms,
+        client_feature,
+        server_algorithms,
+        server_feature,
+    ] = words
+    else {
+        return None;
+    };
+    let client = side_of(client_algorithms.as_str(), client_feature.as_str())?;
+    let server = side_of(server_algorithms.as_str(), server_feature.as_str())?;
+    Some((client, server))
+}
+
+fn side_of(algorithms: &str, hashing: &str) -> Option<Side> {
+    let (first, second) = match algorithms {
+        "sha1,sha256" => (IntegrityAlgorithm::Sha1, Some(IntegrityAlgorithm::Sha256)),
+        "sha256,sha1" => (IntegrityAlgorithm::Sha256, Some(IntegrityAlgorithm::Sha1)),
+        single => (algorithm(single)?, None),
+    };
+    Some(Side {
+        first,
+        second,
+        feature: feature(hashing)?,
+    })
+}
+
+/// What the two sides come to.
+fn outcome_of<A: Allocator + Copy>(
+    alloc: A,
+    client: Side,
+    server: Side,
+) -> Result<Outcome, Failure> {
+    let mut client = new_client(alloc, client)?;
+    let mut server = new_server(alloc, server)?;
+    let from = SocketAddr::new(IpAddr::V4(Ipv4Addr::new(10, 0, 0, 1)), 12345);
+    let first = TransactionId::from_u128(1).ok_or(Failure)?;
+    let second = TransactionId::from_u128(2).ok_or(Failure)?;
+    replay::negotiate(
+        alloc,
+        &mut client,
+        &mut server,
+        from,
+        [first, second],
+        [Instant::ZERO, Instant::ZERO],
+        [[0; 16], [0; 16]],
+        [&[], &[]],
+    )
+    .map_err(|_| Failure)
+}
+
+fn credentials<A: Allocator + Copy>(alloc: A) -> Result<LongTermCredentials<A>, AllocError> {
+    let name = String::from_str(alloc, NAME)?;
+    let password = String::from_str(alloc, PASSWORD)?;
+    Ok(LongTermCredentials::new(name, password))
+}
+
+fn new_client<A: Allocator + Copy>(
+    alloc: A,
+    side: Side,
+) -> Result<LongTermClientAuth<A>, AllocError> {
+    let mut client = LongTermClientAuth::new(alloc);
+    client.set_supported_integrity(side.first);
+    if let Some(second) = side.second {
+        client.add_supported_integrity(second);
+    }
+    client.set_anonymous_username(side.feature);
+    client.set_credentials(credentials(alloc)?);
+    Ok(client)
+}
+
+fn new_server<A: Allocator + Copy>(
+    alloc: A,
+    side: Side,
+) -> Result<LongTermServerAuth<A>, AllocError> {
+    let mut server = LongTermServerAuth::new(alloc, String::from_str(alloc, REALM)?);
+    server.set_supported_integrity(side.first);
+    if let Some(second) = side.second {
+        server.add_supported_integrity(second);
+    }
+    server.set_anonymous_username(side.feature)?;
+    server.add_user(credentials(alloc)?)?;
+    Ok(server)
+}
+
+/// A line for the outcome, and the status that goes with it.
+fn print_outcome<W: Write, A: Allocator>(
+    alloc: A,
+    outcome: Outcome,
+    writer: &mut W,
+) -> Result<Status, Failure>
+    ensures { IfOk result (λ status. status ≢ Status.WrongWords) }
+{
+    let (text, name, status) = match outcome {
+        Outcome::Validated(algorithm) => {
+            ("validated", algorithm_name(algorithm), Status::Answered)
+        }
+        Outcome::AlreadyValidated(algorithm) => (
+            "already validated",
+            algorithm_name(algorithm),
+            Status::Answered,
+        ),
+        Outcome::ServerRefused(reason) => {
+            ("refused", server_reason_name(reason), Status::Refused)
+        }
+        Outcome::ClientRefused(reason) => {
+            ("refused", client_reason_name(reason), Status::Refused)
+        }
+    };
+    let line = format!(in alloc; "{text} {name}\n")?;
+    write_text(writer, line.as_bytes())?;
+    Ok(status)
+}

@@ -1,0 +1,135 @@
+//! The lines of `negotiate`, its wrong words, and memory and writers that fail.
+use super::fakes::{EndlessReader, WriteEnd};
+use super::{slow_writer, words};
+use crate::input::Uncounted;
+use crate::negotiate::negotiate;
+use crate::status::Status;
+use fail_alloc::RefusingAllocator;
+use std::test::Fail;
+
+/// Both sides with both algorithms.
+const BOTH: &[&str] = &["sha1,sha256", "auto", "sha256,sha1", "auto"];
+
+/// The line for them: the stronger one (RFC 8489, section 9.2).
+const BOTH_LINE: &[u8] = b"validated Sha256\n";
+
+#[test]
+fn prints_each_outcome(rt: HostRuntime) -> Result<(), Fail> {
+    let alloc = rt.alloc();
+    let refused = "refused UnsupportedFeature\n";
+    let table: [([&str; 4], Status, &str); 9] = [
+        (
+            ["sha1,sha256", "auto", "sha256,sha1", "auto"],
+            Status::Answered,
+            "validated Sha256\n",
+        ),
+        (["sha256", "auto", "sha1", "auto"], Status::Refused, refused),
+        (
+            ["sha1", "required", "sha1", "disabled"],
+            Status::Refused,
+            refused,
+        ),
+        (
+            ["sha256", "auto", "sha1,sha256", "disabled"],
+            Status::Answered,
+            "validated Sha256\n",
+        ),
+        (
+            ["sha1", "required", "sha1", "auto"],
+            Status::Answered,
+            "validated Sha1\n",
+        ),
+        (
+            ["sha1,sha256", "required", "sha256", "disabled"],
+            Status::Refused,
+            refused,
+        ),
+        (["sha1", "auto", "sha256", "auto"], Status::Refused, refused),
+        (
+            ["sha256", "disabled", "sha1", "disabled"],
+            Status::Refused,
+            refused,
+        ),
+        (
+            ["sha1", "auto", "sha1", "disabled"],
+            Status::Answered,
+            "validated Sha1\n",
+        ),
+    ];
+    for (texts, status, line) in &table {
+        let given = words(alloc, texts.as_slice())?;
+        let mut writer = Vec::new(alloc);
+        let mut reader = EndlessReader { asked: 0 };
+        let answer = negotiate(alloc, given.as_slice(), &mut reader, &mut writer);
+        assert_eq!(rt; answer, *status, "at {texts:?}");
+        assert_eq!(rt; writer.as_slice(), line.as_bytes(), "at {texts:?}");
+        assert_eq!(rt; reader.asked, 0);
+    }
+    Ok(())
+}
+
+#[test]
+fn finds_wrong_words_first(rt: HostRuntime) -> Result<(), Fail> {
+    let alloc = rt.alloc();
+    let table: [&[&str]; 10] = [
+        &[],
+        &["sha1", "auto", "sha1"],
+        &["sha1", "auto", "sha1", "auto", "auto"],
+        &["sha1,sha1", "auto", "sha1", "auto"],
+        &["sha1, sha256", "auto", "sha1", "auto"],
+        &["sha1", "auto", "sha1,", "auto"],
+        &["", "auto", "sha1", "auto"],
+        &["SHA1", "auto", "sha1", "auto"],
+        &["sha1", "Auto", "sha1", "auto"],
+        &["sha1", "auto", "sha1", "off"],
+    ];
+    for texts in &table {
+        let given = words(alloc, texts)?;
+        let mut writer = Vec::new(alloc);
+        let mut reader = EndlessReader { asked: 0 };
+        let status = negotiate(alloc, given.as_slice(), &mut reader, &mut writer);
+        assert_eq!(rt; status, Status::WrongWords);
+        assert_eq!(rt; reader.asked, 0);
+        assert!(rt; writer.is_empty());
+    }
+    Ok(())
+}
+
+#[test]
+fn a_writer_that_stops(rt: HostRuntime) -> Result<(), Fail> {
+    let alloc = rt.alloc();
+    let given = words(alloc, BOTH)?;
+    for left in 0..BOTH_LINE.len() {
+        let mut reader = Uncounted(b"".as_slice());
+        let mut writer = slow_writer(alloc, left as u32, WriteEnd::Fails);
+        let status = negotiate(alloc, given.as_slice(), &mut reader, &mut writer);
+        assert_eq!(rt; status, Status::Failed, "after {left}");
+        assert_eq!(rt; writer.taken.as_slice(), &BOTH_LINE[..left]);
+    }
+    Ok(())
+}
+
+#[test]
+fn each_allocation_refused(rt: HostRuntime) -> Result<(), Fail> {
+    let alloc = rt.alloc();
+    let given = words(alloc, BOTH)?;
+    let heap = RefusingAllocator::new(alloc);
+    for nth in 1..400 {
+        heap.refuse(nth);
+        let mut reader = Uncounted(b"".as_slice());
+        let mut writer = Vec::new(alloc);
+        let status = negotiate(&heap, given.as_slice(), &mut reader, &mut writer);
+        // A growth that was refused may be tried again for less.
+        if status == Status::Failed {
+            assert!(rt; !heap.is_waiting());
+            assert!(rt; writer.is_empty());
+        } else {
+            assert_eq!(rt; status, Status::Answered);
+            assert_eq!(rt; writer.as_slice(), BOTH_LINE);
+        }
+        if heap.is_waiting() {
+            return Ok(());
+        }
+    }
+    panic!(rt; "each run met a refusal")
+}

@@ -28,6 +28,8 @@ mod headers;
 #[cfg(test)]
 mod hostile;
 #[cfg(test)]
+mod negotiate;
+#[cfg(test)]
 mod paths;
 #[cfg(test)]
 mod registry;

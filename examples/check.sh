@@ -3,7 +3,7 @@
 # Without a C compiler and make it checks nothing. The last line says what was checked.
 set -eu
 cd "$(dirname "$0")"
-if ! command -v "${CC:-cc}" >/dev/null || ! command -v make >/dev/null; then
+if ! "${CC:-cc}" --version >/dev/null 2>&1 || ! command -v make >/dev/null; then
     echo "examples: no C compiler and make"
     exit 0
 fi
@@ -49,7 +49,7 @@ c/out/build 2 evtj:h6vY "$password" >"$scratch/sha256"
 expect 'valid MESSAGE-INTEGRITY-SHA256' c/out/verify "$password" <"$scratch/sha256"
 checked='C'
 
-if command -v rustc >/dev/null; then
+if rustc --version >/dev/null 2>&1; then
     rustc --edition 2024 -O rust/main.rs -L ../crates/stun_c/out -o "$scratch/main"
     expect 'Ok(1)
 Ok(2)' "$scratch/main"

@@ -1,12 +1,8 @@
 -- Each message of a run that is accepted is validated, and no other.
-use Rattle.std.proofs.Common.{◌≡◌, ◌↔◌, ℕ, zero, suc, List, [], ◌∷◌, Option, Some, None, false, refl, sym, ◌∙◌, ap, take, Ok, Err}
+use Rattle.std.proofs.Common.{◌≡◌, ℕ, zero, suc, List, [], ◌∷◌, Option, Some, refl, sym, ◌∙◌, ap, take, Ok, Err}
 use Rattle.std.specs.Prelude.{slice_get}
-use Rattle.std.specs.declared.net.socket_addr.SocketAddr.{SocketAddr}
-use Rattle.std.specs.declared.vec.Vec.{Vec}
-use Rattle.std.specs.declared.alloc.Global.{Global}
 use Rattle.stun_base.specs.declared.algorithm.IntegrityAlgorithm.{IntegrityAlgorithm}
 use Rattle.stun_base.specs.declared.error.StunParseError.{StunParseError}
-use Rattle.stun_types.specs.Message.{refusal}
 use Rattle.stun_auth.specs.Reading.{Reading, class_in, is_response, reading_of}
 use Rattle.stun_auth.specs.Server.{Sight}
 use Rattle.stun_auth.specs.Validation as validation
@@ -14,7 +10,7 @@ use Rattle.stun_auth.specs.Validation.{Answer, ServerSeen, answer, sight}
 use Rattle.stun_auth.specs.declared.server_reason.LongTermServerValidation.TheVariants as Validation
 use Rattle.stun_proto.specs.Accepting.{ValidatesAccepted}
 use Rattle.stun_proto.specs.Isolation.{own, sight_over}
-use Rattle.stun_proto.specs.Serving.{Reply, Validated, reply, reply_of_answer, reply_unless, replies, after_call, after_calls}
+use Rattle.stun_proto.specs.Serving.{Validated, reply, reply_of_answer, reply_unless, replies, after_call, after_calls}
 use Rattle.stun_proto.specs.declared.replay.call.ServerCall.{ServerCall}
 use Rattle.stun_proto.specs.declared.replay.call.ServerCall.TheVariants as Call
 use Rattle.stun_proto.proofs.IsolationLemmas.{sight-after_calls}

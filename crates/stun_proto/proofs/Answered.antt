@@ -1,5 +1,5 @@
 -- What a server answers to a request without a digest, and to one that is complete.
-use Rattle.std.proofs.Common.{◌≡◌, ℕ, List, Option, Some, None, Bool, true, false, refl, sym, ◌∙◌, ap, Ok, Err}
+use Rattle.std.proofs.Common.{◌≡◌, ℕ, List, Some, true, false, ◌∙◌, ap, Err}
 use Rattle.std.specs.Prelude.{cond, not, ◌&&◌, ◌||◌}
 use Rattle.std.specs.Option.{is_some}
 use Rattle.std.specs.declared.result.Result.{Result}
@@ -8,7 +8,7 @@ use Rattle.stun_auth.specs.Reading.{Reading, is_response}
 use Rattle.stun_auth.specs.Reasons.{ServerRefusal, unauthorized}
 use Rattle.stun_auth.specs.Seen.{ClientSeen, PlaceSeen}
 use Rattle.stun_auth.specs.Server.{Sight, standing}
-use Rattle.stun_auth.specs.Validation.{answer, answer_to, client_verified, is_complete, is_malformed, needs_nonce, place_after, validated_or_failed, verdict_at, with_accepted}
+use Rattle.stun_auth.specs.Validation.{answer, answer_to, client_verified, is_complete, is_malformed, place_after, validated_or_failed, verdict_at, with_accepted}
 use Rattle.stun_proto.proofs.Refusals.{bare_verdict}
 
 module _ (s : Sight) (now : ℕ) (words : List ℕ) (r : Reading) (p : PlaceSeen) (at : standing s now words ≡ p) (asks : is_response r.class ≡ false) where

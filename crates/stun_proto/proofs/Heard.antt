@@ -1,5 +1,5 @@
 -- What a side makes of a message, or want of memory.
-use Rattle.std.proofs.Common.{◌≡◌, ℕ, List, false, true, refl, sym, ◌∙◌, ap, subst, Ok, Err, IfOk, OnOk, OnErr}
+use Rattle.std.proofs.Common.{◌≡◌, false, true, sym, subst, Ok, Err, IfOk, OnOk, OnErr}
 use Rattle.std.specs.Prelude.{IsErr}
 use Rattle.std.specs.declared.result.Result.{Result}
 use Rattle.std.specs.declared.alloc.AllocError.{AllocError}

@@ -1,5 +1,5 @@
 -- What an address can tell depends on its own calls alone.
-use Rattle.std.proofs.Common.{◌≡◌, ℕ, List, [], ◌∷◌, take, Option, Some, None, Bool, true, false, refl, sym, ◌∙◌, ap, subst, Ok, Err}
+use Rattle.std.proofs.Common.{◌≡◌, List, [], ◌∷◌, Option, Some, None, Bool, true, false, refl, sym, ◌∙◌, ap, subst, Ok, Err}
 use Rattle.std.specs.Prelude.{cond}
 use Rattle.std.specs.Option.{option_map}
 use Rattle.std.specs.Ordering.{is_eq}
@@ -22,7 +22,7 @@ use Rattle.stun_auth.specs.Server.{Sight}
 use Rattle.stun_auth.specs.ServerSigning.{after_signing}
 use Rattle.stun_auth.specs.Validation.{ServerSeen, sight, answer, place_after, put_place}
 use Rattle.stun_proto.specs.Signing.{if_signed, place_offered, signing}
-use Rattle.stun_proto.specs.Serving.{Reply, reply_of_answer, reply_of_signing, reply_unless, places_unless, reply, after_call, replies, after_calls, registered_after, feature_after, expiry_after}
+use Rattle.stun_proto.specs.Serving.{reply_of_answer, reply_of_signing, reply_unless, places_unless, reply, after_call, replies, after_calls, registered_after, feature_after, expiry_after}
 use Rattle.stun_proto.specs.Isolation.{IsIsolated, concerns, own, own_place_after, own_replies, place_unless, sight_after, sight_over}
 use Rattle.stun_proto.specs.declared.replay.call.ServerCall.{ServerCall}
 use Rattle.stun_proto.specs.declared.replay.call.ServerCall.TheVariants as Call

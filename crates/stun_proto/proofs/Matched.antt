@@ -1,11 +1,10 @@
 -- A request that is signed under a challenge is accepted where the challenge matches.
-use Rattle.std.proofs.Common.{◌≡◌, ℕ, List, [], Option, Some, None, Bool, true, false, refl, sym, ◌∙◌, ap, Ok, Err}
+use Rattle.std.proofs.Common.{◌≡◌, ℕ, List, [], Option, Some, true, false, refl, sym, ◌∙◌, ap, Ok, Err}
 use Rattle.std.specs.Prelude.{cond, not, ◌&&◌, ◌||◌, unwrap_or}
 use Rattle.std.specs.Option.{is_some, is_none, option_and_then, option_map_or}
 use Rattle.std.specs.Str.{bytes_eq}
 use Rattle.std.proofs.lemmas.Slice.Eq.{bytes_eq-Decides}
 use Rattle.stun_base.specs.Credentials.{NameAndPassword}
-use Rattle.stun_base.specs.Keys.{long_term_key}
 use Rattle.stun_base.specs.declared.algorithm.IntegrityAlgorithm.{IntegrityAlgorithm}
 use Rattle.stun_base.specs.declared.algorithm.IntegrityAlgorithm.TheVariants.{Sha1, Sha256}
 use Rattle.stun_auth.specs.declared.algorithm_set.AlgorithmSet.{AlgorithmSet}

@@ -1,7 +1,7 @@
 -- An honest client and its server come to the strongest algorithm of both.
-use Rattle.std.proofs.Common.{◌≡◌, ℕ, ◌+◌, List, [], ◌∷◌, Option, Some, None, Bool, true, false, refl, sym, ◌∙◌, ap, subst, Ok, Err}
-use Rattle.std.specs.Prelude.{cond, ◌&&◌, ◌||◌, nat_le, IsOk, IsUtf8}
-use Rattle.std.specs.Option.{is_some, option_map, option_and_then}
+use Rattle.std.proofs.Common.{◌≡◌, ℕ, List, Option, Some, None, Bool, true, false, refl, sym, ◌∙◌, ap, subst, Ok, Err}
+use Rattle.std.specs.Prelude.{cond, ◌&&◌, IsOk}
+use Rattle.std.specs.Option.{option_map, option_and_then}
 use Rattle.std.specs.FinMap as map
 use Rattle.std.specs.declared.result.Result.{Result}
 use Rattle.std.proofs.lemmas.Bool.{le-leb}
@@ -14,10 +14,9 @@ use Rattle.stun_auth.specs.declared.client_answer.LongTermClientValidation.TheVa
 use Rattle.stun_auth.specs.declared.feature.Feature.{Feature}
 use Rattle.stun_auth.specs.declared.server_reason.LongTermServerAuthErrorReason.TheVariants as Server
 use Rattle.stun_auth.specs.declared.server_reason.LongTermServerValidation.TheVariants as Served
-use Rattle.stun_auth.specs.Additions.{Page}
 use Rattle.stun_auth.specs.Algorithms.{contains, listed}
-use Rattle.stun_auth.specs.Client.{Challenge, ClientSettings, ClientState, authenticated, authenticating, initial}
-use Rattle.stun_auth.specs.ClientStep.{ClientStep, UNAUTHORIZED, STALE_NONCE, after_challenge, after_digest, after_stale, choose, client_step, is_code, kept, kept_if, naming_of, or_unsupported, taken_up}
+use Rattle.stun_auth.specs.Client.{Challenge, ClientSettings, authenticated, authenticating, initial}
+use Rattle.stun_auth.specs.ClientStep.{UNAUTHORIZED, STALE_NONCE, after_challenge, after_digest, after_stale, choose, client_step, is_code, kept, kept_if, naming_of, or_unsupported, taken_up}
 use Rattle.stun_auth.specs.Feature.{is_possible}
 use Rattle.stun_auth.specs.Nonces.{asks_for_userhash, nonce_of}
 use Rattle.stun_auth.specs.Places.{with_offer}
@@ -29,9 +28,9 @@ use Rattle.stun_auth.specs.Server.{Sight, named_by, standing, standing_of}
 use Rattle.stun_auth.specs.ServerSigning.{after_signing}
 use Rattle.stun_auth.specs.Validation.{ServerSeen, after_message, answer, place_after, sight}
 use Rattle.stun_proto.specs.Best.{best}
-use Rattle.stun_proto.specs.Honest.{AgreesOn, ComesTo, GivesUp, HaveOwnHashes, IsHonest, client_at}
+use Rattle.stun_proto.specs.Honest.{AgreesOn, ComesTo, HaveOwnHashes, IsHonest}
 use Rattle.stun_proto.specs.Matching.{AreJoined, AreTexts, Matches}
-use Rattle.stun_proto.specs.Negotiation.{Meeting, Met, asked, challenge_read, challenged, confirmed, failure, first_answered, first_asked, first_read, negotiated, responded, second_answered, second_asked, second_read, succeeded, success}
+use Rattle.stun_proto.specs.Negotiation.{Meeting, Met, asked, challenge_read, challenged, confirmed, failure, first_answered, first_asked, negotiated, responded, second_answered, second_asked, succeeded, success}
 use Rattle.stun_proto.specs.Serving.{after_calls}
 use Rattle.stun_proto.proofs.Answered.{protected, unprotected}
 use Rattle.stun_proto.proofs.Chosen.{best-had, choose-best}

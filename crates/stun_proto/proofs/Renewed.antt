@@ -1,6 +1,6 @@
 -- After one error of code 438 a request is accepted under the new nonce.
-use Rattle.std.proofs.Common.{◌≡◌, ℕ, ◌+◌, ◌<◌, List, Option, Some, None, Bool, true, false, refl, sym, ◌∙◌, ap, subst, Ok, Err}
-use Rattle.std.specs.Prelude.{cond, not, ◌&&◌, ◌||◌, nat_le, IsUtf8}
+use Rattle.std.proofs.Common.{◌≡◌, ℕ, List, Option, Some, None, Bool, true, false, refl, sym, ◌∙◌, ap, subst, Ok, Err}
+use Rattle.std.specs.Prelude.{cond, not, ◌&&◌, IsUtf8}
 use Rattle.std.specs.Option.{is_some, option_map}
 use Rattle.std.specs.Str.{bytes_eq}
 use Rattle.std.specs.declared.result.Result.{Result}
@@ -17,7 +17,7 @@ use Rattle.stun_auth.specs.declared.server_reason.LongTermServerAuthErrorReason.
 use Rattle.stun_auth.specs.declared.server_reason.LongTermServerValidation.TheVariants.{Validated}
 use Rattle.stun_auth.specs.Additions.{Page}
 use Rattle.stun_auth.specs.Algorithms.{contains}
-use Rattle.stun_auth.specs.Client.{Challenge, ClientSettings, ClientState, authenticated}
+use Rattle.stun_auth.specs.Client.{Challenge, ClientSettings, authenticated}
 use Rattle.stun_auth.specs.ClientStep.{ClientStep, STALE_NONCE, UNAUTHORIZED, after_challenge, after_digest, after_stale, client_step, is_code, taken_up}
 use Rattle.stun_auth.specs.Nonces.{nonce_of, security_bits}
 use Rattle.stun_auth.specs.Places.{with_offer}
@@ -28,8 +28,8 @@ use Rattle.stun_auth.specs.Seen.{ClientSeen, PlaceSeen, renewed}
 use Rattle.stun_auth.specs.Server.{Sight, bits_differ, named_by, nonce_refusal, standing, standing_of, verdict}
 use Rattle.stun_auth.specs.ServerSigning.{after_signing}
 use Rattle.stun_auth.specs.Signed.{hashed_name, plain_name}
-use Rattle.stun_auth.specs.Validation.{ServerSeen, after_message, answer, answer_to, place_after, sight, with_accepted}
-use Rattle.stun_proto.specs.Matching.{AreJoined, AreTexts, Matches}
+use Rattle.stun_auth.specs.Validation.{ServerSeen, answer, answer_to, place_after, sight, with_accepted}
+use Rattle.stun_proto.specs.Matching.{AreTexts, Matches}
 use Rattle.stun_proto.specs.Negotiation.{Meeting, asked, failure, responded}
 use Rattle.stun_proto.specs.Renewal as renewal
 use Rattle.stun_proto.specs.Renewal.{AreSigned, HasRunOut, IsRenewed, after_request, after_telling, drawn, told}

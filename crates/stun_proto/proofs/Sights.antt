@@ -1,15 +1,13 @@
 -- What an address can tell after each step of its own.
-use Rattle.std.proofs.Common.{◌≡◌, ℕ, zero, suc, ◌+◌, ◌<◌, List, [], ◌∷◌, length, Option, Some, None, Bool, true, false, refl, sym, ◌∙◌, ap, arith}
+use Rattle.std.proofs.Common.{◌≡◌, ℕ, suc, List, [], ◌∷◌, Option, true, refl, ◌∙◌, ap, arith}
 use Rattle.std.specs.Option.{option_map}
 use Rattle.std.specs.FinMap as fin
 use Rattle.std.specs.declared.net.socket_addr.SocketAddr.{SocketAddr}
 use Rattle.stun_auth.specs.Places.{with_offer}
 use Rattle.stun_auth.specs.Reading.{Reading}
 use Rattle.stun_auth.specs.Seen.{PlaceSeen}
-use Rattle.stun_auth.specs.Server.{Sight}
 use Rattle.stun_auth.specs.ServerSigning.{after_signing}
 use Rattle.stun_auth.specs.Validation.{ServerSeen, sight, place_after, after_message}
-use Rattle.stun_proto.specs.Isolation.{concerns}
 use Rattle.stun_proto.specs.Matching.{AreOfOthers}
 use Rattle.stun_proto.specs.Serving.{after_call, after_calls}
 use Rattle.stun_proto.specs.declared.replay.call.ServerCall.{ServerCall}

@@ -1,5 +1,5 @@
 -- What the lemmas on negotiation need of nonces, and of messages that were signed.
-use Rattle.std.proofs.Common.{◌≡◌, ℕ, List, Bool, true, false, Option, Some, None, Ok}
+use Rattle.std.proofs.Common.{◌≡◌, ℕ, List, Bool, true, false, Some, None, Ok}
 use Rattle.std.specs.Prelude.{◌||◌, IsUtf8}
 use Rattle.std.specs.Option.{is_some}
 use Rattle.stun_base.specs.declared.algorithm.IntegrityAlgorithm.{IntegrityAlgorithm}

@@ -1,6 +1,6 @@
 -- What is read of each message of a run, by the laws on what signing adds.
 use Rattle.std.proofs.Common.{◌≡◌, ℕ, zero, suc, ◌-◌, ◌<◌, ◌≤◌, ◌^◌, List, [], ◌∷◌, length, Bool, true, false, Option, Some, None, refl, sym, ◌∙◌, ap, subst, Ok, Err, arith}
-use Rattle.std.specs.Prelude.{cond, codes, IsUtf8, nat_lt, ◌==◌, ◌||◌, ◌&&◌, if◌then◌else◌}
+use Rattle.std.specs.Prelude.{cond, codes, IsUtf8, nat_lt, ◌||◌, ◌&&◌, if◌then◌else◌}
 use Rattle.std.specs.Option.{option_map}
 use Rattle.std.specs.declared.result.Result.{Result}
 use Rattle.std.proofs.lemmas.Bool.{ltb-false, ltb-true}
@@ -8,7 +8,6 @@ use Rattle.std.specs.Str.{IsAscii}
 use Rattle.std.proofs.lemmas.Str.{IsUtf8-from_ascii}
 use Rattle.std.proofs.lemmas.Str.Ascii.{IsAscii-nil}
 use Rattle.sha2.proofs.Facts256.{length-sha256}
-use Rattle.stun_base.specs.Keys.{userhash}
 use Rattle.stun_base.specs.MessageType.{class_of, type_number}
 use Rattle.stun_base.specs.declared.algorithm.IntegrityAlgorithm.{IntegrityAlgorithm}
 use Rattle.stun_base.specs.declared.error.StunWriteError.{StunWriteError}
@@ -24,10 +23,10 @@ use Rattle.stun_auth.specs.Additions.{Addition, Page, added_all, added_one, afte
 use Rattle.stun_auth.specs.declared.algorithm_set.AlgorithmSet.{AlgorithmSet}
 use Rattle.stun_auth.specs.declared.algorithm_set.AlgorithmSet.TheVariants.{OnlySha1, OnlySha256, Both}
 use Rattle.stun_auth.specs.Algorithms.{is_sha256, listed}
-use Rattle.stun_auth.specs.Client.{Challenge, ClientState, Naming, plain, hashed, initial}
+use Rattle.stun_auth.specs.Client.{Challenge, ClientState, Naming, initial}
 use Rattle.stun_auth.specs.ClientSigning.{client_additions, kept_challenge}
 use Rattle.stun_auth.specs.ClientStep.{STALE_NONCE, UNAUTHORIZED, naming_of}
-use Rattle.stun_auth.specs.Reading.{Reading, class_in, error_code, is_error, is_response, is_success, reading_of, stands_under}
+use Rattle.stun_auth.specs.Reading.{class_in, error_code, is_error, is_response, is_success, reading_of}
 use Rattle.stun_auth.specs.Registered.{Registered, key_at}
 use Rattle.stun_auth.specs.Seen.{ClientSeen, PlaceSeen}
 use Rattle.stun_auth.specs.Server.{Sight}

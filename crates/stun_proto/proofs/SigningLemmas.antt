@@ -15,9 +15,9 @@ use Rattle.stun_auth.specs.Additions.{Page, UnlessMemory}
 use Rattle.stun_auth.specs.Server.{Sight}
 use Rattle.stun_auth.specs.ServerSigning.{after_signing}
 use Rattle.stun_auth.specs.Validation.{ServerSeen}
-use Rattle.stun_proto.specs.Serving.{Reply, places_unless, reply_of_signing, reply_unless}
+use Rattle.stun_proto.specs.Serving.{places_unless, reply_of_signing, reply_unless}
 use Rattle.stun_proto.specs.Signed.{signed_page}
-use Rattle.stun_proto.specs.Signing.{added, after, if_signed, message_unless, signing, with_all}
+use Rattle.stun_proto.specs.Signing.{after, if_signed, message_unless, signing, with_all}
 
 -- what was added was not refused
 pub not_refused : (o : Option StunWriteError) (u : Unit {0}) (P : Type 0) → MatchOption o P (λ reason. ◌≡◌ {A = Result (Unit {0}) StunWriteError} (Ok u) (Err reason)) → o ≡ None

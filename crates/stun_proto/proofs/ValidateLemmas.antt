@@ -1,5 +1,5 @@
 -- One message is validated.
-use Rattle.std.proofs.Common.{◌≡◌, ℕ, List, Option, None, true, false, refl, sym, ◌∙◌, ap, Ok, Err, OnOk, OnErr, IfOk, IsErr}
+use Rattle.std.proofs.Common.{◌≡◌, ℕ, List, Option, None, true, false, sym, ◌∙◌, ap, Ok, Err, OnOk, OnErr, IfOk, IsErr}
 use Rattle.std.specs.Prelude.{IsOkAnd}
 use Rattle.std.specs.declared.result.Result.{Result}
 use Rattle.std.specs.declared.alloc.AllocError.{AllocError}

@@ -1,4 +1,4 @@
-use Rattle.std.proofs.Common.{subst, Option, Some, IfSome}
+use Rattle.std.proofs.Common.{subst, Option, IfSome}
 use Rattle.std.specs.Prelude.{IsUtf8}
 use Rattle.stun_base.specs.Credentials.{NameAndPassword}
 use Rattle.stun_proto.proofs.replay.negotiation.name_is_text.Goals as goal

@@ -1,12 +1,12 @@
-use Rattle.std.proofs.Common.{arith, ◌≡◌, Option, Some, None, sym, ◌∙◌, ap, subst, IfSome, Ok, Err}
-use Rattle.std.specs.Prelude.{Contains, IsUtf8}
+use Rattle.std.proofs.Common.{arith, Option, Some, None, sym, ◌∙◌, ap, subst, IfSome}
+use Rattle.std.specs.Prelude.{IsUtf8}
 use Rattle.stun_base.specs.Credentials.{NameAndPassword}
-use Rattle.stun_auth.specs.Client.{ClientState, initial}
-use Rattle.stun_proto.specs.Honest.{ComesTo, IsHonest, strongest}
+use Rattle.stun_auth.specs.Client.{ClientState}
+use Rattle.stun_proto.specs.Honest.{ComesTo, strongest}
 use Rattle.stun_proto.specs.Matching.{AreTexts}
-use Rattle.stun_proto.specs.Meetings.{meeting_of, turn_of}
+use Rattle.stun_proto.specs.Meetings.{turn_of}
 use Rattle.stun_proto.specs.Negotiating.{lists, meeting, met_by, turn_at}
-use Rattle.stun_proto.specs.Negotiation.{Meeting, Met, Turn, negotiated}
+use Rattle.stun_proto.specs.Negotiation.{Meeting, Turn, negotiated}
 use Rattle.stun_proto.specs.Sides.{IsRun, sides_of}
 use Rattle.stun_proto.proofs.replay.negotiation.negotiate.Goals as goal
 

@@ -1,10 +1,9 @@
-use Rattle.std.proofs.Common.{◌≡◌, sym, ◌∙◌, ap, subst, Err, OnOk}
+use Rattle.std.proofs.Common.{◌≡◌, ◌∙◌, subst, Err}
 use Rattle.std.specs.Prelude.{IsErr, IsOkAnd}
 use Rattle.rand_core.specs.Steps.{stream_of, steps_u32}
 use Rattle.stun_auth.specs.Nonces.{next_words}
-use Rattle.stun_auth.specs.Reading.{reading_of}
 use Rattle.stun_auth.specs.Reasons.{ForReason}
-use Rattle.stun_auth.specs.Validation.{Answer, after_message, answer, sight}
+use Rattle.stun_auth.specs.Validation.{sight}
 use Rattle.stun_auth.specs.declared.server_reason.LongTermServerAuthErrorReason.{LongTermServerAuthErrorReason}
 use Rattle.stun_proto.specs.Serving.{reply_of, reply_of_answer}
 use Rattle.stun_proto.specs.Words.{next_word}

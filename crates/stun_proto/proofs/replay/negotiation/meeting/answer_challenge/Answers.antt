@@ -1,25 +1,15 @@
-use Rattle.std.proofs.Common.{rules, ◌≡◌, List, ◌∷◌, ℕ, true, false, refl, sym, ◌∙◌, ap, subst, Ok, Err}
-use Rattle.std.specs.declared.result.Result.{Result}
-use Rattle.stun_base.specs.Header.{transaction_id_field, type_field}
-use Rattle.stun_base.specs.MessageType.{method_of}
-use Rattle.stun_base.specs.declared.error.StunWriteError.{StunWriteError}
+use Rattle.std.proofs.Common.{◌≡◌, ◌∷◌, refl, sym, ◌∙◌, ap, subst, Err}
 use Rattle.stun_types.specs.Message.{IsMessage}
 use Rattle.stun_types.specs.WriteVec.{Written}
-use Rattle.stun_auth.specs.Additions.{Page, UnlessMemory}
+use Rattle.stun_auth.specs.Additions.{UnlessMemory}
 use Rattle.stun_auth.specs.Client.{ClientSide}
-use Rattle.stun_auth.specs.ClientStep.{ClientAnswer, UNAUTHORIZED, client_step}
+use Rattle.stun_auth.specs.ClientStep.{UNAUTHORIZED, client_step}
 use Rattle.stun_auth.specs.Reading.{reading_of}
-use Rattle.stun_auth.specs.ServerSigning.{after_signing}
-use Rattle.stun_auth.specs.Validation.{Answer, ServerSeen, after_message, answer, sight}
-use Rattle.stun_auth.specs.declared.client_answer.LongTermClientAuthErrorReason.TheVariants as Client
-use Rattle.stun_auth.specs.declared.client_answer.LongTermClientValidation.TheVariants as Read
-use Rattle.stun_auth.specs.declared.server_reason.LongTermServerAuthErrorReason.TheVariants as Server
-use Rattle.stun_auth.specs.declared.server_reason.LongTermServerValidation.TheVariants as Served
+use Rattle.stun_auth.specs.Validation.{sight}
 use Rattle.stun_proto.specs.Meetings.{meeting_of}
-use Rattle.stun_proto.specs.Negotiation.{BINDING, Meeting, Met, asked, challenged, failure, negotiated, page_of, responded, second_asked, succeeded, success}
+use Rattle.stun_proto.specs.Negotiation.{asked, challenged, failure, page_of, responded, second_asked}
 use Rattle.stun_proto.specs.Serving.{after_calls}
-use Rattle.stun_proto.specs.Sides.{IsRun, behind_challenge, behind_first, behind_second, behind_success, sides, sides_of}
-use Rattle.stun_proto.specs.declared.replay.negotiation.Outcome.TheVariants as Outcome
+use Rattle.stun_proto.specs.Sides.{IsRun, behind_challenge, behind_second, sides}
 use Rattle.stun_proto.proofs.Runs.{by_error, challenge_ended, challenge_ends, challenge_resent, challenge_stopped, first_calls_stopped, resent, run_refused, stepped}
 use Rattle.stun_proto.proofs.replay.negotiation.meeting.answer_challenge.Goals as goal
 

@@ -1,15 +1,12 @@
-use Rattle.std.proofs.Common.{◌≡◌, List, ◌∷◌, ℕ, refl, sym, ◌∙◌, ap, subst, Ok, Err}
-use Rattle.std.specs.declared.result.Result.{Result}
-use Rattle.stun_base.specs.declared.error.StunWriteError.{StunWriteError}
+use Rattle.std.proofs.Common.{◌≡◌, ◌∷◌, refl, sym, ◌∙◌, ap, subst, Err}
 use Rattle.stun_types.specs.Message.{IsMessage}
 use Rattle.stun_types.specs.WriteVec.{Written}
-use Rattle.stun_auth.specs.Additions.{Page, UnlessMemory}
-use Rattle.stun_auth.specs.Client.{ClientSide}
+use Rattle.stun_auth.specs.Additions.{UnlessMemory}
 use Rattle.stun_auth.specs.ClientStep.{client_step}
 use Rattle.stun_auth.specs.Reading.{reading_of}
-use Rattle.stun_auth.specs.Validation.{ServerSeen, sight}
+use Rattle.stun_auth.specs.Validation.{sight}
 use Rattle.stun_proto.specs.Meetings.{meeting_of}
-use Rattle.stun_proto.specs.Negotiation.{Meeting, page_of, responded, succeeded, success}
+use Rattle.stun_proto.specs.Negotiation.{page_of, responded, succeeded, success}
 use Rattle.stun_proto.specs.Sides.{IsRun, behind_success, sides}
 use Rattle.stun_proto.proofs.Runs.{by_error, run_refused, stepped, success_read, success_stopped}
 use Rattle.stun_proto.proofs.replay.negotiation.meeting.confirm.Goals as goal

@@ -1,4 +1,4 @@
-use Rattle.std.proofs.Common.{rules, ◌≡◌, List, ℕ, sym, ◌∙◌, ap, subst, Ok, Err}
+use Rattle.std.proofs.Common.{◌≡◌, List, ℕ, sym, subst, Ok, Err}
 use Rattle.std.specs.declared.result.Result.{Result}
 use Rattle.stun_base.specs.Header.{transaction_id_field}
 use Rattle.stun_base.specs.declared.error.StunWriteError.{StunWriteError}

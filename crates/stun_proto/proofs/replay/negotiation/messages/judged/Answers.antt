@@ -1,13 +1,10 @@
-use Rattle.std.proofs.Common.{◌≡◌, sym, ◌∙◌, ap, subst, Ok, Err, IfOk, OnOk, OnErr}
+use Rattle.std.proofs.Common.{◌≡◌, ◌∙◌, ap, subst, Ok, Err}
 use Rattle.std.specs.Prelude.{IsErr}
-use Rattle.rand_core.specs.Steps.{stream_of, steps_u32}
-use Rattle.stun_auth.specs.Nonces.{next_words}
 use Rattle.stun_auth.specs.Reading.{reading_of}
 use Rattle.stun_auth.specs.Reasons.{ForReason}
 use Rattle.stun_auth.specs.Validation.{Answer, after_message, answer, sight}
 use Rattle.stun_auth.specs.declared.server_reason.LongTermServerAuthErrorReason.{LongTermServerAuthErrorReason}
 use Rattle.stun_proto.specs.FirstAnswers.{answer_of}
-use Rattle.stun_proto.specs.Words.{next_word}
 use Rattle.stun_proto.proofs.DrawnWords.{next_words-source}
 use Rattle.stun_proto.proofs.Heard.{off_told, off_untold, on_told, on_untold, told_as, untold_as}
 use Rattle.stun_proto.proofs.ValidateLemmas.{either}

@@ -1,4 +1,4 @@
-use Rattle.std.proofs.Common.{rules, ◌≡◌, IfOk}
+use Rattle.std.proofs.Common.{rules}
 use Rattle.stun_proto.proofs.Typed.{AddingLaws, has_id, has_method, if_ok_map, request_added, request_signed}
 use Rattle.stun_proto.proofs.replay.negotiation.messages.request.Goals as goal
 

@@ -1,7 +1,4 @@
-use Rattle.std.proofs.Common.{rules, ◌≡◌, List, Bool, true, subst, IfOk, OnOk}
-use Rattle.stun_types.specs.WriteVec.{Written}
-use Rattle.stun_auth.specs.Additions.{Addition}
-use Rattle.stun_auth.specs.Joined.{HasAdded}
+use Rattle.std.proofs.Common.{◌≡◌, Bool, subst, OnOk}
 use Rattle.stun_auth.specs.ServerSigning.{after_signing}
 use Rattle.stun_auth.specs.Validation.{sight}
 use Rattle.stun_proto.specs.Negotiation.{responded}

@@ -1,4 +1,4 @@
-use Rattle.std.proofs.Common.{rules, ◌≡◌, ◌≤◌, ◌-◌, List, [], ◌∷◌, length, ℕ, Option, Some, None, sym, ◌∙◌, ap, subst, arith, Ok, Err, MatchOption}
+use Rattle.std.proofs.Common.{◌≡◌, [], ◌∷◌, length, Option, Some, None, sym, ◌∙◌, ap, arith, Ok, Err, MatchOption}
 use Rattle.stun_base.specs.Attributes.{ERROR_CODE}
 use Rattle.stun_base.specs.Header.{transaction_id_field}
 use Rattle.stun_base.specs.MessageType.{type_number}

@@ -1,7 +1,6 @@
 -- What a client chooses from the list of a server is the strongest algorithm of both.
-use Rattle.std.proofs.Common.{◌≡◌, ℕ, List, [], ◌∷◌, Option, Some, None, Bool, true, false, refl, ◌∙◌, ap, Ok, Err}
+use Rattle.std.proofs.Common.{◌≡◌, ℕ, List, Option, Some, None, Bool, true, false, refl, sym, ◌∙◌, ap, Ok, Err}
 use Rattle.std.specs.Prelude.{cond, not, ◌&&◌, ◌||◌}
-use Rattle.std.specs.Option.{is_some}
 use Rattle.std.specs.declared.result.Result.{Result}
 use Rattle.stun_base.specs.declared.algorithm.IntegrityAlgorithm.{IntegrityAlgorithm}
 use Rattle.stun_base.specs.declared.algorithm.IntegrityAlgorithm.TheVariants.{Sha1, Sha256}
@@ -9,15 +8,12 @@ use Rattle.stun_auth.specs.declared.algorithm_set.AlgorithmSet.{AlgorithmSet}
 use Rattle.stun_auth.specs.declared.algorithm_set.AlgorithmSet.TheVariants.{OnlySha1, OnlySha256, Both}
 use Rattle.stun_auth.specs.declared.feature.Feature.{Feature}
 use Rattle.stun_auth.specs.Algorithms.{contains, has, listed}
-use Rattle.stun_auth.specs.ClientStep.{ClientRefusal, choose, choose_by_list, choose_without_bits, first_supported, is_required, or_unsupported, unless, unsupported_feature}
+use Rattle.stun_auth.specs.ClientStep.{ClientRefusal, choose, choose_by_list, is_required, or_unsupported, unless, unsupported_feature}
 use Rattle.stun_auth.specs.Feature.{is_possible}
-use Rattle.stun_auth.specs.Nonces.{asks_for_algorithms, asks_for_userhash, nonce_of, security_bits}
+use Rattle.stun_auth.specs.Nonces.{asks_for_algorithms, asks_for_userhash, nonce_of}
 use Rattle.stun_proto.specs.Best.{best}
 use Rattle.stun_proto.proofs.Signed.{NoncesAsk}
-
--- what both have, of what the client and the server have
-abbrev common : Bool → Bool → Bool → Bool → Option IntegrityAlgorithm
-common h1 h256 s1 s256 = cond (h256 && s256) (Some Sha256) (cond (h1 && s1) (Some Sha1) None)
+use Rattle.stun_proto.proofs.Strongest.{best-by_cases, best_is, common, has_from_Contains}
 
 unless_or : (missing : Bool) (o : Option IntegrityAlgorithm) → unless missing (or_unsupported o) ≡ or_unsupported (cond missing None o)
 unless_or true None = refl
@@ -76,32 +72,11 @@ choose-best say supported set wanted given words =
     ∙ ap (λ b. by_nonce supported (is_required wanted) (contains Sha256 set || is_possible given) b (asks_for_algorithms nonce) (listed set)) (say.userhash set given words)
     ∙ ap (λ b. by_nonce supported (is_required wanted) (contains Sha256 set || is_possible given) (is_possible given) b (listed set)) (say.algorithms set given words)
     ∙ by_cases supported (is_required wanted) (is_possible given) set
+    ∙ ap or_unsupported (sym (best-by_cases supported (listed set) wanted given))
 
 -- the strongest of both is one of the server's
-common_had : (missing h1 h256 s1 s256 : Bool) (server : List IntegrityAlgorithm) (a : IntegrityAlgorithm) → has Sha1 server ≡ s1 → has Sha256 server ≡ s256
-    → cond missing None (common h1 h256 s1 s256) ≡ Some a → has a server ≡ true
-common_had missing h1 h256 s1 s256 server Sha1 e f h = e ∙ one missing h1 h256 s1 s256 h
-  where
-    one : (missing h1 h256 s1 s256 : Bool) → cond missing None (common h1 h256 s1 s256) ≡ Some Sha1 → s1 ≡ true
-    one missing h1 h256 true s256 h = refl
-    one true h1 h256 false s256 h = cc
-    one false h1 true false true h = cc
-    one false true true false false h = cc
-    one false false true false false h = cc
-    one false true false false s256 h = cc
-    one false false false false s256 h = cc
-common_had missing h1 h256 s1 s256 server Sha256 e f h = f ∙ other missing h1 h256 s1 s256 h
-  where
-    other : (missing h1 h256 s1 s256 : Bool) → cond missing None (common h1 h256 s1 s256) ≡ Some Sha256 → s256 ≡ true
-    other missing h1 h256 s1 true h = refl
-    other true h1 h256 s1 false h = cc
-    other false true true true false h = cc
-    other false true true false false h = cc
-    other false false true s1 false h = cc
-    other false true false true false h = cc
-    other false true false false false h = cc
-    other false false false s1 false h = cc
-
 pub best-had : (supported : List IntegrityAlgorithm) (set : AlgorithmSet) (wanted given : Feature) (a : IntegrityAlgorithm)
     → best supported (listed set) wanted given ≡ Some a → contains a set ≡ true
-best-had supported set wanted given a h = common_had _ _ _ (has Sha1 (listed set)) (has Sha256 (listed set)) (listed set) a refl refl h
+best-had supported set wanted given a h =
+    let strongest = (best_is supported (listed set) wanted given).some a in
+    has_from_Contains a (listed set) (strongest.0 h).1.shared.1

@@ -26,6 +26,7 @@ pub mod Signed
 pub mod SignedRuns
 pub mod SigningLemmas
 pub mod SoonerLemmas
+pub mod Strongest
 pub mod TurnLemmas
 pub mod Typed
 pub mod ValidateLemmas

@@ -1,12 +1,11 @@
 -- How a run ends at each of its steps.
-use Rattle.std.proofs.Common.{◌≡◌, ◌≢◌, ℕ, ◌≤◌, List, [], ◌∷◌, length, take, Option, Some, None, Bool, true, false, refl, sym, ◌∙◌, ap, subst, Ok, Err}
+use Rattle.std.proofs.Common.{◌≡◌, ℕ, ◌≤◌, List, [], ◌∷◌, length, take, Option, Some, None, true, false, refl, sym, ◌∙◌, ap, subst, Ok, Err}
 use Rattle.std.specs.Prelude.{Contains, IfSome, IsErrAnd}
 use Rattle.std.specs.declared.result.Result.{Result}
 use Rattle.stun_base.specs.declared.algorithm.IntegrityAlgorithm.{IntegrityAlgorithm}
 use Rattle.stun_base.specs.declared.error.StunWriteError.{StunWriteError}
 use Rattle.stun_base.specs.declared.error.StunWriteError.TheVariants.{NotAllowed, MessageIntegrityExists, AttributeExists, TooLarge, TooSmall, IntegrityFailed, OutOfMemory}
 use Rattle.stun_types.specs.WriteVec.{Written}
-use Rattle.stun_auth.specs.declared.client_answer.LongTermClientAuthErrorReason.{LongTermClientAuthErrorReason}
 use Rattle.stun_auth.specs.declared.client_answer.LongTermClientAuthErrorReason.TheVariants as Client
 use Rattle.stun_auth.specs.declared.client_answer.LongTermClientValidation.TheVariants as Read
 use Rattle.stun_auth.specs.declared.server_reason.LongTermServerAuthErrorReason.{LongTermServerAuthErrorReason}
@@ -20,13 +19,13 @@ use Rattle.stun_auth.specs.ServerSigning.{after_signing}
 use Rattle.stun_auth.specs.Validation.{Answer, ServerSeen, after_message, answer, sight}
 use Rattle.stun_proto.specs.FirstAnswers.{end_of, is_unauthorized}
 use Rattle.stun_proto.specs.Negotiating.{error_of, met_by}
-use Rattle.stun_proto.specs.Negotiation.{Meeting, Met, asked, challenge_answered, challenge_read, challenged, confirmed, ended, failure, first_answered, first_asked, negotiated, outcome_of, page_of, responded, second_answered, second_asked, succeeded, success, unwritten}
+use Rattle.stun_proto.specs.Negotiation.{Meeting, Met, asked, challenge_answered, challenged, ended, failure, first_answered, first_asked, negotiated, outcome_of, responded, second_answered, second_asked, succeeded, success, unwritten}
 use Rattle.stun_proto.specs.Serving.{after_calls}
-use Rattle.stun_proto.specs.Sides.{IsRun, Sides, behind_calls, behind_challenge, behind_first, behind_second, behind_success, if_accepted, if_resent, if_signed, if_unauthorized, sides, sides_of}
+use Rattle.stun_proto.specs.Sides.{IsRun, Sides, behind_calls, behind_challenge, behind_first, behind_second, behind_success, if_accepted, if_resent, if_unauthorized, sides, sides_of}
 use Rattle.stun_proto.specs.declared.replay.negotiation.NegotiateError.{NegotiateError}
 use Rattle.stun_proto.specs.declared.replay.negotiation.NegotiateError.TheVariants.{Memory, Write}
 use Rattle.stun_proto.specs.declared.replay.negotiation.Outcome.{Outcome}
-use Rattle.stun_proto.specs.declared.replay.negotiation.Outcome.TheVariants.{AlreadyValidated, ClientRefused, ServerRefused}
+use Rattle.stun_proto.specs.declared.replay.negotiation.Outcome.TheVariants.{ClientRefused, ServerRefused}
 use Rattle.stun_proto.proofs.Along.{at_call, at_signed, here, past_calls, there}
 
 -- ---- the ways in which a run ends
@@ -102,11 +101,11 @@ module _ (m : Meeting) (client : ClientSide) (before : ServerSeen) where
         → IsRun (Err e) client new server (succeeded m a client.state before (responded (success m.second.id) (sight before m.from))) (first ∷ behind_success m client.state before)
     success_stopped new same e is =
         run_stopped e client new server _ (first ∷ behind_success m client.state before) is (ap (λ (k : ClientSide). k.settings) same)
-        (at_signed (responded (success m.second.id) (sight before m.from)) page first (λ (p : Page). sides client.state (after_signing before m.from true) ∷ sides (client_step m.settings client.state (reading_of p.bytes)).state (after_signing before m.from true) ∷ []) (sides new.state server) signed
-        (there first (sides client.state (after_signing before m.from true) ∷ sides last_step.state (after_signing before m.from true) ∷ []) (sides new.state server)
-        (subst (λ (k : ClientSide). Contains (sides client.state (after_signing before m.from true) ∷ sides last_step.state (after_signing before m.from true) ∷ []) (sides k.state server)) (sym same)
-        (subst (λ s. Contains (sides client.state (after_signing before m.from true) ∷ sides last_step.state (after_signing before m.from true) ∷ []) (sides client.state s)) (sym left)
-        (here (sides client.state (after_signing before m.from true)) (sides last_step.state (after_signing before m.from true) ∷ []))))))
+        (at_signed (responded (success m.second.id) (sight before m.from)) page first (λ (p : Page). sides client.state (after_signing before m.from true) ∷ []) (sides new.state server) signed
+        (there first (sides client.state (after_signing before m.from true) ∷ []) (sides new.state server)
+        (subst (λ (k : ClientSide). Contains (sides client.state (after_signing before m.from true) ∷ []) (sides k.state server)) (sym same)
+        (subst (λ s. Contains (sides client.state (after_signing before m.from true) ∷ []) (sides client.state s)) (sym left)
+        (here (sides client.state (after_signing before m.from true)) [])))))
 
     -- the client has answered
     pub success_read : (new : ClientSide) (given : ClientAnswer) (outcome : Outcome) → given ≡ last_step.answer → new ≡ stepped client last_step → outcome ≡ outcome_of a given
@@ -125,16 +124,18 @@ module _ (m : Meeting) (client : ClientSide) (before : ServerSeen) where
 
     abbrev second_next : ServerSeen → List Sides
     second_next called =
-        sides client.state (after_message called m.from m.second.now m.second.words (reading_of page.bytes))
-        ∷ if_accepted (answer (sight called m.from) m.second.now m.second.words (reading_of page.bytes)) (behind_success m client.state (after_message called m.from m.second.now m.second.words (reading_of page.bytes)))
+        if_accepted (answer (sight called m.from) m.second.now m.second.words (reading_of page.bytes))
+        (sides client.state (after_message called m.from m.second.now m.second.words (reading_of page.bytes))
+        ∷ behind_success m client.state (after_message called m.from m.second.now m.second.words (reading_of page.bytes)))
 
     abbrev second_met : Met
     second_met = second_asked m client.state before (asked m.second.id client.state)
 
     at_second : (x : Sides) → Contains (first ∷ behind_calls client.state before m.second.before second_next) x → Contains (first ∷ behind_second m client.state before) x
     at_second x h = at_signed (asked m.second.id client.state) page first (λ (p : Page). behind_calls client.state before m.second.before (λ called.
-        sides client.state (after_message called m.from m.second.now m.second.words (reading_of p.bytes))
-        ∷ if_accepted (answer (sight called m.from) m.second.now m.second.words (reading_of p.bytes)) (behind_success m client.state (after_message called m.from m.second.now m.second.words (reading_of p.bytes))))) x (sym signed) h
+        if_accepted (answer (sight called m.from) m.second.now m.second.words (reading_of p.bytes))
+        (sides client.state (after_message called m.from m.second.now m.second.words (reading_of p.bytes))
+        ∷ behind_success m client.state (after_message called m.from m.second.now m.second.words (reading_of p.bytes))))) x (sym signed) h
 
     -- memory is wanting at a call
     pub second_calls_stopped : (new : ClientSide) (server : ServerSeen) (k : ℕ) (e : NegotiateError) → new ≡ client → k ≤ length m.second.before
@@ -186,7 +187,7 @@ module _ (m : Meeting) (client : ClientSide) (before : ServerSeen) where
         (λ h. at_second (sides new.state server)
         (past_calls client.state before m.second.before second_next (sides new.state server)
         (there (sides client.state second_called) (second_next second_called) (sides new.state server)
-        (subst (λ g. Contains (sides client.state second_left ∷ if_accepted g (behind_success m client.state second_left)) (sides new.state server)) told h))))
+        (subst (λ g. Contains (if_accepted g (sides client.state second_left ∷ behind_success m client.state second_left)) (sides new.state server)) told h))))
         from_server
 
   -- ---- the challenge
@@ -201,7 +202,7 @@ module _ (m : Meeting) (client : ClientSide) (before : ServerSeen) where
     challenge_step = client_step m.settings client.state (reading_of page.bytes)
 
     abbrev challenge_next : ServerSeen → List Sides
-    challenge_next called = sides challenge_step.state called ∷ if_resent challenge_step.answer (behind_second m challenge_step.state called)
+    challenge_next called = if_resent challenge_step.answer (sides challenge_step.state called ∷ behind_second m challenge_step.state called)
 
     abbrev challenge_met : Met
     challenge_met = challenged m client.state before (responded (failure UNAUTHORIZED m.first.id) (sight before m.from))
@@ -210,8 +211,8 @@ module _ (m : Meeting) (client : ClientSide) (before : ServerSeen) where
         → Contains (first ∷ behind_challenge m client.state before) x
     at_challenge x h = at_signed (responded (failure UNAUTHORIZED m.first.id) (sight before m.from)) page first (λ (p : Page).
         sides client.state challenge_signed ∷ behind_calls client.state challenge_signed m.first.before (λ called.
-        sides (client_step m.settings client.state (reading_of p.bytes)).state called
-        ∷ if_resent (client_step m.settings client.state (reading_of p.bytes)).answer (behind_second m (client_step m.settings client.state (reading_of p.bytes)).state called))) x signed
+        if_resent (client_step m.settings client.state (reading_of p.bytes)).answer
+        (sides (client_step m.settings client.state (reading_of p.bytes)).state called ∷ behind_second m (client_step m.settings client.state (reading_of p.bytes)).state called))) x signed
         (there first (sides client.state challenge_signed ∷ behind_calls client.state challenge_signed m.first.before challenge_next) x h)
 
     -- memory is wanting at a call
@@ -260,7 +261,7 @@ module _ (m : Meeting) (client : ClientSide) (before : ServerSeen) where
         (λ h. at_challenge (sides new.state server)
         (past_calls client.state challenge_signed m.first.before challenge_next (sides new.state server)
         (there (sides client.state challenge_called) (challenge_next challenge_called) (sides new.state server)
-        (subst (λ g. Contains (sides challenge_step.state challenge_called ∷ if_resent g (behind_second m challenge_step.state challenge_called)) (sides new.state server)) told h))))
+        (subst (λ g. Contains (if_resent g (sides challenge_step.state challenge_called ∷ behind_second m challenge_step.state challenge_called)) (sides new.state server)) told h))))
         from_server
 
   -- ---- the first request
@@ -301,10 +302,10 @@ module _ (m : Meeting) (client : ClientSide) (before : ServerSeen) where
         run_on result client client new server _ _ (sides_of m client.state before) _ refl
         (ap (first_answered m client.state first_left) told ∙ ap (first_asked m client.state before) (sym signed))
         (λ h. at_signed (asked m.first.id client.state) page first (λ (p : Page).
-        sides client.state (after_message before m.from m.first.now m.first.words (reading_of p.bytes))
-        ∷ if_unauthorized (answer (sight before m.from) m.first.now m.first.words (reading_of p.bytes)) (behind_challenge m client.state (after_message before m.from m.first.now m.first.words (reading_of p.bytes)))) (sides new.state server) (sym signed)
-        (there first (sides client.state first_left ∷ if_unauthorized first_answer (behind_challenge m client.state first_left)) (sides new.state server)
-        (subst (λ g. Contains (sides client.state first_left ∷ if_unauthorized g (behind_challenge m client.state first_left)) (sides new.state server)) told h)))
+        if_unauthorized (answer (sight before m.from) m.first.now m.first.words (reading_of p.bytes))
+        (sides client.state (after_message before m.from m.first.now m.first.words (reading_of p.bytes)) ∷ behind_challenge m client.state (after_message before m.from m.first.now m.first.words (reading_of p.bytes)))) (sides new.state server) (sym signed)
+        (there first (if_unauthorized first_answer (sides client.state first_left ∷ behind_challenge m client.state first_left)) (sides new.state server)
+        (subst (λ g. Contains (if_unauthorized g (sides client.state first_left ∷ behind_challenge m client.state first_left)) (sides new.state server)) told h)))
         from_server
 
 -- ---- answers to a challenge

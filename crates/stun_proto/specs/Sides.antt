@@ -1,5 +1,5 @@
--- Where both sides of a meeting stand after each of its steps: the server has read a message, or signed one, or made a call;
--- the client has read a message. A signing of the client changes nothing.
+-- Where both sides of a meeting stand after each step that another one follows: the server has read a message, or signed one, or
+-- made a call; the client has read a message. A signing of the client changes nothing.
 use Rattle.std.specs.Prelude.{◌≡◌, ◌≢◌, List, [], ◌∷◌, true, Contains, IfSome}
 use Rattle.std.specs.declared.result.Result.{Result}
 use Rattle.std.specs.declared.result.Result.TheVariants.{Ok, Err}
@@ -58,41 +58,40 @@ behind_calls state server (call ∷ calls) next =
 
 -- ---- the sides behind each step, the last steps first
 
--- the success is signed, and read by the client
+-- the success is signed; the client that reads it ends the run
 abbrev pub behind_success : Meeting → ClientState → ServerSeen → List Sides
 behind_success m state server = if_signed (responded (success m.second.id) (sight server m.from)) (λ page.
-    let signed = after_signing server m.from true in
-    sides state signed ∷ sides (client_step m.settings state (reading_of page.bytes)).state signed ∷ [])
+    sides state (after_signing server m.from true) ∷ [])
 
--- the second list of calls is made, and the second request is read by the server
+-- the second list of calls is made, and the second request is read by the server and accepted
 abbrev pub behind_second : Meeting → ClientState → ServerSeen → List Sides
 behind_second m state server = if_signed (asked m.second.id state) (λ page.
     behind_calls state server m.second.before (λ called.
     let read = after_message called m.from m.second.now m.second.words (reading_of page.bytes) in
-    sides state read ∷ if_accepted (answer (sight called m.from) m.second.now m.second.words (reading_of page.bytes)) (behind_success m state read)))
+    if_accepted (answer (sight called m.from) m.second.now m.second.words (reading_of page.bytes)) (sides state read ∷ behind_success m state read)))
 
--- the challenge is signed, the first list of calls is made, and the challenge is read by the client
+-- the challenge is signed, the first list of calls is made, and the challenge is read by the client and taken up
 abbrev pub behind_challenge : Meeting → ClientState → ServerSeen → List Sides
 behind_challenge m state server = if_signed (responded (failure UNAUTHORIZED m.first.id) (sight server m.from)) (λ page.
     let signed = after_signing server m.from true in
     sides state signed ∷ behind_calls state signed m.first.before (λ called.
     let step = client_step m.settings state (reading_of page.bytes) in
-    sides step.state called ∷ if_resent step.answer (behind_second m step.state called)))
+    if_resent step.answer (sides step.state called ∷ behind_second m step.state called)))
 
--- the first request is read by the server
+-- the first request is read by the server, and is to be challenged
 abbrev pub behind_first : Meeting → ClientState → ServerSeen → List Sides
 behind_first m state server = if_signed (asked m.first.id state) (λ page.
     let read = after_message server m.from m.first.now m.first.words (reading_of page.bytes) in
-    sides state read ∷ if_unauthorized (answer (sight server m.from) m.first.now m.first.words (reading_of page.bytes)) (behind_challenge m state read))
+    if_unauthorized (answer (sight server m.from) m.first.now m.first.words (reading_of page.bytes)) (sides state read ∷ behind_challenge m state read))
 
--- ---- the whole run: both sides at its beginning and behind each step
+-- ---- the whole run: both sides at its beginning and behind each step but the last
 abbrev pub sides_of : Meeting → ClientState → ServerSeen → List Sides
 sides_of m state server = sides state server ∷ behind_first m state server
 
 -- ---- a run that has ended
 
--- it has come to this end and this is left, where no memory was wanting; where memory was, both sides stand behind some of the
--- steps; the client's settings stay, and want of memory is never the reason of a refused signing
+-- it has come to this end and this is left, where no memory was wanting; where memory was, both sides stand where another step
+-- was to follow; the client's settings stay, and want of memory is never the reason of a refused signing
 pub record IsRun (result : Result Outcome NegotiateError) (old new : ClientSide) (server : ServerSeen) (met : Met) (along : List Sides) : Type 0 where
   pub settings : new.settings ≡ old.settings
   pub steps : IfSome (met_by result new.state server) (λ end. end ≡ met)

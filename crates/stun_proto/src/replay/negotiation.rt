@@ -97,7 +97,7 @@ impl From<Stopped> for NegotiateError {
 /// `Unauthorized` to the first request, a refusal of the client, an answer of the client to the 401 other than
 /// `ResendRequest`, or both sides' acceptance. `Write` is the reason of a signing that was refused, and never that memory was
 /// wanting. `Memory` is answered where it was; both sides then stand behind the first steps of the run, each call of a list
-/// being one.
+/// being one, and another step was to follow.
 #[tactic(none)]
 pub fn negotiate<A: Allocator + Copy>(
     alloc: A,

@@ -1,1 +1,4 @@
-//! Nothing yet: the traits of messages stand in `types::prelude`.
+//! The traits of attributes and of writers.
+pub use stun_types::prelude::{
+    Attribute, AttributeFromRaw, AttributeStaticType, MessageWrite, MessageWriteExt,
+};

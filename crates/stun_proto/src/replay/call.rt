@@ -8,8 +8,9 @@ use stun_base::algorithm::IntegrityAlgorithm;
 use stun_base::error::{StunParseError, StunWriteError};
 use stun_base::instant::Instant;
 
-/// A call of a server.
-#[derive(Debug, Drop, PartialEq, Eq)]
+/// A call of a server. `Debug` leaves a user's password out.
+#[derive(Drop)]
+#[derive_where(Debug, PartialEq, Eq)]
 pub enum ServerCall {
     /// A message came, and is to be validated.
     Validate {
@@ -34,6 +35,7 @@ pub enum ServerCall {
         /// The name of the user.
         name: String,
         /// The password from here on.
+        #[derive_where(skip(Debug))]
         password: String,
     },
     /// The user of this name is removed.

@@ -6,6 +6,7 @@ use std::time::Duration;
 use stun_agent::agent::StunError;
 use stun_base::instant::Instant;
 use stun_base::transaction_id::TransactionId;
+use thiserror::Error;
 
 /// What happens to an agent.
 #[derive(Debug, Drop, PartialEq, Eq)]
@@ -108,7 +109,8 @@ pub enum AgentStep<A: Allocator = Global> {
 }
 
 /// Memory was wanting in a run.
-#[derive(Clone, Copy, PartialEq, Eq, Debug, Drop)]
+#[derive(Clone, Copy, PartialEq, Eq, Debug, Error)]
+#[error("out of memory, {done} of them complete")]
 pub struct Stopped {
     /// How many of the events or calls are complete.
     pub done: usize,

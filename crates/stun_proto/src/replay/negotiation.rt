@@ -27,6 +27,7 @@ use stun_base::algorithm::IntegrityAlgorithm;
 use stun_base::error::StunWriteError;
 use stun_base::instant::Instant;
 use stun_base::transaction_id::TransactionId;
+use thiserror::Error;
 
 /// What a client and a server come to.
 #[derive(Clone, Copy, Debug, PartialEq, Eq)]
@@ -42,11 +43,13 @@ pub enum Outcome {
 }
 
 /// Why a run came to no outcome.
-#[derive(Clone, Copy, Debug, PartialEq, Eq)]
+#[derive(Clone, Copy, Debug, PartialEq, Eq, Error)]
 pub enum NegotiateError {
     /// Memory was wanting.
+    #[error("out of memory")]
     Memory,
     /// A signing was refused for another reason.
+    #[error(transparent)]
     Write(StunWriteError),
 }
 

@@ -27,6 +27,27 @@ impl Model for WordSource {
     ghost invariant = { λ s. s.taken ≤ 16 };
 }
 
+/// Two sources are equal where the same words are left.
+impl PartialEq for WordSource {
+    ghost use Rattle.std.specs.Prelude.{nat_eq};
+    ghost use Rattle.std.specs.Cmp.{partial_equiv_from_equiv};
+    ghost use Rattle.std.specs.Cmp.Lexicographic.{pointwise, nat_list_eq_equiv};
+
+    ghost eq = { pointwise nat_eq };
+
+    ghost laws = { partial_equiv_from_equiv nat_list_eq_equiv };
+
+    fn eq(&self, other: &Self) -> bool {
+        self.words[self.taken..] == other.words[other.taken..]
+    }
+}
+
+impl Eq for WordSource {
+    ghost use Rattle.std.specs.Cmp.Lexicographic.{nat_list_eq_equiv};
+
+    ghost laws = { nat_list_eq_equiv };
+}
+
 impl WordSource {
     /// A source of these words.
     pub fn new(words: [u32; 16]) -> Self

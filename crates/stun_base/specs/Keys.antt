@@ -3,7 +3,8 @@
 pub mod CredentialsKeyBytes
 pub mod KeyBytes
 pub mod OfCredentials
-use Rattle.std.specs.Prelude.{ℕ, List, ◌++◌, codes}
+use Rattle.std.specs.Prelude.{ℕ, List, ◌++◌, Bool, ◌&&◌, codes}
+use Rattle.std.specs.Str.{is_utf8}
 use Rattle.md5.specs.Md5.{md5}
 use Rattle.sha2.specs.Sha256.{sha256}
 use Rattle.stun_base.specs.Credentials.{UserAtRealm}
@@ -19,6 +20,10 @@ with_colon front back = front ++ codes ":" ++ back
 abbrev pub long_term_key : IntegrityAlgorithm → List ℕ → List ℕ → List ℕ → List ℕ
 long_term_key Sha1 username realm password = md5 (with_colon (with_colon username realm) password)
 long_term_key Sha256 username realm password = sha256 (with_colon (with_colon username realm) password)
+
+-- whether bytes are the name, realm and password of a user: each is UTF-8
+abbrev pub are_utf8 : List ℕ → List ℕ → List ℕ → Bool
+are_utf8 username realm password = is_utf8 username && is_utf8 realm && is_utf8 password
 
 -- the long-term key of a user at a realm, for each algorithm
 abbrev pub long_term_key_of : UserAtRealm → IntegrityAlgorithm → List ℕ

@@ -36,6 +36,16 @@ pub(crate) trait HashFunction: Drop {
         ensures fits { length (Self.Digest.items result) ≤ 64 };
 }
 
+/// The digest of a message in one piece.
+pub(crate) fn digest_of<H: HashFunction>(message: &[u8]) -> H::Digest
+    ensures value { H.Digest.items result ≡ H.digest message.now }
+    ensures fits { length (H.Digest.items result) ≤ 64 }
+{
+    let mut hasher = H::start();
+    hasher.feed(message);
+    hasher.finish()
+}
+
 impl HashFunction for Sha1 {
     type Digest = [u8; 20];
 

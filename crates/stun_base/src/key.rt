@@ -1,11 +1,13 @@
 //! Keys of message integrity (RFC 8489, sections 9.1.1 and 9.2.2), and hashes of user names (14.4).
 
-ghost use Rattle.std.specs.Prelude.{◌≡◌, ◌≤◌, length, IfOk, IsOk, Some, codes};
+ghost use Rattle.std.specs.Prelude.{◌≡◌, ◌≤◌, ◌↔◌, [], length, true, IfOk, IsOk, Some, IfSome, IsSome, codes};
+ghost use Rattle.std.specs.Str.{is_utf8};
 ghost use Rattle.stun_base.specs.Keys as spec;
 
 use crate::algorithm::IntegrityAlgorithm;
-use crate::hash::HashFunction;
+use crate::hash::{HashFunction, digest_of};
 use crate::no_memory::NoMemory;
+use crate::short_text::ShortText;
 use md5::Md5;
 use sha2::Sha256;
 use smallvec::SmallVec;
@@ -95,20 +97,75 @@ impl<A: Allocator> fmt::Debug for IntegrityKey<A> {
     }
 }
 
-/// The digest of a user's name, realm and password with colons between them, over the texts in
-/// turn.
-fn credentials_digest<H: HashFunction>(username: &str, realm: &str, password: &str) -> H::Digest
+/// Puts a user's name, realm and password into an empty text, with colons between them, or answers
+/// false where they find no room. The text stays where it is: to move it takes as long as the rest.
+fn join(text: &mut ShortText, username: &[u8], realm: &[u8], password: &[u8]) -> bool
+    requires { text.old ≡ [] }
+    ensures { result ≡ true → text.new ≡ spec.with_colon (spec.with_colon username.now realm.now) password.now }
+{
+    text.push(username)
+        && text.push(b":")
+        && text.push(realm)
+        && text.push(b":")
+        && text.push(password)
+}
+
+/// The digest of a user's name, realm and password with colons between them, over each in turn.
+fn digest_in_turn<H: HashFunction>(username: &[u8], realm: &[u8], password: &[u8]) -> H::Digest
     ensures value { H.Digest.items result ≡
         H.digest (spec.with_colon (spec.with_colon username.now realm.now) password.now) }
     ensures fits { length (H.Digest.items result) ≤ 64 }
 {
     let mut hasher = H::start();
-    hasher.feed(username.as_bytes());
+    hasher.feed(username);
     hasher.feed(b":");
-    hasher.feed(realm.as_bytes());
+    hasher.feed(realm);
     hasher.feed(b":");
-    hasher.feed(password.as_bytes());
+    hasher.feed(password);
     hasher.finish()
+}
+
+/// The digest of a user's name, realm and password with colons between them.
+fn credentials_digest<H: HashFunction>(username: &[u8], realm: &[u8], password: &[u8]) -> H::Digest
+    ensures value { H.Digest.items result ≡
+        H.digest (spec.with_colon (spec.with_colon username.now realm.now) password.now) }
+    ensures fits { length (H.Digest.items result) ≤ 64 }
+{
+    let mut text = ShortText::new();
+    if join(&mut text, username, realm, password) {
+        digest_of::<H>(text.as_bytes())
+    } else {
+        digest_in_turn::<H>(username, realm, password)
+    }
+}
+
+/// Whether bytes are UTF-8.
+fn is_utf8(bytes: &[u8]) -> bool
+    ensures { result ≡ is_utf8 bytes.now }
+{
+    simdutf8::basic::from_utf8(bytes).is_ok()
+}
+
+/// The digest of three texts with colons between them, or `None` where one of them is not UTF-8.
+fn digest_of_utf8<H: HashFunction>(
+    username: &[u8],
+    realm: &[u8],
+    password: &[u8],
+) -> Option<H::Digest>
+    ensures digest { IfSome result (λ digest. H.Digest.items digest ≡
+        H.digest (spec.with_colon (spec.with_colon username.now realm.now) password.now)) }
+    ensures utf8 { IsSome result ↔ (spec.are_utf8 username.now realm.now password.now ≡ true) }
+{
+    // The test comes last, since a processor can make it while it still works on the digest.
+    let mut text = ShortText::new();
+    if join(&mut text, username, realm, password) {
+        let digest = digest_of::<H>(text.as_bytes());
+        text.is_utf8().then_some(digest)
+    } else {
+        let digest = digest_in_turn::<H>(username, realm, password);
+        let are_utf8 = is_utf8(username) && is_utf8(realm) && is_utf8(password);
+        are_utf8.then_some(digest)
+    }
 }
 
 /// The long-term key of a user at a realm: 16 bytes of MD5 for HMAC-SHA1, 32 of SHA-256 for
@@ -138,6 +195,9 @@ pub(crate) fn hashed_key<A: Allocator>(
 ) -> IntegrityKey<A>
     ensures { result ≡ spec.long_term_key algorithm username.now realm.now password.now }
 {
+    let username = username.as_bytes();
+    let realm = realm.as_bytes();
+    let password = password.as_bytes();
     let inline = match algorithm {
         IntegrityAlgorithm::Sha1 => SmallVec::from_slice(
             NoMemory,
@@ -151,6 +211,24 @@ pub(crate) fn hashed_key<A: Allocator>(
     IntegrityKey {
         bytes: KeyBytes::Inline(inline.unwrap()),
     }
+}
+
+/// The long-term key for HMAC-SHA1 of texts that come as bytes: MD5 of `username:realm:password`
+/// (RFC 8489, section 9.2.2), or `None` where one of them is not UTF-8.
+pub fn md5_key_from_utf8(username: &[u8], realm: &[u8], password: &[u8]) -> Option<[u8; 16]>
+    ensures key { IfSome result (λ key. key ≡ spec.long_term_key IntegrityAlgorithm.Sha1 username.now realm.now password.now) }
+    ensures utf8 { IsSome result ↔ (spec.are_utf8 username.now realm.now password.now ≡ true) }
+{
+    digest_of_utf8::<Md5>(username, realm, password)
+}
+
+/// The long-term key for HMAC-SHA256 of texts that come as bytes: SHA-256 of
+/// `username:realm:password` (RFC 8489, section 18.5.1), or `None` where one of them is not UTF-8.
+pub fn sha256_key_from_utf8(username: &[u8], realm: &[u8], password: &[u8]) -> Option<[u8; 32]>
+    ensures key { IfSome result (λ key. key ≡ spec.long_term_key IntegrityAlgorithm.Sha256 username.now realm.now password.now) }
+    ensures utf8 { IsSome result ↔ (spec.are_utf8 username.now realm.now password.now ≡ true) }
+{
+    digest_of_utf8::<Sha256>(username, realm, password)
 }
 
 /// The hash that stands for a user name at a realm: SHA-256 of `username:realm` (RFC 8489, section

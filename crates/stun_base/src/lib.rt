@@ -14,5 +14,6 @@ pub mod key;
 pub mod laws;
 pub mod message_type;
 mod no_memory;
+mod short_text;
 pub mod transaction_id;
 pub mod transport;

@@ -1,30 +1,39 @@
 //! Keys and hashes of texts.
 
-ghost use Rattle.std.specs.Prelude.{◌≡◌, IfOk, IfErr, Ok, Err};
+ghost use Rattle.std.specs.Prelude.{◌≡◌, length, IfOk, IfErr, Ok, Err};
+ghost use Rattle.stun_c.specs.Answers.{fitted, written_number, buffer_after};
 ghost use Rattle.stun_c.specs.Codes.{algorithm_numbered};
 ghost use Rattle.stun_c.specs.Requests.{key_of_texts, userhash_of_texts};
 
+use crate::buffer::fill;
 use crate::codes::{Refusal, algorithm_numbered};
 use crate::text::text;
-use std::alloc::Global;
-use stun_base::key::{IntegrityKey, long_term_key, userhash};
+use stun_base::algorithm::IntegrityAlgorithm;
+use stun_base::key::{md5_key_from_utf8, sha256_key_from_utf8, userhash};
 
-/// The long-term key of a user at a realm for the algorithm of this number.
-pub fn key_of_texts(
-    alloc: Global,
+/// Copies the long-term key of a user at a realm for the algorithm of this number to the front of the buffer, and
+/// answers its length or the number of the refusal.
+pub fn write_key(
     algorithm: u32,
     username: &[u8],
     realm: &[u8],
     password: &[u8],
-) -> Result<IntegrityKey, Refusal>
-    ensures ok { IfOk result (λ key. key_of_texts (algorithm_numbered algorithm) username.now realm.now password.now ≡ Ok key) }
-    ensures err { IfErr result (λ refusal. key_of_texts (algorithm_numbered algorithm) username.now realm.now password.now ≡ Err refusal) }
+    buffer: &mut [u8],
+) -> i64
+    ensures answer { result ≡ written_number (fitted (key_of_texts (algorithm_numbered algorithm) username.now realm.now password.now) (length buffer.old)) }
+    ensures written { buffer.new ≡ buffer_after (fitted (key_of_texts (algorithm_numbered algorithm) username.now realm.now password.now) (length buffer.old)) buffer.old }
 {
-    let algorithm = algorithm_numbered(algorithm)?;
-    let username = text(username)?;
-    let realm = text(realm)?;
-    let password = text(password)?;
-    Ok(long_term_key(alloc, algorithm, username, realm, password))
+    match algorithm_numbered(algorithm) {
+        Ok(IntegrityAlgorithm::Sha1) => match md5_key_from_utf8(username, realm, password) {
+            Some(key) => fill(buffer, &key),
+            None => Refusal::NotText.code(),
+        },
+        Ok(IntegrityAlgorithm::Sha256) => match sha256_key_from_utf8(username, realm, password) {
+            Some(key) => fill(buffer, &key),
+            None => Refusal::NotText.code(),
+        },
+        Err(refusal) => refusal.code(),
+    }
 }
 
 /// The hash that stands for a user at a realm.

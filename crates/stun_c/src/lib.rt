@@ -18,9 +18,8 @@ mod verdict;
 
 use buffer::fill;
 use codes::{Refusal, algorithm_number};
-use keys::{key_of_texts, userhash_of_texts};
+use keys::{userhash_of_texts, write_key};
 use request::{LONGEST_REQUEST, signed_request};
-use std::alloc::Global;
 use stun_types::message::Message;
 use verdict::verdict;
 
@@ -68,7 +67,6 @@ pub extern "C" fn stun_build_signed(
 /// Writes the long-term key of a user for an algorithm, and answers its length, 16 or 32.
 #[unsafe(no_mangle)]
 pub extern "C" fn stun_long_term_key(
-    alloc: Global,
     algorithm: u32,
     username: &[u8],
     realm: &[u8],
@@ -78,10 +76,7 @@ pub extern "C" fn stun_long_term_key(
     ensures answer { result ≡ written_number (fitted (key_of_texts (algorithm_numbered algorithm) username.now realm.now password.now) (length out.old)) }
     ensures written { out.new ≡ buffer_after (fitted (key_of_texts (algorithm_numbered algorithm) username.now realm.now password.now) (length out.old)) out.old }
 {
-    match key_of_texts(alloc, algorithm, username, realm, password) {
-        Ok(key) => fill(out, key.as_bytes()),
-        Err(refusal) => refusal.code(),
-    }
+    write_key(algorithm, username, realm, password, out)
 }
 
 /// Writes the hash that stands for a user at a realm, and answers its length, 32.

@@ -1,5 +1,5 @@
 -- Which lines are printed: bytes that are no message are refused in three words alone.
-use Rattle.std.proofs.Common.{◌≡◌, ℕ, ◌+◌, lit<, List, length, Bool, true, false, Option, Some, None, Result, Ok, Err, IfOk, refl, sym, subst}
+use Rattle.std.proofs.Common.{◌≡◌, ℕ, ◌+◌, lit<, List, length, Bool, true, false, Option, Some, None, refl, sym, subst}
 use Rattle.std.specs.Prelude.{Contains, nat_lt, ◌==◌, if◌then◌else◌}
 use Rattle.stun_base.specs.Header.{HEADER_LENGTH, is_stun, length_field}
 use Rattle.stun_base.specs.declared.error.StunParseError.TheVariants.{Truncated, NotStun, TooLarge}
@@ -45,8 +45,6 @@ verdict_of-listed bytes password =
     (nat_lt (HEADER_LENGTH + length_field bytes) (length bytes)) (HEADER_LENGTH + taken (walk bytes) == length bytes)
     (verdict_on_integrity (stands bytes password) (integrity_refusal bytes)) (on_integrity-listed (stands bytes password) (deciding bytes))
 
--- an answer with that verdict has a listed line
-pub answer_listed : {E : Type 0} (answer : Result Verdict E) (bytes password : List ℕ)
-    → IfOk answer (λ verdict. verdict ≡ verdict_of bytes password) → IfOk answer (λ verdict. Contains printed_lines (line_of verdict))
-answer_listed (Ok verdict) bytes password is = subst IsListed (sym is) (verdict_of-listed bytes password)
-answer_listed (Err _) bytes password is = tt
+-- so that verdict has a listed line
+pub verdict_listed : (verdict : Verdict) (bytes password : List ℕ) → verdict ≡ verdict_of bytes password → Contains printed_lines (line_of verdict)
+verdict_listed verdict bytes password is = subst IsListed (sym is) (verdict_of-listed bytes password)

@@ -1,8 +1,9 @@
 //! The command `check`.
 ghost use Rattle.std.specs.Prelude.{◌≡◌, ◌≢◌, ◌≤◌, ◌+◌, ◌↔◌, length, IfSome};
 ghost use Rattle.stun_tool.specs.Check.{Prints};
+ghost use Rattle.stun_tool.specs.Input.{most_reads};
 
-use crate::input::{CountedRead, Failure, MAX_READS, read_to_end};
+use crate::input::{CountedRead, Failure, read_to_end};
 use crate::output::write_text;
 use crate::status::Status;
 use crate::verdict::verdict_on_input;
@@ -12,7 +13,7 @@ use std::io::Write;
 /// Reads a message as hexadecimal digits, and prints in a line whether its integrity stands under the
 /// password, which is the one word and whose bytes are the key (RFC 8489, section 9.1.1).
 ///
-/// Where a read, a write or a growth fails, or the reader's end does not come within `MAX_READS` reads,
+/// Where a read, a write or a growth fails, or the reader's end does not come within 1048576 reads,
 /// it answers `Failed`, and at most a beginning of the line stands.
 pub fn check<R: CountedRead, W: Write, A: Allocator + Copy>(
     alloc: A,
@@ -23,7 +24,7 @@ pub fn check<R: CountedRead, W: Write, A: Allocator + Copy>(
     ensures wrong_words { (result ≡ Status.WrongWords) ↔ (length words.now ≢ 1) }
     ensures untouched { result ≡ Status.WrongWords → (reader.new ≡ reader.old) × (writer.new ≡ writer.old) }
     ensures prints { IfSome (R.remaining reader.old) (λ input. Prints words.now input result (W.contents writer.old) (W.contents writer.new)) }
-    ensures asked { R.asked reader.new ≤ R.asked reader.old + MAX_READS }
+    ensures asked { R.asked reader.new ≤ R.asked reader.old + most_reads }
 {
     let [password] = words else {
         return Status::WrongWords;

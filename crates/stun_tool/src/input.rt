@@ -1,6 +1,7 @@
 //! The one way in which commands read.
 ghost use Rattle.std.specs.Prelude.{◌≡◌, ◌≤◌, ◌+◌, ℕ, IfOk, IfSome};
 ghost use Rattle.std.specs.Io.{ReadsAtMost};
+ghost use Rattle.stun_tool.specs.Input.{most_reads};
 ghost use Rattle.std.specs.Io.KnownBytes.{ReadConsumes};
 
 use std::alloc::{AllocError, Allocator};
@@ -8,7 +9,7 @@ use std::io;
 use std::io::{ErrorKind, Read};
 
 /// How often a command asks its reader, at most.
-pub const MAX_READS: u32 = 1_048_576;
+const MAX_READS: u32 = 1_048_576;
 
 /// The bytes that one read may give.
 const READ_SIZE: usize = 256;
@@ -57,14 +58,14 @@ impl<R: Read + Drop> CountedRead for Uncounted<R> {
 
 /// All that the reader has left.
 ///
-/// It fails where a read or a growth fails, or the end does not come within `MAX_READS` reads. An
+/// It fails where a read or a growth fails, or the end does not come within 1048576 reads. An
 /// interrupted read is asked again, and is one of them.
 pub fn read_to_end<R: CountedRead, A: Allocator>(
     alloc: A,
     reader: &mut R,
 ) -> Result<Vec<u8, A>, Failure>
     ensures all { IfSome (R.remaining reader.old) (λ input. IfOk result (λ bytes. bytes.items ≡ input)) }
-    ensures asked { R.asked reader.new ≤ R.asked reader.old + MAX_READS }
+    ensures asked { R.asked reader.new ≤ R.asked reader.old + most_reads }
 {
     let mut bytes = Vec::new(alloc);
     let mut buffer = [0u8; READ_SIZE];

@@ -3,6 +3,7 @@
 
 ghost use Rattle.std.specs.Prelude.{◌≡◌, ◌≢◌, ◌≤◌, ◌+◌, ◌↔◌, length, IfSome, IfNone};
 ghost use Rattle.stun_tool.specs.Check.{Prints};
+ghost use Rattle.stun_tool.specs.Input.{most_reads};
 ghost use Rattle.stun_tool.specs.Output.{AppendsUnlessFailed};
 ghost use Rattle.stun_tool.specs.Run.{words_of_check, words_of_negotiate, words_of_schedule, words_of_serve, usage_line};
 
@@ -22,7 +23,7 @@ mod verdict;
 mod words;
 
 use check::check;
-use input::{CountedRead, Failure, MAX_READS, Uncounted};
+use input::{CountedRead, Failure, Uncounted};
 use negotiate::negotiate;
 use output::write_text;
 use schedule::schedule;
@@ -54,7 +55,7 @@ fn run<R: CountedRead, W: Write, E: Write>(
     ensures silent { result ≢ Status.WrongWords → errors.new ≡ errors.old }
     ensures prints { IfSome (words_of_check words.now) (λ others. IfSome (R.remaining reader.old)
         (λ input. Prints others input result (W.contents writer.old) (W.contents writer.new))) }
-    ensures asked { R.asked reader.new ≤ R.asked reader.old + MAX_READS }
+    ensures asked { R.asked reader.new ≤ R.asked reader.old + most_reads }
 {
     let status = match words {
         [command, others @ ..] if command.as_str() == "check" => {

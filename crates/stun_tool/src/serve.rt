@@ -1,7 +1,8 @@
 //! The command `serve`.
 ghost use Rattle.std.specs.Prelude.{◌≡◌, ◌≢◌, ◌≤◌, ◌+◌, ◌↔◌, length};
+ghost use Rattle.stun_tool.specs.Input.{most_reads};
 
-use crate::input::{CountedRead, Failure, MAX_READS, read_to_end};
+use crate::input::{CountedRead, Failure, read_to_end};
 use crate::names::{algorithm_name, error_name, server_reason_name};
 use crate::output::write_text;
 use crate::script::{Script, read_script};
@@ -18,7 +19,7 @@ use stun_proto::replay::{ServerCall, ServerReply};
 ///
 /// Where a line is no call, only `wrong line N` is printed for the first such one, nothing is run, and the answer is
 /// `Refused`; refusals by the server are answers. Where a read, a write or a growth fails, or the reader's end does not come
-/// within `MAX_READS` reads, it answers `Failed`, and nothing more is printed.
+/// within 1048576 reads, it answers `Failed`, and nothing more is printed.
 pub fn serve<R: CountedRead, W: Write>(
     alloc: Global,
     words: &[String],
@@ -27,7 +28,7 @@ pub fn serve<R: CountedRead, W: Write>(
 ) -> Status
     ensures wrong_words { (result ≡ Status.WrongWords) ↔ (length words.now ≢ 1) }
     ensures untouched { result ≡ Status.WrongWords → (reader.new ≡ reader.old) × (writer.new ≡ writer.old) }
-    ensures asked { R.asked reader.new ≤ R.asked reader.old + MAX_READS }
+    ensures asked { R.asked reader.new ≤ R.asked reader.old + most_reads }
 {
     let [realm] = words else {
         return Status::WrongWords;

@@ -6,9 +6,7 @@ use crate::digits::read_digits;
 use crate::input::Failure;
 use crate::status::Status;
 use std::alloc::Allocator;
-use stun_types::message::{
-    IntegrityAlgorithm, IntegrityKey, Message, StunParseError, ValidateError,
-};
+use stun_types::message::{IntegrityAlgorithm, Message, StunParseError, ValidateError};
 
 /// What `check` says of an input.
 #[derive(Clone, Copy, Debug, PartialEq, Eq)]
@@ -79,17 +77,16 @@ fn verdict_without_digest(error: ValidateError) -> Verdict
 }
 
 /// The verdict on a message under a password, whose bytes are the key.
-fn verdict_on<A: Allocator>(alloc: A, bytes: &[u8], password: &[u8]) -> Result<Verdict, Failure>
-    ensures { IfOk result (λ verdict. verdict ≡ verdict_of bytes.now password.now) }
+fn verdict_on(bytes: &[u8], password: &[u8]) -> Verdict
+    ensures { result ≡ verdict_of bytes.now password.now }
 {
     let message = match Message::from_bytes(bytes) {
         Ok(message) => message,
-        Err(error) => return Ok(Verdict::NotAMessage(error)),
+        Err(error) => return Verdict::NotAMessage(error),
     };
-    let key = IntegrityKey::from_bytes(alloc, password)?;
-    match message.validate_integrity_with_key(&key) {
-        Ok(algorithm) => Ok(Verdict::Valid(algorithm)),
-        Err(error) => Ok(verdict_without_digest(error)),
+    match message.validate_integrity_with_key_bytes(password) {
+        Ok(algorithm) => Verdict::Valid(algorithm),
+        Err(error) => verdict_without_digest(error),
     }
 }
 
@@ -103,7 +100,7 @@ pub fn verdict_on_input<A: Allocator + Copy>(
     ensures listed { IfOk result (λ verdict. Contains printed_lines (line_of verdict)) }
 {
     match read_digits(alloc, input)? {
-        Some(bytes) => verdict_on(alloc, bytes.as_slice(), password),
+        Some(bytes) => Ok(verdict_on(bytes.as_slice(), password)),
         None => Ok(Verdict::BadInput),
     }
 }

@@ -1,6 +1,6 @@
 -- A place that is put back as it was.
-use Rattle.std.proofs.Common.{◌≡◌, ℕ, List, Option, Some, None, true, false, refl, sym, ◌∙◌, ap}
-use Rattle.std.specs.Prelude.{cond}
+use Rattle.std.proofs.Common.{◌≡◌, ℕ, List, Option, Some, None, Bool, true, false, refl, sym, ◌∙◌, ap}
+use Rattle.std.specs.Prelude.{cond, not, ◌&&◌, ⊤}
 use Rattle.std.specs.Ordering.{is_eq}
 use Rattle.std.specs.declared.cmp.Ordering.{Ordering}
 use Rattle.std.specs.declared.cmp.Ordering.TheVariants.{Less, Equal, Greater}
@@ -8,15 +8,18 @@ use Rattle.std.specs.FinMap as fin
 use Rattle.std.specs.FinMap.{same_map, get-insert, get_tied}
 use Rattle.std.specs.declared.net.socket_addr.SocketAddr.{SocketAddr}
 use Rattle.stun_base.specs.Address.{address_cmp}
-use Rattle.stun_auth.specs.Seen.{PlaceSeen, renewed}
+use Rattle.stun_auth.specs.Seen.{ClientSeen, PlaceSeen, renewed}
 use Rattle.stun_auth.specs.Places.{at_place}
 use Rattle.stun_auth.specs.Reading.{Reading}
-use Rattle.stun_auth.specs.Reasons.{OrMemory}
+use Rattle.stun_auth.specs.Reasons.{OrMemory, ServerRefusal}
 use Rattle.stun_base.specs.Moments.{moment_after}
-use Rattle.stun_auth.specs.Server.{standing, standing_of, stands_at}
-use Rattle.stun_auth.specs.Validation.{ServerSeen, sight, with_accepted, put_place, needs_nonce, after_message, verdict_at}
+use Rattle.stun_auth.specs.Server.{Sight, standing, standing_of, stands_at}
+use Rattle.stun_auth.specs.Validation.{ChangesNothing, ServerSeen, sight, with_accepted, put_place, needs_nonce, after_message, verdict_at}
 use Rattle.stun_auth.specs.declared.server_reason.LongTermServerAuthErrorReason.{LongTermServerAuthErrorReason}
 use Rattle.stun_auth.specs.declared.server_reason.LongTermServerAuthErrorReason.TheVariants.{Unauthorized, IntegrityFailed, UnsupportedFeature, BadRequest, StaleNonce, OutOfMemory}
+use Rattle.stun_auth.specs.VerdictSteps.{answered, place_left}
+use Rattle.stun_auth.specs.declared.server.validation.Acceptance.{Acceptance}
+use Rattle.stun_auth.specs.declared.server.validation.Acceptance.TheVariants.{Known, New}
 use Rattle.stun_auth.specs.Nonces.{nonce_of}
 use Rattle.std.specs.declared.result.Result.{Result}
 use Rattle.std.specs.declared.result.Result.TheVariants.{Ok, Err}
@@ -80,3 +83,59 @@ after_renewal s from now words r nonce needs expired made =
     ap (λ n. record s { places = fin.insert s.places from (at (renewed o n (moment_after now s.expiry) None)) }) made
     ∙ ap (λ place. record s { places = fin.insert s.places from (at place) }) (sym (not_standing o (nonce_of s.registered.algorithms s.feature words) now (moment_after now s.expiry) expired))
     ∙ ap (λ b. record s { places = put_place s.places from (cond b (Some (at (standing (sight s from) now words))) o) }) (sym needs)
+
+-- ---- messages that change nothing
+
+needed-false : (needed : Bool) → (needed && false) ≡ false
+needed-false true = refl
+needed-false false = refl
+
+if-same : (b : Bool) (x y : Option PlaceSeen) → x ≡ y → cond b x y ≡ y
+if-same true x y is = is
+if-same false x y is = refl
+
+pub needless-unchanged : (s : Sight) (now : ℕ) (words : List ℕ) (r : Reading) → needs_nonce r ≡ false → ChangesNothing s now words r
+needless-unchanged s now words r needless = record {
+  no_nonce = ap (λ b. b && not (stands_at now s.place)) needless;
+  same_place = ap (λ b. cond b (Some (with_accepted (standing s now words) (verdict_at s (standing s now words) r))) s.place) needless;
+}
+
+-- where a nonce stands, a verdict that leaves its place
+pub kept-unchanged : (s : Sight) (now : ℕ) (words : List ℕ) (r : Reading) (place : PlaceSeen) → s.place ≡ Some place → stands_at now (Some place) ≡ true
+    → with_accepted place (verdict_at s place r) ≡ place → ChangesNothing s now words r
+kept-unchanged s now words r place there stands same =
+    let stays : standing s now words ≡ place =
+    ap (λ o. standing_of o (nonce_of s.registered.algorithms s.feature words) now (moment_after now s.expiry)) there
+    ∙ ap (λ b. cond b place (renewed (Some place) (nonce_of s.registered.algorithms s.feature words) (moment_after now s.expiry) None)) stands in record {
+      no_nonce = ap (λ o. needs_nonce r && not (stands_at now o)) there ∙ ap (λ b. needs_nonce r && not b) stands ∙ needed-false (needs_nonce r);
+      same_place = if-same (needs_nonce r) (Some (with_accepted (standing s now words) (verdict_at s (standing s now words) r))) s.place
+          (ap (λ p. Some (with_accepted p (verdict_at s p r))) stays ∙ ap Some same ∙ sym there);
+    }
+
+pub refused-unchanged : (s : Sight) (now : ℕ) (words : List ℕ) (r : Reading) (place : PlaceSeen) (e : ServerRefusal) → s.place ≡ Some place → stands_at now (Some place) ≡ true
+    → verdict_at s place r ≡ Err e → ChangesNothing s now words r
+refused-unchanged s now words r place e there stands refused = kept-unchanged s now words r place there stands (ap (with_accepted place) refused)
+
+pub repeated-unchanged : (s : Sight) (now : ℕ) (words : List ℕ) (r : Reading) (place : PlaceSeen) (client : ClientSeen) → s.place ≡ Some place → stands_at now (Some place) ≡ true
+    → verdict_at s place r ≡ Ok client → place.client ≡ Some client → ChangesNothing s now words r
+repeated-unchanged s now words r place client there stands accepted known =
+    kept-unchanged s now words r place there stands (ap (with_accepted place) accepted ∙ ap (λ c. record place { client = c }) (sym known))
+
+-- ---- what a message came to at a place
+
+pub of-some : {V : Type 0} (v w : V) → Some v ≡ Some w → v ≡ w
+of-some v w is = cc
+
+-- what a message came to at a place is put there, unless memory ran out
+pub settled : {A : Type 0} (X : Type 0) (s new : ServerSeen) (from : SocketAddr) (place w : PlaceSeen) (judged : Result (Acceptance A) LongTermServerAuthErrorReason)
+    → new ≡ record s { places = fin.insert s.places from (place_left place judged) } → fin.get s.places from ≡ Some place
+    → OrMemory judged (X × (place_left place judged ≡ w)) ⊤
+    → OrMemory (answered judged) (new ≡ record s { places = fin.insert s.places from w }) (new ≡ s)
+settled X s new from place w (Ok (Known a)) is here left = is ∙ ap (λ p. record s { places = fin.insert s.places from p }) left.1
+settled X s new from place w (Ok (New client)) is here left = is ∙ ap (λ p. record s { places = fin.insert s.places from p }) left.1
+settled X s new from place w (Err Unauthorized) is here left = is ∙ ap (λ p. record s { places = fin.insert s.places from p }) left.1
+settled X s new from place w (Err IntegrityFailed) is here left = is ∙ ap (λ p. record s { places = fin.insert s.places from p }) left.1
+settled X s new from place w (Err UnsupportedFeature) is here left = is ∙ ap (λ p. record s { places = fin.insert s.places from p }) left.1
+settled X s new from place w (Err BadRequest) is here left = is ∙ ap (λ p. record s { places = fin.insert s.places from p }) left.1
+settled X s new from place w (Err StaleNonce) is here left = is ∙ ap (λ p. record s { places = fin.insert s.places from p }) left.1
+settled X s new from place w (Err OutOfMemory) is here left = is ∙ ap (λ m. record s { places = m }) (insert-same s.places from place here)

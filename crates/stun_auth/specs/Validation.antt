@@ -103,6 +103,11 @@ place_after s now words r =
 abbrev pub draws : Sight → ℕ → Reading → Bool
 draws s now r = needs_nonce r && not (stands_at now s.place)
 
+-- a message changes nothing at its address: no nonce is made for it, and the place stays as it is
+pub record ChangesNothing (s : Sight) (now : ℕ) (words : List ℕ) (r : Reading) : Type 0 where
+  pub no_nonce : draws s now r ≡ false
+  pub same_place : place_after s now words r ≡ s.place
+
 abbrev pub put_place : map.FinMap address_cmp PlaceSeen → SocketAddr → Option PlaceSeen → map.FinMap address_cmp PlaceSeen
 put_place places a None = places
 put_place places a (Some place) = map.insert places a place

@@ -1,5 +1,5 @@
 //! Laws over the definitions that the contracts of this crate cite.
-ghost use Rattle.std.specs.Prelude.{◌≡◌, ◌<◌, ◌≤◌, ◌^◌, ◌||◌, ℕ, ◌+◌, Bool, List, [], ◌∷◌, ◌++◌, length, Ok, Option, Some, None, if◌then◌else◌, IsOk, IsUtf8};
+ghost use Rattle.std.specs.Prelude.{◌≡◌, ◌<◌, ◌≤◌, ◌^◌, ◌||◌, ℕ, ◌+◌, Bool, true, false, List, [], ◌∷◌, ◌++◌, length, Ok, Err, Option, Some, None, if◌then◌else◌, IsOk, IsUtf8};
 ghost use Rattle.std.specs.List.{AllByRecursion};
 ghost use Rattle.std.specs.Option.{IsSome, is_some};
 ghost use Rattle.stun_base.specs.MessageType.{class_of};
@@ -18,10 +18,12 @@ ghost use Rattle.stun_auth.specs.Feature.{is_possible};
 ghost use Rattle.stun_auth.specs.Joined.{HasAdded, IsReadBack, IsTyped, page_after};
 ghost use Rattle.stun_auth.specs.Nonces.{asks_for_algorithms, asks_for_userhash, nonce_of, security_bits, spelled_bits};
 ghost use Rattle.stun_auth.specs.Reading.{Reading, class_in, error_code, is_error, reading_of};
-ghost use Rattle.stun_auth.specs.Server.{Sight};
+ghost use Rattle.stun_auth.specs.Reasons.{ServerRefusal};
+ghost use Rattle.stun_auth.specs.Seen.{ClientSeen, PlaceSeen};
+ghost use Rattle.stun_auth.specs.Server.{Sight, stands_at};
 ghost use Rattle.stun_auth.specs.ServerSigning.{server_signed};
 ghost use Rattle.stun_auth.specs.Signed.{Added, ClientMaySign, HasRoomFor, IsBuilt, IsSignable, IsSmall, IsText, IsUnsigned, IsWithinLimits, IsWritable, ReadsAs, ServerMaySign, added_by_client, added_by_server, additions_of, error_attribute};
-ghost use Rattle.stun_auth.specs.Validation.{ValidatesAccepted, answer};
+ghost use Rattle.stun_auth.specs.Validation.{ChangesNothing, ValidatesAccepted, answer, needs_nonce, verdict_at};
 
 /// What was added is what is read: after successful additions to an open message, its own attributes count as before and
 /// then the added ones, and the digest that was added last stands under its key.
@@ -50,6 +52,16 @@ pub fn signed_messages_are_read()
 /// (RFC 8489, section 9.2.4).
 pub fn accepted_messages_are_validated()
     ensures { (s : Sight) (now : ℕ) (words : List ℕ) (r : Reading) → ValidatesAccepted s now words r (answer s now words r) }
+{}
+
+/// A response and a message without all of realm, nonce and name, though it has integrity, change nothing; at a nonce that
+/// stands, neither does a message that is refused, nor one of the client who is kept there already.
+pub fn messages_that_change_nothing()
+    ensures needless { (s : Sight) (now : ℕ) (words : List ℕ) (r : Reading) → needs_nonce r ≡ false → ChangesNothing s now words r }
+    ensures refused { (s : Sight) (now : ℕ) (words : List ℕ) (r : Reading) (place : PlaceSeen) (e : ServerRefusal) → s.place ≡ Some place → stands_at now (Some place) ≡ true
+        → verdict_at s place r ≡ Err e → ChangesNothing s now words r }
+    ensures repeated { (s : Sight) (now : ℕ) (words : List ℕ) (r : Reading) (place : PlaceSeen) (client : ClientSeen) → s.place ≡ Some place → stands_at now (Some place) ≡ true
+        → verdict_at s place r ≡ Ok client → place.client ≡ Some client → ChangesNothing s now words r }
 {}
 
 /// A built message without attributes, and one with an error code alone, can be signed, and are read as what they were

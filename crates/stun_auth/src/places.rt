@@ -1,6 +1,6 @@
 //! What is kept for each address: a nonce with its end, the algorithms that were offered, and the client.
 
-ghost use Rattle.std.specs.Prelude.{◌≡◌, Option, None, Some, OnOk, OnErr};
+ghost use Rattle.std.specs.Prelude.{◌≡◌, ◌↔◌, IfOk, IsTrue, Option, None, Some, OnOk, OnErr};
 ghost use Rattle.std.specs.Option.{option_map, option_copied};
 ghost use Rattle.std.specs.FinMap as map;
 ghost use Rattle.std.specs.String.{string_bytes};
@@ -20,6 +20,22 @@ use stun_base::instant::Instant;
 pub(crate) struct Client<A: Allocator> {
     pub(crate) name: String<A>,
     pub(crate) algorithm: IntegrityAlgorithm,
+}
+
+impl<A: Allocator> Client<A> {
+    ghost use Rattle.stun_auth.specs.Places.{client_seen};
+
+    /// A client of this name, which is copied.
+    pub(crate) fn new(
+        alloc: A,
+        name: &str,
+        algorithm: IntegrityAlgorithm,
+    ) -> Result<Self, AllocError>
+        ensures { IfOk result (λ client. client_seen client ≡ record { name = name.now; algorithm = algorithm }) }
+    {
+        let name = String::from_str(alloc, name)?;
+        Ok(Client { name, algorithm })
+    }
 }
 
 /// What is kept for an address.
@@ -44,6 +60,16 @@ impl<A: Allocator> Place<A> {
             expires,
             offered: None,
             client,
+        }
+    }
+
+    /// Whether its client has this name and this algorithm.
+    pub(crate) fn has_client(&self, name: &str, algorithm: IntegrityAlgorithm) -> bool
+        ensures { IsTrue result ↔ ((place_seen self.now).client ≡ Some (record { name = name.now; algorithm = algorithm })) }
+    {
+        match &self.client {
+            Some(client) => client.algorithm == algorithm && client.name.as_str() == name,
+            None => false,
         }
     }
 

@@ -1,22 +1,21 @@
 //! How a server judges the messages that come to it (RFC 8489, section 9.2.4).
 
-ghost use Rattle.std.specs.Prelude.{◌≡◌, ⊤, Option, None, Some, true, false, IfOk, Ok, Err, if◌then◌else◌, option_and_then};
+ghost use Rattle.std.specs.Prelude.{◌≡◌, ⊤, Option, None, Some, IfOk, Ok, if◌then◌else◌, option_and_then};
 ghost use Rattle.std.specs.FinMap as map;
 ghost use Rattle.std.specs.String.{string_bytes};
 ghost use Rattle.stun_base.specs.Moments.{moment_after};
 ghost use Rattle.stun_auth.specs.Nonces.{next_words, after_words};
 ghost use Rattle.stun_auth.specs.Reading.{reading_of};
 ghost use Rattle.stun_auth.specs.Seen.{PlaceSeen, renewed};
-ghost use Rattle.stun_auth.specs.Places.{with_change};
-ghost use Rattle.stun_auth.specs.Reasons.{OrMemory, reason_of};
+ghost use Rattle.stun_auth.specs.Places.{place_seen, with_change};
+ghost use Rattle.stun_auth.specs.Reasons.{OrMemory};
 ghost use Rattle.stun_auth.specs.Server.{stands_at, verdict};
-ghost use Rattle.stun_auth.specs.Validation.{ValidatesAccepted, after_message, answer, answer_to, client_verified, draws, needs_nonce, sight, validated_or_failed, verdict_at, with_accepted};
-ghost use Rattle.stun_auth.specs.VerdictSteps.{verdict_seen};
-ghost use Rattle.stun_auth.specs.declared.server_reason.Refusal.{Refusal as TheRefusal};
+ghost use Rattle.stun_auth.specs.Validation.{ChangesNothing, ValidatesAccepted, after_message, answer, answer_to, client_verified, draws, sight, validated_or_failed, verdict_at, with_accepted};
+ghost use Rattle.stun_auth.specs.VerdictSteps.{answered, place_left, verdict_seen};
 
 use crate::algorithm_set::AlgorithmSet;
 use crate::nonce::make_nonce;
-use crate::places::Client;
+use crate::places::{Client, Place};
 use crate::reading;
 use crate::server::LongTermServerAuth;
 use crate::server_reason::{
@@ -27,8 +26,18 @@ use crate::verdict::{is_malformed, verdict};
 use rand_core::Rng;
 use std::alloc::{AllocError, Allocator};
 use std::net::SocketAddr;
+use stun_base::algorithm::IntegrityAlgorithm;
 use stun_base::instant::Instant;
 use stun_types::message::Message;
+
+/// An acceptance at a place whose nonce stands.
+#[derive(Drop)]
+enum Acceptance<A: Allocator> {
+    /// The place's client is accepted again, with this algorithm.
+    Known(IntegrityAlgorithm),
+    /// Another client is accepted.
+    New(Client<A>),
+}
 
 impl<A: Allocator + Copy> LongTermServerAuth<A> {
     /// Judges a message that came from an address.
@@ -44,7 +53,7 @@ impl<A: Allocator + Copy> LongTermServerAuth<A> {
     /// A nonce is made, of sixteen random words, where a message without integrity or with all of realm, nonce and name
     /// finds none that stands: a nonce stands up to the end of its time, that moment included.
     ///
-    /// `OutOfMemory` is answered only where a nonce is made or a client kept; nonce, end, offered algorithms and client
+    /// `OutOfMemory` is answered only where a nonce is made or another client kept; nonce, end, offered algorithms and client
     /// are then as before, but the source of random words may have advanced.
     pub fn validate_incoming_message<R: Rng>(
         &mut self,
@@ -63,11 +72,10 @@ impl<A: Allocator + Copy> LongTermServerAuth<A> {
         ensures source { OrMemory result
             (R.stream rng.new ≡ (if draws (sight self.old from) now (reading_of message.now) then after_words 16 (R.stream rng.old) else R.stream rng.old)) ⊤ }
 
-        // Where no nonce is needed, or one stands and the message is refused, memory is never wanting.
-        ensures needless { needs_nonce (reading_of message.now) ≡ false →
+        // Where the message changes nothing, memory is never wanting: so at a response and at a malformed message, and, where a
+        // nonce stands, at each refusal and at the client who is kept there already.
+        ensures unchanged { ChangesNothing (sight self.old from) now (next_words 16 (R.stream rng.old)) (reading_of message.now) →
             result ≡ answer (sight self.old from) now (next_words 16 (R.stream rng.old)) (reading_of message.now) }
-        ensures refused { (place : PlaceSeen) (e : TheRefusal) → needs_nonce (reading_of message.now) ≡ true → map.get self.old.places from ≡ Some place
-            → stands_at now (Some place) ≡ true → verdict_at (sight self.old from) place (reading_of message.now) ≡ Err e → result ≡ Err (reason_of e) }
     {
         refused(self.judge_incoming(message, from, now, rng))
     }
@@ -87,10 +95,8 @@ impl<A: Allocator + Copy> LongTermServerAuth<A> {
             (self.new ≡ self.old) }
         ensures source { OrMemory result
             (R.stream rng.new ≡ (if draws (sight self.old from) now (reading_of message.now) then after_words 16 (R.stream rng.old) else R.stream rng.old)) ⊤ }
-        ensures needless { needs_nonce (reading_of message.now) ≡ false →
+        ensures unchanged { ChangesNothing (sight self.old from) now (next_words 16 (R.stream rng.old)) (reading_of message.now) →
             result ≡ answer (sight self.old from) now (next_words 16 (R.stream rng.old)) (reading_of message.now) }
-        ensures refused { (place : PlaceSeen) (e : TheRefusal) → needs_nonce (reading_of message.now) ≡ true → map.get self.old.places from ≡ Some place
-            → stands_at now (Some place) ≡ true → verdict_at (sight self.old from) place (reading_of message.now) ≡ Err e → result ≡ Err (reason_of e) }
     {
         if reading::is_response(message) {
             return self.check_response(message, from);
@@ -119,7 +125,7 @@ impl<A: Allocator + Copy> LongTermServerAuth<A> {
         }
     }
 
-    /// Answers a message at the nonce that stands.
+    /// Answers a message at the nonce that stands. The client who is kept already takes no memory.
     fn validate_kept(
         &mut self,
         message: &Message<'_>,
@@ -130,15 +136,62 @@ impl<A: Allocator + Copy> LongTermServerAuth<A> {
         ensures state { (place : PlaceSeen) → map.get self.old.places from ≡ Some place → OrMemory result
             (self.new ≡ record self.old { places = map.insert self.old.places from (with_accepted place (verdict_at (sight self.old from) place (reading_of message.now))) })
             (self.new ≡ self.old) }
-        ensures refused { (place : PlaceSeen) (e : TheRefusal) → map.get self.old.places from ≡ Some place
-            → verdict_at (sight self.old from) place (reading_of message.now) ≡ Err e → result ≡ Err (reason_of e) }
+        ensures unchanged { (place : PlaceSeen) → map.get self.old.places from ≡ Some place
+            → with_accepted place (verdict_at (sight self.old from) place (reading_of message.now)) ≡ place
+            → result ≡ answer_to (verdict_at (sight self.old from) place (reading_of message.now)) }
     {
         match self.places.get(from) {
-            Some(place) => match self.judge(message, place.nonce.as_str(), place.offered) {
-                Ok(judged) => self.settle(from, judged),
-                Err(_) => Err(LongTermServerAuthErrorReason::OutOfMemory),
-            },
+            Some(place) => {
+                let judged = self.judge_at(message, place);
+                self.settle(from, judged)
+            }
             None => Err(LongTermServerAuthErrorReason::Unauthorized),
+        }
+    }
+
+    /// What a message comes to at a place whose nonce stands. Only another client takes memory, for the client's name.
+    fn judge_at(
+        &self,
+        message: &Message<'_>,
+        place: &Place<A>,
+    ) -> Result<Acceptance<A>, LongTermServerAuthErrorReason>
+        ensures judged { let p = place_seen place.now in let v = verdict self.now.registered self.now.feature p.nonce p.offered (reading_of message.now) in
+            OrMemory result ((answered result ≡ answer_to v) × (place_left p result ≡ with_accepted p v)) ⊤ }
+        ensures unchanged { let p = place_seen place.now in let v = verdict self.now.registered self.now.feature p.nonce p.offered (reading_of message.now) in
+            with_accepted p v ≡ p → answered result ≡ answer_to v }
+    {
+        let nonce = place.nonce.as_str();
+        match verdict(&self.registry, self.feature, message, nonce, place.offered) {
+            Err(refusal) => Err(refusal.reason()),
+            Ok(accepted) => {
+                if place.has_client(accepted.name, accepted.algorithm) {
+                    return Ok(Acceptance::Known(accepted.algorithm));
+                }
+                match Client::new(self.alloc, accepted.name, accepted.algorithm) {
+                    Ok(client) => Ok(Acceptance::New(client)),
+                    Err(_) => Err(LongTermServerAuthErrorReason::OutOfMemory),
+                }
+            }
+        }
+    }
+
+    /// Answers what a message came to at a place whose nonce stands.
+    fn settle(
+        &mut self,
+        from: SocketAddr,
+        judged: Result<Acceptance<A>, LongTermServerAuthErrorReason>,
+    ) -> Result<LongTermServerValidation, LongTermServerAuthErrorReason>
+        ensures answer { result ≡ answered judged }
+        ensures state { self.new ≡ record self.old { places = with_change self.old.places from (λ p. place_left p judged) } }
+    {
+        match judged {
+            Err(reason) => Err(reason),
+            Ok(Acceptance::Known(algorithm)) => Ok(LongTermServerValidation::Validated(algorithm)),
+            Ok(Acceptance::New(client)) => {
+                let algorithm = client.algorithm;
+                self.places.set_client(from, Some(client));
+                Ok(LongTermServerValidation::Validated(algorithm))
+            }
         }
     }
 
@@ -210,34 +263,12 @@ impl<A: Allocator + Copy> LongTermServerAuth<A> {
         offered: Option<AlgorithmSet>,
     ) -> Result<Result<Client<A>, Refusal>, AllocError>
         ensures verdict { IfOk result (λ j. verdict_seen j ≡ verdict self.now.registered self.now.feature nonce.now offered (reading_of message.now)) }
-        ensures refused { (e : TheRefusal) → verdict self.now.registered self.now.feature nonce.now offered (reading_of message.now) ≡ Err e → result ≡ Ok (Err e) }
     {
         match verdict(&self.registry, self.feature, message, nonce, offered) {
             Err(refusal) => Ok(Err(refusal)),
             Ok(accepted) => {
-                let name = String::from_str(self.alloc, accepted.name)?;
-                let algorithm = accepted.algorithm;
-                Ok(Ok(Client { name, algorithm }))
-            }
-        }
-    }
-
-    /// Answers a verdict at the nonce that stands.
-    fn settle(
-        &mut self,
-        from: SocketAddr,
-        judged: Result<Client<A>, Refusal>,
-    ) -> Result<LongTermServerValidation, LongTermServerAuthErrorReason>
-        ensures answer { result ≡ answer_to (verdict_seen judged) }
-        ensures no_memory { OrMemory result ⊤ ⊥ }
-        ensures state { self.new ≡ record self.old { places = with_change self.old.places from (λ p. with_accepted p (verdict_seen judged)) } }
-    {
-        match judged {
-            Err(refusal) => Err(refusal.reason()),
-            Ok(client) => {
-                let algorithm = client.algorithm;
-                self.places.set_client(from, Some(client));
-                Ok(LongTermServerValidation::Validated(algorithm))
+                let client = Client::new(self.alloc, accepted.name, accepted.algorithm)?;
+                Ok(Ok(client))
             }
         }
     }

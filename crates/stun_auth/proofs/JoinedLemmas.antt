@@ -49,14 +49,22 @@ fitting message room n none =
     let short = unrefused (nat_lt max_length (length_with message n)) TooLarge (if nat_lt room (attribute_length n) then Some TooSmall else None) none in
     not_above max_length (length_with message n) short.0
 
+-- and has room
+roomy : (message : List ℕ) (room n : ℕ) → size_refusal message room n ≡ None → attribute_length n ≤ room
+roomy message room n none =
+    let short = unrefused (nat_lt max_length (length_with message n)) TooLarge (if nat_lt room (attribute_length n) then Some TooSmall else None) none in
+    not_above room (attribute_length n) (unrefused (nat_lt room (attribute_length n)) TooSmall None short.1).0
+
 -- what holds of an attribute that is not refused
-record IsTaken (message : List ℕ) (a : TypedValue) : Type 0 where
+pub record IsTaken (message : List ℕ) (room : ℕ) (a : TypedValue) : Type 0 where
   pub short : is_too_long a ≡ false
   pub apart : is_set_apart a.kind ≡ false
   pub unsigned : has_integrity_attribute message ≡ false
+  pub fresh : has_kind a.kind (walk message) ≡ false
   pub fits : length_with message (length a.value) ≤ max_length
+  pub enough : attribute_length (length a.value) ≤ room
 
-taken : (message : List ℕ) (room : ℕ) (a : TypedValue) → refusal_of (attribute a) (record { bytes = message; room = room }) ≡ None → IsTaken message a
+pub taken : (message : List ℕ) (room : ℕ) (a : TypedValue) → refusal_of (attribute a) (record { bytes = message; room = room }) ≡ None → IsTaken message room a
 taken message room a none =
     let n = length a.value in
     let size = size_refusal message room n in
@@ -66,18 +74,19 @@ taken message room a none =
     let apart = unrefused (is_set_apart a.kind) NotAllowed unsigned long.1 in
     let signed = unrefused (has_integrity_attribute message) MessageIntegrityExists fresh apart.1 in
     let exists = unrefused (has_kind a.kind (walk message)) (AttributeExists (record { 0 = a.kind })) size signed.1 in
-    record { short = long.0; apart = apart.0; unsigned = signed.0; fits = fitting message room n exists.1 }
+    record { short = long.0; apart = apart.0; unsigned = signed.0; fresh = exists.0; fits = fitting message room n exists.1; enough = roomy message room n exists.1 }
 
 -- a digest that is not refused
-record IsTakenDigest (message : List ℕ) (algorithm : IntegrityAlgorithm) : Type 0 where
+pub record IsTakenDigest (message : List ℕ) (room : ℕ) (algorithm : IntegrityAlgorithm) : Type 0 where
   pub unsigned : has_integrity_attribute message ≡ false
   pub fits : length_with message (digest_length algorithm) ≤ max_length
+  pub enough : attribute_length (digest_length algorithm) ≤ room
 
-taken_digest : (message : List ℕ) (room : ℕ) (algorithm : IntegrityAlgorithm) → signing_refusal message room algorithm ≡ None → IsTakenDigest message algorithm
+pub taken_digest : (message : List ℕ) (room : ℕ) (algorithm : IntegrityAlgorithm) → signing_refusal message room algorithm ≡ None → IsTakenDigest message room algorithm
 taken_digest message room algorithm none =
     let size = size_refusal message room (digest_length algorithm) in
     let signed = unrefused (has_integrity_attribute message) MessageIntegrityExists size none in
-    record { unsigned = signed.0; fits = fitting message room (digest_length algorithm) signed.1 }
+    record { unsigned = signed.0; fits = fitting message room (digest_length algorithm) signed.1; enough = roomy message room (digest_length algorithm) signed.1 }
 
 -- nothing is added behind a digest
 refused_behind : (addition : Addition) (message : List ℕ) (room : ℕ) → has_integrity_attribute message ≡ true
@@ -87,7 +96,7 @@ refused_behind (attribute a) message room signed none =
 refused_behind (integrity algorithm key) message room signed none =
     let unsigned = (taken_digest message room algorithm none).unsigned in cc
 
-all_refused_behind : (addition : Addition) (others : List Addition) (message : List ℕ) (room : ℕ) (page : Page) → has_integrity_attribute message ≡ true
+pub all_refused_behind : (addition : Addition) (others : List Addition) (message : List ℕ) (room : ℕ) (page : Page) → has_integrity_attribute message ≡ true
     → added_all (addition ∷ others) (record { bytes = message; room = room }) ≡ Ok page → ⊥
 unfolding added_one
 all_refused_behind addition others message room page signed done =
@@ -99,7 +108,7 @@ all_refused_behind addition others message room page signed done =
     ] refl done
 
 -- the integrity attribute is there once it is added
-signed_has : (message longer : List ℕ) (algorithm : IntegrityAlgorithm) (value : List ℕ)
+pub signed_has : (message longer : List ℕ) (algorithm : IntegrityAlgorithm) (value : List ℕ)
     → walk longer ≡ walk message ++ (length message, record { kind = integrity_kind algorithm; value = value }) ∷ [] → IsOpen message → has_integrity_attribute longer ≡ true
 signed_has message longer Sha1 value walked is_open =
     let last : Member = (length message, record { kind = MESSAGE_INTEGRITY; value = value }) in

@@ -17,6 +17,7 @@ pub mod ReadingLemmas
 pub mod Rekeyed
 pub mod Renamed
 pub mod SignedBases
+pub mod SignedBefore
 pub mod SignedGrowth
 pub mod SignedReading
 pub mod SignedRoom

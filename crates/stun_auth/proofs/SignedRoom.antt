@@ -26,7 +26,7 @@ Succeeds list message room =
     added_all list (record { bytes = message; room = room }) ≡ Ok (page_after list (record { bytes = message; room = room }))
 
 -- what additions find: room and field for all of them, and none of their types
-record IsReady (message : List ℕ) (room : ℕ) (list : List Addition) : Type 0 where
+pub record IsReady (message : List ℕ) (room : ℕ) (list : List Addition) : Type 0 where
   pub is_open : IsOpen message
   pub fresh : AllByRecursion (λ kind. has_kind kind (walk message) ≡ false) (kinds_in list)
   pub field : length message - 20 + growth list ≤ 65532
@@ -45,7 +45,7 @@ fitting message room n field enough =
     (below 65532 (length message - 20 + attribute_length n) field) (allowed (nat_lt room (attribute_length n)) TooSmall None (below room (attribute_length n) enough) refl)
 
 -- an attribute more takes its bytes
-length-one_more : (before after : List ℕ) (a : TypedValue) → IsMessage before → HasOneMore before after a → length after ≡ length before + attribute_length (length a.value)
+pub length-one_more : (before after : List ℕ) (a : TypedValue) → IsMessage before → HasOneMore before after a → length after ≡ length before + attribute_length (length a.value)
 length-one_more before after a is_message one =
     let count = λ (m : Member). attribute_length (length m.1.value) in
     let walked = ap (λ ms. sum_by count ms) one.walk_is in

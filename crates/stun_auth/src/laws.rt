@@ -7,6 +7,7 @@ ghost use Rattle.stun_base.specs.declared.algorithm.IntegrityAlgorithm.TheVarian
 ghost use Rattle.stun_base.specs.declared.message_type.MessageClass.{MessageClass};
 ghost use Rattle.stun_types.specs.ErrorCode.{CodeAndReason, IsError};
 ghost use Rattle.stun_types.specs.Grammar.{spelled};
+ghost use Rattle.stun_types.specs.Message.{LENGTH_LIMIT};
 ghost use Rattle.stun_types.specs.Writing.{IsOpen};
 ghost use Rattle.stun_auth.specs.declared.algorithm_set.AlgorithmSet.{AlgorithmSet};
 ghost use Rattle.stun_auth.specs.declared.feature.Feature.{Feature as TheFeature};
@@ -119,6 +120,19 @@ pub fn sides_sign_what_they_may()
         → IsOk (server_signed s response (record { bytes = message; room = room })) }
 {
     signing_succeeds_with_room();
+    sides_add_by_attribute();
+}
+
+/// What a side signs with success could be signed unchecked: a message that can be added to, and that is no longer than a
+/// message may be, meets the condition of the unchecked call in a writer with the same room.
+pub fn what_was_signed_may_be_signed()
+    ensures client { (request : Bool) (state : ClientState) (message : List ℕ) (room : ℕ) → IsOpen message → length message ≤ LENGTH_LIMIT
+        → IsOk (added_all (client_additions request state) (record { bytes = message; room = room })) → ClientMaySign request state message room }
+    ensures server { (s : Sight) (response : Bool) (message : List ℕ) (room : ℕ) → IsOpen message → length message ≤ LENGTH_LIMIT
+        → IsOk (server_signed s response (record { bytes = message; room = room })) → ServerMaySign s response message room }
+{
+    stun_types::laws::writing_adds_one_attribute();
+    stun_types::laws::signed_message_stands();
     sides_add_by_attribute();
 }
 

@@ -1,5 +1,6 @@
 pub mod Address
 pub mod Algorithm
+pub mod AttributeText
 pub mod Attributes
 pub mod Credentials
 pub mod Data

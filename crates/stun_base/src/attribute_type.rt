@@ -1,12 +1,16 @@
 //! The type of an attribute, and the types of the registry that messages here have.
 
-ghost use Rattle.std.specs.Prelude.{◌≡◌};
+ghost use Rattle.std.specs.Prelude.{◌≡◌, Some};
+ghost use Rattle.stun_base.specs.AttributeText.{text_of};
+
+use std::fmt;
 
 /// The type of an attribute (RFC 8489, section 14): a number of 16 bits.
 ///
 /// Below 0x8000 an attribute must be understood, from 0x8000 on it may be ignored. The number is
-/// public, so that a constant of another crate can be written `AttributeType(0x8000)`.
-#[derive(Debug, Clone, Copy, PartialEq, Eq)]
+/// public, so that a constant of another crate can be written `AttributeType(0x8000)`. Its text is
+/// the number in hexadecimal, as `0x0008`.
+#[derive(Debug, Clone, Copy, PartialEq, Eq, Hash)]
 pub struct AttributeType(pub u16);
 
 impl AttributeType {
@@ -45,5 +49,14 @@ impl AttributeType {
         ensures { result ≡ self.0 }
     {
         self.0
+    }
+}
+
+impl fmt::Display for AttributeType {
+    ghost output = { λ kind. Some (text_of kind.0) };
+
+    #[tactic(auto, using(crate::proofs::HexLemmas::hex_byte_written))]
+    fn fmt<W: fmt::Write>(&self, f: &mut fmt::Formatter<W>) -> fmt::Result {
+        write!(f, "0x{:02x}{:02x}", self.0 / 256, self.0 % 256)
     }
 }

@@ -18,7 +18,7 @@ pub enum StunParseError {
     #[error("bytes stand behind the message")]
     TooLarge,
     /// The message has no visible attribute of this type.
-    #[error("an attribute is missing")]
+    #[error("attribute {0} is missing")]
     MissingAttribute(AttributeType),
     /// The value of the attribute is malformed.
     #[error("an attribute is malformed")]
@@ -46,7 +46,7 @@ pub enum StunWriteError {
     #[error("the message has its integrity attribute already")]
     MessageIntegrityExists,
     /// An attribute of this type stands in the message.
-    #[error("the attribute is in the message already")]
+    #[error("attribute {0} is in the message already")]
     AttributeExists(AttributeType),
     /// The value would be longer than its attribute may hold, or the message longer than 65532
     /// bytes behind its header.

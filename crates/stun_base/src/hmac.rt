@@ -11,6 +11,12 @@ use sha1::Sha1;
 use sha2::Sha256;
 use std::convert::AsSlice;
 
+/// The bytes of an HMAC-SHA1.
+pub const SHA1_LENGTH: usize = 20;
+
+/// The bytes of an HMAC-SHA256.
+pub const SHA256_LENGTH: usize = 32;
+
 /// The number of bytes of one block of both hash functions.
 const BLOCK_LENGTH: usize = 64;
 
@@ -21,7 +27,7 @@ const INNER_PAD: u8 = 0x36;
 const OUTER_PAD: u8 = 0x5c;
 
 /// The key as one block: a longer key is hashed, and what is shorter is filled up by zeros.
-fn key_block<H: HashFunction>(key: &[u8]) -> [u8; 64]
+fn key_block<H: HashFunction>(key: &[u8]) -> [u8; BLOCK_LENGTH]
     ensures { result ≡ spec.key_block H.digest key.now }
 {
     if key.len() > BLOCK_LENGTH {
@@ -35,7 +41,7 @@ fn key_block<H: HashFunction>(key: &[u8]) -> [u8; 64]
 }
 
 /// The bytes, filled up to a block by zeros.
-fn filled(bytes: &[u8]) -> [u8; 64]
+fn filled(bytes: &[u8]) -> [u8; BLOCK_LENGTH]
     requires { length bytes.now ≤ 64 }
     ensures { result ≡ spec.filled bytes.now }
 {
@@ -45,7 +51,7 @@ fn filled(bytes: &[u8]) -> [u8; 64]
 }
 
 /// Each byte of the block xor the pad.
-fn padded(block: &[u8; 64], pad: u8) -> [u8; 64]
+fn padded(block: &[u8; BLOCK_LENGTH], pad: u8) -> [u8; BLOCK_LENGTH]
     ensures { result ≡ spec.padded pad block.now }
 {
     let mut masked = [0; BLOCK_LENGTH];
@@ -75,7 +81,7 @@ fn hmac<H: HashFunction>(key: &[u8], pieces: &[&[u8]]) -> H::Digest
 
 /// HMAC-SHA1 (RFC 2104) of the pieces in their order, as one text. Keys and texts of any length are
 /// taken, and no memory.
-pub fn hmac_sha1(key: &[u8], pieces: &[&[u8]]) -> [u8; 20]
+pub fn hmac_sha1(key: &[u8], pieces: &[&[u8]]) -> [u8; SHA1_LENGTH]
     ensures { result ≡ spec.hmac sha1 key.now (concat (map (λ piece. piece.now) pieces.now)) }
 {
     hmac::<Sha1>(key, pieces)
@@ -83,7 +89,7 @@ pub fn hmac_sha1(key: &[u8], pieces: &[&[u8]]) -> [u8; 20]
 
 /// HMAC-SHA256 (RFC 2104) of the pieces in their order, as one text. Keys and texts of any length
 /// are taken, and no memory.
-pub fn hmac_sha256(key: &[u8], pieces: &[&[u8]]) -> [u8; 32]
+pub fn hmac_sha256(key: &[u8], pieces: &[&[u8]]) -> [u8; SHA256_LENGTH]
     ensures { result ≡ spec.hmac sha256 key.now (concat (map (λ piece. piece.now) pieces.now)) }
 {
     hmac::<Sha256>(key, pieces)

@@ -12,7 +12,7 @@ use std::time::Duration;
 ///
 /// Contracts see it as that number, and moments are ordered as numbers. A sum stops at
 /// `Instant::MAX`, and a difference at zero, so no call refuses.
-#[derive(Clone, Copy, Debug, PartialEq, Eq, PartialOrd, Ord)]
+#[derive(Clone, Copy, Debug, PartialEq, Eq, PartialOrd, Ord, Hash)]
 pub struct Instant {
     nanos: u64,
 }

@@ -6,7 +6,7 @@ ghost use Rattle.stun_base.specs.MessageType.{class_of, method_of, type_number, 
 use std::marker::Model;
 
 /// The class of a message: two bits of its type.
-#[derive(Debug, Clone, Copy, PartialEq, Eq)]
+#[derive(Debug, Clone, Copy, PartialEq, Eq, Hash)]
 pub enum MessageClass {
     /// A request, which is answered by a success or an error.
     Request,
@@ -28,7 +28,7 @@ impl MessageClass {
 }
 
 /// The method of a message: a number of 12 bits. Contracts see it as that number.
-#[derive(Debug, Clone, Copy, PartialEq, Eq)]
+#[derive(Debug, Clone, Copy, PartialEq, Eq, Hash)]
 pub struct Method(u16);
 
 impl Model for Method {
@@ -72,7 +72,7 @@ impl Method {
 ///
 /// Contracts see it as that number. From the top, its bits are M11 to M7, C1, M6 to M4, C0 and M3
 /// to M0 of a method M and a class C.
-#[derive(Debug, Clone, Copy, PartialEq, Eq)]
+#[derive(Debug, Clone, Copy, PartialEq, Eq, Hash)]
 pub struct MessageType(u16);
 
 impl Model for MessageType {

@@ -11,7 +11,7 @@ use std::marker::Model;
 /// The id of a transaction (RFC 8489, section 5): a number of 96 bits.
 ///
 /// Contracts see it as that number, and ids are ordered as numbers.
-#[derive(Debug, Clone, Copy, PartialEq, Eq, PartialOrd, Ord)]
+#[derive(Debug, Clone, Copy, PartialEq, Eq, PartialOrd, Ord, Hash)]
 pub struct TransactionId(u128);
 
 impl Model for TransactionId {

@@ -6,7 +6,7 @@ ghost use Rattle.stun_base.specs.Transport.{name_of};
 use std::fmt;
 
 /// The transport that carries messages. Its text is `UDP` or `TCP`.
-#[derive(Clone, Copy, Debug, PartialEq, Eq)]
+#[derive(Clone, Copy, Debug, PartialEq, Eq, Hash)]
 pub enum TransportType {
     /// Datagrams, which may be lost: requests are sent again (RFC 8489, section 6.2.1).
     Udp,

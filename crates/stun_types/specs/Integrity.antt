@@ -19,7 +19,7 @@ use Rattle.stun_types.specs.Visible.{visible}
 abbrev pub first_of : ℕ → List Member → Option Member
 first_of kind members = find (λ m. m.1.kind == kind) members
 
--- the member whose digest decides: the stronger one, where both count
+-- the member whose digest decides: the stronger one, where both are visible
 abbrev pub deciding : List ℕ → Option Member
 deciding bytes = option_or (first_of MESSAGE_INTEGRITY_SHA256 (visible bytes)) (first_of MESSAGE_INTEGRITY (visible bytes))
 

@@ -1,5 +1,6 @@
 pub mod Attribute
 pub mod AttributeLaws
+pub mod Equality
 pub mod ErrorCode
 pub mod ErrorCodeLaws
 pub mod Grammar

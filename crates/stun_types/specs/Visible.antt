@@ -1,5 +1,5 @@
--- Which attributes of a message count (RFC 8489, sections 14.5 to 14.7): an integrity attribute covers what
--- stands before it, so of what stands behind it only the stronger integrity attribute and FINGERPRINT count.
+-- Which attributes of a message are visible (RFC 8489, sections 14.5 to 14.7): an integrity attribute covers what
+-- stands before it, so of what stands behind it only the stronger integrity attribute and FINGERPRINT are visible.
 use Rattle.std.specs.Prelude.{◌≡◌, ℕ, Bool, List, ◌++◌, filter, nat_lt, ◌==◌, ◌&&◌, ◌||◌, not}
 use Rattle.std.specs.List.{list_any}
 use Rattle.stun_base.specs.Attributes.{MESSAGE_INTEGRITY, MESSAGE_INTEGRITY_SHA256, FINGERPRINT}
@@ -17,24 +17,24 @@ of_kind kind members = filter (λ m. m.1.kind == kind) members
 abbrev pub before : ℕ → List Member → List Member
 before place members = filter (λ m. nat_lt m.0 place) members
 
--- whether an attribute of a type counts behind attributes among which the three types are
+-- whether an attribute of a type is visible behind attributes among which the three types are
 abbrev pub counts_behind : Bool → Bool → Bool → ℕ → Bool
 counts_behind integrity integrity_sha256 fingerprint kind =
     not fingerprint
     && (not integrity_sha256 || (kind == FINGERPRINT))
     && (not integrity || (kind == MESSAGE_INTEGRITY_SHA256) || (kind == FINGERPRINT))
 
--- whether a member counts behind the members that stand before it
+-- whether a member is visible behind the members that stand before it
 abbrev pub counts : List Member → Member → Bool
 counts members m =
     counts_behind (has_kind MESSAGE_INTEGRITY (before m.0 members)) (has_kind MESSAGE_INTEGRITY_SHA256 (before m.0 members))
     (has_kind FINGERPRINT (before m.0 members)) m.1.kind
 
--- the members from a place that count
+-- the visible members from a place
 unfoldable pub visible_from : ℕ → List ℕ → List Member
 visible_from place bytes = filter (counts (walk bytes)) (walk_from place bytes)
 
--- the attributes of a message that count
+-- the visible attributes of a message
 unfoldable pub visible : List ℕ → List Member
 visible bytes = filter (counts (walk bytes)) (walk bytes)
 

@@ -60,7 +60,7 @@ pub record IsOpen (message : List ℕ) : Type 0 where
   pub no_integrity : has_integrity message ≡ false
   pub no_fingerprint : has_kind FINGERPRINT (walk message) ≡ false
 
--- a message with one attribute more behind all that it had, which counts with them
+-- a message with one attribute more behind all that it had, which is visible with them
 pub record HasOneMore (before after : List ℕ) (attribute : TypedValue) : Type 0 where
   pub is_message : IsMessage after
   pub type_is : type_field after ≡ type_field before

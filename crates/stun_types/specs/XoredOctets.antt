@@ -1,5 +1,6 @@
 -- The octets of an address, hidden by the key.
-use Rattle.std.specs.Prelude.{◌≡◌, ℕ, List, length}
+use Rattle.std.specs.Prelude.{◌≡◌, ◌==◌, ℕ, List, length, if◌then◌else◌}
+use Rattle.std.proofs.Common.{refl}
 use Rattle.stun_types.specs.declared.attribute.xor_mapped_address.XoredOctets.{XoredOctets}
 use Rattle.stun_types.specs.declared.attribute.xor_mapped_address.XoredOctets.TheVariants.{V4, V6}
 
@@ -16,3 +17,12 @@ octets_of (V6 octets) = octets
 abbrev pub IsWhole : XoredOctets → Type 0
 IsWhole (V4 octets) = length octets ≡ 4
 IsWhole (V6 octets) = length octets ≡ 16
+
+-- the octets of an address of this family
+abbrev pub with_family : ℕ → List ℕ → XoredOctets
+with_family family octets = if family == 1 then V4 octets else V6 octets
+
+-- family and octets are all there is
+pub with_family-of : (xored : XoredOctets) → with_family (family_of xored) (octets_of xored) ≡ xored
+with_family-of (V4 octets) = refl
+with_family-of (V6 octets) = refl

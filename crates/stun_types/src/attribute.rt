@@ -1,11 +1,14 @@
 //! Attributes as they stand in a message.
-ghost use Rattle.std.specs.Prelude.{◌≡◌, ◌+◌, ◌-◌, ◌*◌, ◌^◌, ◌<◌, ◌≤◌, ◌++◌, ℕ, List, drop, length, min, true, false, OnSome, IfSome, IfNone, Some, refl};
-ghost use Rattle.stun_types.specs.Attribute.{attribute_length, has_attribute, first_attribute};
+ghost use Rattle.std.specs.Prelude.{◌≡◌, ◌+◌, ◌-◌, ◌*◌, ◌^◌, ◌<◌, ◌≤◌, ◌++◌, ℕ, List, drop, length, min, true, false, OnSome, IfSome, IfNone, Some, refl, ⊤};
+ghost use Rattle.std.specs.Cmp.{partial_equiv_from_equiv};
+ghost use Rattle.stun_types.specs.Equality.{same_attribute, same_attribute_equivalence};
+ghost use Rattle.stun_types.specs.Attribute.{attribute_length, padded_length, has_attribute, first_attribute};
 ghost use Rattle.stun_types.specs.Grammar.{spelled_attribute};
 
 use crate::append::append_attribute;
 use crate::write::MessageWrite;
 use byteorder::{BigEndian, ByteOrder};
+use std::alloc::AllocError;
 use std::marker::Model;
 pub use stun_base::attribute_type::AttributeType;
 use stun_base::error::StunParseError;
@@ -32,6 +35,26 @@ pub use userhash::Userhash;
 pub use username::Username;
 pub use xor_mapped_address::XorMappedAddress;
 
+/// The bytes of an attribute's header: its type and the length of its value (RFC 8489, section 14).
+pub const ATTRIBUTE_HEADER_LENGTH: usize = 4;
+
+/// How many zeros pad a value of so many bytes to a multiple of 4.
+pub(crate) fn padding_length(value_length: usize) -> usize
+    ensures { result ≡ padded_length value_length - value_length }
+{
+    (4 - value_length % 4) % 4
+}
+
+/// The number of bytes that an attribute takes whose value has so many, with its header and its padding; `usize::MAX` where
+/// there are more.
+pub fn attribute_length(value_length: usize) -> usize
+    ensures { result ≡ min (attribute_length value_length) (2 ^ 64 - 1) }
+{
+    value_length
+        .saturating_add(padding_length(value_length))
+        .saturating_add(ATTRIBUTE_HEADER_LENGTH)
+}
+
 /// An attribute of a message that is not read further: its type and its value, which it borrows.
 #[derive(Debug, Drop)]
 pub struct RawAttribute<'a> {
@@ -45,6 +68,35 @@ impl<'a> Model for RawAttribute<'a> {
     ghost Value = { TypedValue };
 
     ghost view = { λ attribute. record { kind = attribute.kind.0; value = attribute.value.now } };
+}
+
+/// It takes no memory and never fails.
+impl<'a> Clone for RawAttribute<'a> {
+    ghost is_clone = { λ it copy. copy ≡ it };
+
+    ghost is_infallible = { λ _. ⊤ };
+
+    fn clone(&self) -> Result<Self, AllocError> {
+        Ok(RawAttribute {
+            kind: self.kind,
+            value: self.value,
+        })
+    }
+}
+
+/// Equal are attributes of the same type and value.
+impl<'a> PartialEq for RawAttribute<'a> {
+    ghost eq = { same_attribute };
+
+    ghost laws = { partial_equiv_from_equiv same_attribute_equivalence };
+
+    fn eq(&self, other: &Self) -> bool {
+        self.kind == other.kind && self.value == other.value
+    }
+}
+
+impl<'a> Eq for RawAttribute<'a> {
+    ghost laws = { same_attribute_equivalence };
 }
 
 /// An attribute that can be written.
@@ -62,19 +114,16 @@ pub trait Attribute {
     fn get_type(&self) -> AttributeType
         ensures { result.0 ≡ kind self.now };
 
-    /// The bytes of its value, without padding, as far as a `usize` reaches.
+    /// The number of bytes of its value, without padding; `usize::MAX` where there are more.
     fn length(&self) -> usize
         ensures length { result ≡ min (length (value self.now)) (2 ^ 64 - 1) }
         ensures well_formed { is_well_formed self.now };
 
-    /// The bytes that it takes with its header and padding, as far as a `usize` reaches.
+    /// The number of bytes that it takes with its header and padding; `usize::MAX` where there are more.
     fn padded_len(&self) -> usize
         ensures { result ≡ min (attribute_length (length (value self.now))) (2 ^ 64 - 1) }
     {
-        let length = self.length();
-        length
-            .saturating_add((4 - length % 4) % 4)
-            .saturating_add(4)
+        attribute_length(self.length())
     }
 
     /// Appends the attribute with its header and padding.
@@ -94,7 +143,8 @@ pub trait AttributeStaticType {
     // The number of the type.
     ghost static_kind: { ℕ };
 
-    /// The type, which contracts can name: an impl at a type with a lifetime repeats the clause.
+    /// `TYPE` as a call: its clause gives contracts the number, which a constant cannot. An impl at a type with a lifetime
+    /// repeats the clause.
     fn static_type() -> AttributeType
         ensures { result.0 ≡ static_kind };
 }
@@ -133,16 +183,15 @@ impl<'a> RawAttribute<'a> {
         ensures value { IfSome result (λ attribute. attribute ≡ first_attribute (drop place bytes.now)) }
     {
         let bytes = bytes.get(place..)?;
-        if bytes.len() < 4 {
+        if bytes.len() < ATTRIBUTE_HEADER_LENGTH {
             return None;
         }
         let kind = AttributeType::new(BigEndian::read_u16(bytes));
         let length = usize::from(BigEndian::read_u16(&bytes[2..]));
-        let rest = &bytes[4..];
-        if rest.len() < length.div_ceil(4) * 4 {
+        if bytes.len() < attribute_length(length) {
             return None;
         }
-        Some(RawAttribute::new(kind, &rest[..length]))
+        Some(RawAttribute::new(kind, &bytes[ATTRIBUTE_HEADER_LENGTH..][..length]))
     }
 
     /// The type.
@@ -170,7 +219,7 @@ impl<'a> RawAttribute<'a> {
     pub fn padded_len(&self) -> usize
         ensures { result ≡ attribute_length (length self.now.value) }
     {
-        4 + self.value.len().div_ceil(4) * 4
+        attribute_length(self.value.len())
     }
 }
 
@@ -186,6 +235,7 @@ impl<'a> Attribute for RawAttribute<'a> {
     }
 
     fn length(&self) -> usize {
+        // Read for the clause `well_formed`: a field's type bounds it.
         let _number = self.kind.0;
         self.value.len()
     }

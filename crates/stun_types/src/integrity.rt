@@ -7,14 +7,17 @@ ghost use Rattle.stun_types.specs.Visible.{visible};
 ghost use Rattle.stun_types.specs.Walk.{IsWithin};
 ghost use Rattle.stun_types.specs.Integrity.{first_of as first_member_of, algorithm_of, deciding, is_digest, is_well_formed, stands, stands_by, integrity_refusal};
 
-use crate::attribute::{AttributeType, RawAttribute};
+use crate::attribute::{ATTRIBUTE_HEADER_LENGTH, AttributeType, RawAttribute};
 use crate::message::{Message, StunParseError, ValidateError};
 use std::alloc::Allocator;
 use stun_base::algorithm::IntegrityAlgorithm;
 use stun_base::credentials::MessageIntegrityCredentials;
 use stun_base::header::HEADER_LENGTH;
-use stun_base::hmac::{hmac_sha1, hmac_sha256};
+use stun_base::hmac::{SHA1_LENGTH, SHA256_LENGTH, hmac_sha1, hmac_sha256};
 use stun_base::key::IntegrityKey;
+
+/// The bytes of the shortest cut of an HMAC-SHA256 (RFC 8489, section 14.6).
+const MIN_SHA256_LENGTH: usize = 16;
 
 /// The first attribute of a type, with its place.
 pub(crate) fn first_of<'a>(
@@ -29,7 +32,7 @@ pub(crate) fn first_of<'a>(
         .find(|found| found.1.get_type() == kind)
 }
 
-/// The attribute whose digest decides, with its place: the stronger one, where both count.
+/// The attribute whose digest decides, with its place: the stronger one, where both are visible.
 fn deciding_attribute<'a>(message: &Message<'a>) -> Option<(usize, RawAttribute<'a>)>
     ensures deciding { result ≡ deciding message.now }
     ensures within { IfSome result (IsWithin message.now) }
@@ -58,24 +61,16 @@ fn algorithm_of(attribute: &RawAttribute<'_>) -> IntegrityAlgorithm
     }
 }
 
-/// The bytes of a whole digest.
-pub(crate) fn digest_length(algorithm: IntegrityAlgorithm) -> usize
-    ensures { result ≡ digest_length algorithm }
-{
-    match algorithm {
-        IntegrityAlgorithm::Sha1 => 20,
-        IntegrityAlgorithm::Sha256 => 32,
-    }
-}
-
-/// Whether the value of an integrity attribute has a length that its type may have.
-fn is_well_formed(attribute: &RawAttribute<'_>) -> bool
+/// Whether the value of an integrity attribute has a length that its type may have: a SHA-256 digest may be cut short.
+pub(crate) fn is_well_formed(attribute: &RawAttribute<'_>) -> bool
     ensures { result ≡ is_well_formed attribute.now }
 {
     let length = attribute.length();
     match algorithm_of(attribute) {
-        IntegrityAlgorithm::Sha1 => length == 20,
-        IntegrityAlgorithm::Sha256 => length >= 16 && length <= 32 && length % 4 == 0,
+        IntegrityAlgorithm::Sha1 => length == SHA1_LENGTH,
+        IntegrityAlgorithm::Sha256 => {
+            (MIN_SHA256_LENGTH..=SHA256_LENGTH).contains(&length) && length % 4 == 0
+        }
     }
 }
 
@@ -96,7 +91,7 @@ fn claimed_digest<'a>(message: &Message<'a>) -> Result<(usize, RawAttribute<'a>)
     if !is_well_formed(&attribute) {
         return Err(ValidateError::Parse(StunParseError::InvalidAttributeData));
     }
-    if attribute.length() != digest_length(algorithm_of(&attribute)) {
+    if attribute.length() != algorithm_of(&attribute).digest_length() {
         return Err(ValidateError::IntegrityFailed);
     }
     Ok((place, attribute))
@@ -108,7 +103,7 @@ fn covered_length(place: usize, value_length: usize) -> u16
     requires fits { place + 4 + value_length < header_length + 2 ^ 16 }
     ensures { result ≡ place + 4 + value_length - header_length }
 {
-    (place + 4 + value_length - HEADER_LENGTH) as u16
+    (place + ATTRIBUTE_HEADER_LENGTH + value_length - HEADER_LENGTH) as u16
 }
 
 /// Whether the value of the integrity attribute at this place is the digest of what it covers, which is not copied.
@@ -149,7 +144,7 @@ impl Message<'_> {
 
     /// The algorithm whose digest stands under the key. It takes no memory.
     ///
-    /// MESSAGE-INTEGRITY-SHA256 decides where it counts, and MESSAGE-INTEGRITY where it does not. Without both it answers
+    /// MESSAGE-INTEGRITY-SHA256 decides where it is visible, and MESSAGE-INTEGRITY where it is not. Without both it answers
     /// `MissingAttribute` of MESSAGE-INTEGRITY, where the deciding one has a wrong length `InvalidAttributeData`, and where
     /// its value is another or a cut digest `IntegrityFailed`.
     pub fn validate_integrity_with_key<A: Allocator>(

@@ -1,5 +1,5 @@
 //! Laws over the definitions that the contracts of this crate cite.
-ghost use Rattle.std.specs.Prelude.{◌≡◌, ℕ, false, Some, ◌≤◌, ◌<◌, ◌^◌, List, [], ◌∷◌, ◌++◌, length, take, slice_index};
+ghost use Rattle.std.specs.Prelude.{◌≡◌, ◌↔◌, IsTrue, ℕ, false, Some, ◌≤◌, ◌<◌, ◌^◌, List, [], ◌∷◌, ◌++◌, length, take, slice_index};
 ghost use Rattle.stun_base.specs.Algorithm.{digest_length};
 ghost use Rattle.stun_base.specs.Attributes.{FINGERPRINT, MESSAGE_INTEGRITY, MESSAGE_INTEGRITY_SHA256};
 ghost use Rattle.stun_types.specs.Attribute.{TypedValue};
@@ -10,6 +10,7 @@ ghost use Rattle.stun_types.specs.Visible.{of_kind, visible};
 ghost use Rattle.stun_types.specs.Walk.{Member, walk};
 ghost use Rattle.stun_types.specs.Writing.{HasOneMore, IsAddable, IsOpen, integrity_attribute, is_set_apart, length_with, max_length, with_attribute, with_integrity};
 
+use crate::message::Message;
 use stun_base::algorithm::IntegrityAlgorithm;
 
 /// A message is a header and spelled attributes: no others are found in it, and each list of attributes has a message.
@@ -19,8 +20,8 @@ pub fn message_is_spelled_attributes()
     ensures written { (message_type transaction_id : ℕ) (attributes : List TypedValue) → FindsWhatIsWritten message_type transaction_id attributes }
 {}
 
-/// Of the two integrity attributes and of FINGERPRINT at most one each counts, so that the first and the last one that
-/// counts are the same.
+/// Of the two integrity attributes and of FINGERPRINT at most one each is visible, so that the first and the last visible
+/// one are the same.
 pub fn each_hiding_attribute_counts_once()
     ensures integrity { (bytes : List ℕ) → length (of_kind MESSAGE_INTEGRITY (visible bytes)) ≤ 1 }
     ensures integrity_sha256 { (bytes : List ℕ) → length (of_kind MESSAGE_INTEGRITY_SHA256 (visible bytes)) ≤ 1 }
@@ -59,3 +60,10 @@ pub fn tail_does_not_count()
     ensures { (keys : IntegrityAlgorithm → List ℕ) (bytes others : List ℕ) (m : Member) → deciding bytes ≡ Some m → deciding others ≡ Some m
         → with_length (take m.0 bytes) 0 ≡ with_length (take m.0 others) 0 → stands_by keys bytes ≡ stands_by keys others }
 {}
+
+/// Messages are equal where their bytes are.
+pub fn is_same_message(one: &Message<'_>, other: &Message<'_>) -> bool
+    ensures { IsTrue result ↔ (one.now ≡ other.now) }
+{
+    one == other
+}

@@ -1,5 +1,7 @@
-//! Messages, read from bytes.
-ghost use Rattle.std.specs.Prelude.{◌≡◌, ◌+◌, ◌^◌, ◌<◌, ◌↔◌, ◌≤◌, length, [], IsTrue, IsOk, IfOk, OnOk, IfErr, IfSome, IsErrOf, IsOkUnless, MatchOption, Some, None};
+//! Messages: read from bytes, and begun in a writer.
+ghost use Rattle.std.specs.Prelude.{◌≡◌, ◌+◌, ◌^◌, ◌<◌, ◌↔◌, ◌≤◌, length, [], IsTrue, IsOk, IfOk, OnOk, IfErr, IfSome, IsErrOf, IsOkUnless, MatchOption, Some, None, ⊤};
+ghost use Rattle.std.specs.Cmp.{partial_equiv_from_equiv};
+ghost use Rattle.stun_base.specs.Credentials.{same_text, same_text_equivalence};
 ghost use Rattle.stun_base.specs.Header.{HEADER_LENGTH as header_length, type_field, transaction_id_field};
 ghost use Rattle.stun_base.specs.MessageType.{class_of, method_of, type_number, IsResponse};
 ghost use Rattle.stun_types.specs.Grammar.{spelled};
@@ -15,6 +17,7 @@ pub use crate::attributes_iter::MessageAttributesIter;
 use crate::integrity::first_of;
 use crate::write::MessageWrite;
 pub use crate::write::{MessageWriteMutSlice, MessageWriteVec};
+use std::alloc::AllocError;
 use std::marker::Model;
 pub use stun_base::algorithm::IntegrityAlgorithm;
 pub use stun_base::credentials::{
@@ -46,8 +49,41 @@ impl<'a> Model for Message<'a> {
     ghost invariant = { λ message. IsRead message.header message.bytes.now };
 }
 
+/// It takes no memory and never fails.
+impl<'a> Clone for Message<'a> {
+    ghost is_clone = { λ it copy. copy ≡ it };
+
+    ghost is_infallible = { λ _. ⊤ };
+
+    fn clone(&self) -> Result<Self, AllocError> {
+        Ok(Message {
+            header: self.header,
+            bytes: self.bytes,
+        })
+    }
+}
+
+/// Equal are messages of the same bytes.
+impl<'a> PartialEq for Message<'a> {
+    ghost eq = { same_text };
+
+    ghost laws = { partial_equiv_from_equiv same_text_equivalence };
+
+    fn eq(&self, other: &Self) -> bool {
+        self.bytes == other.bytes
+    }
+}
+
+impl<'a> Eq for Message<'a> {
+    ghost laws = { same_text_equivalence };
+}
+
 impl<'a> Message<'a> {
-    /// The message that these bytes are.
+    /// The message that these bytes are (RFC 8489, sections 5 and 14). It takes no memory.
+    ///
+    /// The errors, in the order in which they are looked for: those of `MessageHeader::from_bytes`; `Truncated` for fewer
+    /// bytes than the header states; `TooLarge` for more; `Truncated` where an attribute with its padding passes the end.
+    /// The values of attributes are not looked at.
     pub fn from_bytes(bytes: &'a [u8]) -> Result<Message<'a>, StunParseError>
         ensures ok { IsOk result ↔ IsMessage bytes.now }
         ensures value { IfOk result (λ message. message ≡ bytes.now) }
@@ -72,7 +108,8 @@ impl<'a> Message<'a> {
         Ok(Message { header, bytes })
     }
 
-    /// A message without attributes, in an empty writer: `TooSmall` where it has no room for the 20 bytes of a header.
+    /// A message without attributes, in an empty writer: `TooSmall` where it has no room for the 20 bytes of a header, else
+    /// `OutOfMemory` where memory is refused. A refusal drops the writer.
     pub fn builder<W: MessageWrite>(
         message_type: MessageType,
         id: TransactionId,
@@ -233,7 +270,10 @@ impl<'a> Message<'a> {
         self.class().is_response()
     }
 
-    /// The attributes that count, each with the place of its first byte.
+    /// The visible attributes in their order, each with the place of its first byte in the message.
+    ///
+    /// Behind MESSAGE-INTEGRITY only MESSAGE-INTEGRITY-SHA256 and FINGERPRINT are visible, behind MESSAGE-INTEGRITY-SHA256
+    /// only FINGERPRINT, behind FINGERPRINT nothing (RFC 8489, sections 14.5 to 14.7).
     pub fn iter_attributes(&self) -> MessageAttributesIter<'a>
         ensures visible { result ≡ visible self.now }
         ensures few { length result < 2 ^ 14 }
@@ -241,7 +281,8 @@ impl<'a> Message<'a> {
         MessageAttributesIter::new(self.as_bytes())
     }
 
-    /// The first attribute of its type that counts, read.
+    /// The first visible attribute of its type, read: `MissingAttribute` where there is none, `InvalidAttributeData` where
+    /// it is malformed.
     pub fn attribute<A: AttributeFromRaw<'a> + AttributeStaticType>(
         &self,
     ) -> Result<A, StunParseError>

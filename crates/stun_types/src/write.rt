@@ -12,6 +12,9 @@ mod vec;
 pub use mut_slice::MessageWriteMutSlice;
 pub use vec::MessageWriteVec;
 
+/// The greatest message length that is a multiple of four and fits its field of 16 bits (RFC 8489, section 5).
+pub(crate) const MAX_DATA_LENGTH: usize = 65532;
+
 /// Something that a message is written to.
 ///
 /// Bytes are appended where they were reserved before, so that only `reserve` can fail.
@@ -37,7 +40,8 @@ pub trait MessageWrite: Drop {
         ensures value { result ≡ room self.now }
         ensures reserved { reserved self.now ≤ room self.now };
 
-    /// Makes sure that so many bytes can be appended.
+    /// Makes sure that so many bytes can be appended: `TooSmall` where the room is less, else `OutOfMemory` where memory is
+    /// refused. Bytes and room stay as they were, and what was reserved before is never refused.
     fn reserve(&mut self, additional: usize) -> Result<(), StunWriteError>
         ensures bytes { bytes self.new ≡ bytes self.old }
         ensures room { room self.new ≡ room self.old }

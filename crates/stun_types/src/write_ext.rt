@@ -13,22 +13,18 @@ ghost use Rattle.stun_types.specs.Walk.{walk};
 ghost use Rattle.stun_types.specs.Writing.{HasOneMore, IsOpen, attribute_refusal, has_integrity, integrity_attribute, integrity_kind, is_set_apart, length_with, signing_refusal, with_attribute, with_integrity};
 
 use crate::append::append_attribute;
-use crate::attribute::{Attribute, AttributeType};
-use crate::integrity::digest_length;
+use crate::attribute::{Attribute, AttributeType, attribute_length};
 use crate::walk::has_attribute;
-use crate::write::MessageWrite;
+use crate::write::{MAX_DATA_LENGTH, MessageWrite};
 use std::alloc::{AllocError, Allocator};
 use stun_base::algorithm::IntegrityAlgorithm;
 use stun_base::credentials::MessageIntegrityCredentials;
 use stun_base::error::StunWriteError;
 use stun_base::header::{HEADER_LENGTH, MessageHeader};
-use stun_base::hmac::{hmac_sha1, hmac_sha256};
+use stun_base::hmac::{SHA1_LENGTH, SHA256_LENGTH, hmac_sha1, hmac_sha256};
 use stun_base::key::IntegrityKey;
 use stun_base::message_type::MessageClass;
 use stun_base::transaction_id::TransactionId;
-
-/// The greatest message length that is a multiple of four and fits its field.
-const MAX_LENGTH: usize = 65532;
 
 /// Whether only the calls for integrity write attributes of this type, or nobody.
 fn is_set_apart(kind: AttributeType) -> bool
@@ -124,7 +120,7 @@ pub trait MessageWriteExt: MessageWrite {
             return Err(StunWriteError::AttributeExists(kind));
         }
         let message_length = length_with(self.data(), attribute.padded_len());
-        if message_length > MAX_LENGTH {
+        if message_length > MAX_DATA_LENGTH {
             return Err(StunWriteError::TooLarge);
         }
         self.reserve(attribute.padded_len())?;
@@ -205,7 +201,11 @@ pub trait MessageWriteExt: MessageWrite {
         add_integrity(self, key, algorithm)
     }
 
-    /// Adds the integrity attribute of an algorithm to a message of which the caller knows that it can have it.
+    /// Adds the integrity attribute of an algorithm to a message that can have it.
+    ///
+    /// The caller knows that the message has no integrity attribute, that with this one it has at most 65532 bytes behind
+    /// its header, and that the writer has room for it: 24 bytes for HMAC-SHA1, 36 for HMAC-SHA256. The one error is that
+    /// memory is wanting; it leaves the bytes and the room.
     final fn add_message_integrity_with_key_unchecked<A: Allocator>(
         &mut self,
         key: &IntegrityKey<A>,
@@ -259,7 +259,7 @@ fn length_with(message: &[u8], more: usize) -> usize
 fn integrity_length(algorithm: IntegrityAlgorithm) -> usize
     ensures { result ≡ attribute_length (digest_length algorithm) }
 {
-    4 + digest_length(algorithm)
+    attribute_length(algorithm.digest_length())
 }
 
 /// Adds the integrity attribute of an algorithm, or answers the first reason against it.
@@ -283,7 +283,7 @@ fn add_integrity<W: MessageWrite>(
         return Err(StunWriteError::MessageIntegrityExists);
     }
     let padded_length = integrity_length(algorithm);
-    if length_with(writer.data(), padded_length) > MAX_LENGTH {
+    if length_with(writer.data(), padded_length) > MAX_DATA_LENGTH {
         return Err(StunWriteError::TooLarge);
     }
     if writer.room() < padded_length {
@@ -339,14 +339,14 @@ fn append_integrity<W: MessageWrite>(writer: &mut W, key: &[u8], algorithm: Inte
 }
 
 /// HMAC-SHA1 of a text.
-fn digest_sha1(key: &[u8], text: &[u8]) -> [u8; 20]
+fn digest_sha1(key: &[u8], text: &[u8]) -> [u8; SHA1_LENGTH]
     ensures { result ≡ digest IntegrityAlgorithm.Sha1 key.now text.now }
 {
     hmac_sha1(key, &[text])
 }
 
 /// HMAC-SHA256 of a text.
-fn digest_sha256(key: &[u8], text: &[u8]) -> [u8; 32]
+fn digest_sha256(key: &[u8], text: &[u8]) -> [u8; SHA256_LENGTH]
     ensures { result ≡ digest IntegrityAlgorithm.Sha256 key.now text.now }
 {
     hmac_sha256(key, &[text])

@@ -1,6 +1,8 @@
 //! ERROR-CODE (RFC 8489, section 14.8).
 
-ghost use Rattle.std.specs.Prelude.{◌≡◌, ◌≤◌, ◌<◌, ◌/◌, ◌%◌, Some, None, IfOk, IfErr, IfSome, OnOk, length};
+ghost use Rattle.std.specs.Prelude.{◌≡◌, ◌≤◌, ◌<◌, ◌/◌, ◌%◌, Some, None, IfOk, IfErr, IfSome, OnOk, length, ⊤};
+ghost use Rattle.std.specs.Cmp.{partial_equiv_from_equiv};
+ghost use Rattle.stun_types.specs.Equality.{same_error, same_error_equivalence};
 ghost use Rattle.stun_base.specs.Attributes.{ERROR_CODE};
 ghost use Rattle.stun_types.specs.ErrorCode.{IsError, code_in, default_reason, error_of, error_refusal, error_value};
 ghost use Rattle.stun_types.specs.ErrorCodeLaws.{error_of-written};
@@ -11,6 +13,7 @@ use crate::attribute::{
     Attribute, AttributeFromRaw, AttributeStaticType, AttributeType, RawAttribute,
 };
 use crate::write::MessageWrite;
+use std::alloc::AllocError;
 use std::marker::Model;
 use stun_base::error::{StunParseError, StunWriteError};
 
@@ -36,6 +39,35 @@ impl<'a> Model for ErrorCode<'a> {
     ghost view = { λ error. record { code = error.code; reason = error.reason.now } };
 
     ghost invariant = { λ error. (300 ≤ error.code) × (error.code < 700) × (length error.reason.now ≤ 763) };
+}
+
+/// It takes no memory and never fails.
+impl<'a> Clone for ErrorCode<'a> {
+    ghost is_clone = { λ it copy. copy ≡ it };
+
+    ghost is_infallible = { λ _. ⊤ };
+
+    fn clone(&self) -> Result<Self, AllocError> {
+        Ok(ErrorCode {
+            code: self.code,
+            reason: self.reason,
+        })
+    }
+}
+
+/// Equal are errors of the same code and reason.
+impl<'a> PartialEq for ErrorCode<'a> {
+    ghost eq = { same_error };
+
+    ghost laws = { partial_equiv_from_equiv same_error_equivalence };
+
+    fn eq(&self, other: &Self) -> bool {
+        self.code == other.code && self.reason == other.reason
+    }
+}
+
+impl<'a> Eq for ErrorCode<'a> {
+    ghost laws = { same_error_equivalence };
 }
 
 impl ErrorCode<'_> {
@@ -122,7 +154,7 @@ impl<'a> ErrorCodeBuilder<'a> {
         ensures ok { OnOk result (error_refusal self.entry ≡ None) }
         ensures refused { IfErr result (λ error. error_refusal self.entry ≡ Some error) }
     {
-        if self.code < 300 || self.code > 699 {
+        if !(300..=699).contains(&self.code) {
             return Err(StunWriteError::NotAllowed);
         }
         if self.reason.len() > MAX_REASON_LENGTH {
@@ -143,7 +175,7 @@ fn read_code(value: &[u8]) -> Option<u16>
 {
     let class = u16::from(value[2] % 8);
     let number = u16::from(value[3]);
-    if class < 3 || class > 6 || number > 99 {
+    if !(3..=6).contains(&class) || number > 99 {
         return None;
     }
     Some(100 * class + number)

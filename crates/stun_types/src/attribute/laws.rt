@@ -1,5 +1,6 @@
-//! Laws on attributes: what is written is read again, what is reserved is ignored, and constants are those of the RFC.
-ghost use Rattle.std.specs.Prelude.{◌≡◌, ◌<◌, ◌^◌, ◌∷◌, [], ℕ, List, slice_index};
+//! Laws on attributes: what is written is read again, what is reserved is ignored, constants are those of the RFC, and equal
+//! attributes are the same values.
+ghost use Rattle.std.specs.Prelude.{◌≡◌, ◌<◌, ◌^◌, ◌↔◌, ◌∷◌, [], ℕ, IsTrue, List, slice_index};
 ghost use Rattle.std.specs.Net.Socket.{socket_flowinfo, socket_ip, socket_port, socket_scope_id};
 ghost use Rattle.stun_types.specs.Attribute.{TypedValue};
 ghost use Rattle.stun_types.specs.AttributeLaws.{HasOctets, IgnoresFirstByte, IgnoresReservedBits, ReadsSpelledEntries, TakesWhatIsSpelled, WritesFirstZero, WritesReservedZeros};
@@ -7,7 +8,10 @@ ghost use Rattle.stun_types.specs.ErrorCode.{CodeAndReason, IsError};
 ghost use Rattle.stun_types.specs.XorMappedAddress.{XoredAddress};
 ghost use Rattle.stun_types.specs.declared.attribute.password_algorithm.PasswordAlgorithmValue.{PasswordAlgorithmValue};
 
-use crate::attribute::{ErrorCode, PasswordAlgorithmValue, XorMappedAddress};
+use crate::attribute::{
+    ErrorCode, MessageIntegritySha256, Nonce, PasswordAlgorithmValue, RawAttribute, Realm,
+    Username, XorMappedAddress,
+};
 use std::net::{IpAddr, SocketAddr};
 use stun_base::algorithm::IntegrityAlgorithm;
 use stun_base::transaction_id::TransactionId;
@@ -38,6 +42,7 @@ pub fn hidden_and_read(addr: SocketAddr, id: TransactionId) -> SocketAddr
     ensures flowinfo { socket_flowinfo result ≡ 0 }
     ensures scope_id { socket_scope_id result ≡ 0 }
 {
+    // Counted for the clause `ip`: the proof needs to know how many octets there are.
     let _octets = octet_count(addr.ip());
     XorMappedAddress::new(addr, id).addr(id)
 }
@@ -68,4 +73,53 @@ pub fn error_codes() -> [u16; 3]
         ErrorCode::UNAUTHORIZED,
         ErrorCode::STALE_NONCE,
     ]
+}
+
+/// Raw attributes are equal where type and value are.
+pub fn is_same_attribute(one: &RawAttribute<'_>, other: &RawAttribute<'_>) -> bool
+    ensures { IsTrue result ↔ (one.now ≡ other.now) }
+{
+    one == other
+}
+
+/// Addresses are equal where family, port and octets are, as they stand in a message.
+pub fn is_same_address(one: XorMappedAddress, other: XorMappedAddress) -> bool
+    ensures { IsTrue result ↔ (one ≡ other) }
+{
+    one == other
+}
+
+/// User names are equal where their bytes are.
+pub fn is_same_username(one: &Username<'_>, other: &Username<'_>) -> bool
+    ensures { IsTrue result ↔ (one.now ≡ other.now) }
+{
+    one == other
+}
+
+/// Realms are equal where their bytes are.
+pub fn is_same_realm(one: &Realm<'_>, other: &Realm<'_>) -> bool
+    ensures { IsTrue result ↔ (one.now ≡ other.now) }
+{
+    one == other
+}
+
+/// Nonces are equal where their bytes are.
+pub fn is_same_nonce(one: &Nonce<'_>, other: &Nonce<'_>) -> bool
+    ensures { IsTrue result ↔ (one.now ≡ other.now) }
+{
+    one == other
+}
+
+/// Errors are equal where code and reason are.
+pub fn is_same_error(one: &ErrorCode<'_>, other: &ErrorCode<'_>) -> bool
+    ensures { IsTrue result ↔ (one.now ≡ other.now) }
+{
+    one == other
+}
+
+/// Digests are equal where their bytes are.
+pub fn is_same_digest(one: &MessageIntegritySha256<'_>, other: &MessageIntegritySha256<'_>) -> bool
+    ensures { IsTrue result ↔ (one.now ≡ other.now) }
+{
+    one == other
 }

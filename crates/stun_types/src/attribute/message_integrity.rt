@@ -2,7 +2,9 @@
 //!
 //! A program makes neither: the calls of a writer for integrity append them.
 
-ghost use Rattle.std.specs.Prelude.{◌≡◌, ◌%◌, length};
+ghost use Rattle.std.specs.Prelude.{◌≡◌, ◌%◌, length, ⊤};
+ghost use Rattle.std.specs.Cmp.{partial_equiv_from_equiv};
+ghost use Rattle.stun_base.specs.Credentials.{same_text, same_text_equivalence};
 ghost use Rattle.stun_base.specs.Attributes.{MESSAGE_INTEGRITY, MESSAGE_INTEGRITY_SHA256};
 ghost use Rattle.stun_types.specs.IntegrityAttributes.{IsSha256Digest, digest_of, digest_of-written, digest_of-written_sha256};
 
@@ -10,18 +12,12 @@ use crate::append::append_attribute;
 use crate::attribute::{
     Attribute, AttributeFromRaw, AttributeStaticType, AttributeType, RawAttribute,
 };
+use crate::integrity::is_well_formed;
 use crate::write::MessageWrite;
+use std::alloc::AllocError;
 use std::marker::Model;
 use stun_base::error::StunParseError;
-
-/// The bytes of an HMAC-SHA1.
-const SHA1_LENGTH: usize = 20;
-
-/// The bytes of the shortest cut of an HMAC-SHA256.
-const MIN_SHA256_LENGTH: usize = 16;
-
-/// The bytes of a whole HMAC-SHA256.
-const SHA256_LENGTH: usize = 32;
+use stun_base::hmac::SHA1_LENGTH;
 
 /// The HMAC-SHA1 of a message. Contracts see its bytes.
 #[derive(Clone, Copy, Debug, PartialEq, Eq)]
@@ -112,6 +108,32 @@ impl<'a> Model for MessageIntegritySha256<'a> {
     ghost invariant = { λ integrity. IsSha256Digest integrity.hmac.now };
 }
 
+/// It takes no memory and never fails.
+impl<'a> Clone for MessageIntegritySha256<'a> {
+    ghost is_clone = { λ it copy. copy ≡ it };
+
+    ghost is_infallible = { λ _. ⊤ };
+
+    fn clone(&self) -> Result<Self, AllocError> {
+        Ok(MessageIntegritySha256 { hmac: self.hmac })
+    }
+}
+
+/// Equal are digests of the same bytes.
+impl<'a> PartialEq for MessageIntegritySha256<'a> {
+    ghost eq = { same_text };
+
+    ghost laws = { partial_equiv_from_equiv same_text_equivalence };
+
+    fn eq(&self, other: &Self) -> bool {
+        self.hmac == other.hmac
+    }
+}
+
+impl<'a> Eq for MessageIntegritySha256<'a> {
+    ghost laws = { same_text_equivalence };
+}
+
 impl<'a> MessageIntegritySha256<'a> {
     /// The digest, or so much of it as the message has.
     pub fn hmac(&self) -> &'a [u8]
@@ -160,12 +182,7 @@ impl<'a> AttributeFromRaw<'a> for MessageIntegritySha256<'a> {
     ghost reads_back = { digest_of-written_sha256 };
 
     fn from_raw(raw: RawAttribute<'a>) -> Result<Self, StunParseError> {
-        let length = raw.length();
-        if raw.get_type() != Self::TYPE
-            || length < MIN_SHA256_LENGTH
-            || length > SHA256_LENGTH
-            || length % 4 != 0
-        {
+        if raw.get_type() != Self::TYPE || !is_well_formed(&raw) {
             return Err(StunParseError::InvalidAttributeData);
         }
         Ok(MessageIntegritySha256 { hmac: raw.value() })

@@ -1,6 +1,8 @@
 //! NONCE (RFC 8489, section 14.10).
 
-ghost use Rattle.std.specs.Prelude.{◌≡◌, ◌≤◌, ◌<◌, ◌↔◌, IfOk, IsOkUnless, IsErrOf, IsUtf8, length};
+ghost use Rattle.std.specs.Prelude.{◌≡◌, ◌≤◌, ◌<◌, ◌↔◌, IfOk, IsOkUnless, IsErrOf, IsUtf8, length, ⊤};
+ghost use Rattle.std.specs.Cmp.{partial_equiv_from_equiv};
+ghost use Rattle.stun_base.specs.Credentials.{same_text, same_text_equivalence};
 ghost use Rattle.stun_base.specs.Attributes.{NONCE};
 ghost use Rattle.stun_types.specs.Text.{text_of, text_of-written};
 
@@ -10,6 +12,7 @@ use crate::attribute::{
     Attribute, AttributeFromRaw, AttributeStaticType, AttributeType, RawAttribute,
 };
 use crate::write::MessageWrite;
+use std::alloc::AllocError;
 use std::marker::Model;
 use stun_base::error::{StunParseError, StunWriteError};
 
@@ -30,6 +33,32 @@ impl<'a> Model for Nonce<'a> {
     ghost view = { λ nonce. nonce.text.now };
 
     ghost invariant = { λ nonce. length nonce.text.now ≤ 763 };
+}
+
+/// It takes no memory and never fails.
+impl<'a> Clone for Nonce<'a> {
+    ghost is_clone = { λ it copy. copy ≡ it };
+
+    ghost is_infallible = { λ _. ⊤ };
+
+    fn clone(&self) -> Result<Self, AllocError> {
+        Ok(Nonce { text: self.text })
+    }
+}
+
+/// Equal are nonces of the same bytes.
+impl<'a> PartialEq for Nonce<'a> {
+    ghost eq = { same_text };
+
+    ghost laws = { partial_equiv_from_equiv same_text_equivalence };
+
+    fn eq(&self, other: &Self) -> bool {
+        self.text == other.text
+    }
+}
+
+impl<'a> Eq for Nonce<'a> {
+    ghost laws = { same_text_equivalence };
 }
 
 impl<'a> Nonce<'a> {

@@ -18,7 +18,7 @@ use stun_base::error::StunParseError;
 pub(super) const ENTRY_LENGTH: usize = 4;
 
 /// A hash function that makes the key of a password.
-#[derive(Clone, Copy, Debug, PartialEq, Eq)]
+#[derive(Clone, Copy, Debug, PartialEq, Eq, Hash)]
 pub enum PasswordAlgorithmValue {
     /// MD5 (RFC 8489, section 18.5.1.1), whose key goes with HMAC-SHA1.
     MD5,

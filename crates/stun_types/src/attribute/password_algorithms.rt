@@ -1,6 +1,6 @@
 //! PASSWORD-ALGORITHMS (RFC 8489, section 14.11).
 
-ghost use Rattle.std.specs.Prelude.{◌≡◌, ◌≤◌, ◌<◌, ◌+◌, ◌*◌, ◌/◌, ◌++◌, ◌↔◌, [], IsTrue, length};
+ghost use Rattle.std.specs.Prelude.{◌≡◌, ◌≤◌, ◌<◌, ◌+◌, ◌*◌, ◌/◌, ◌++◌, ◌↔◌, [], IsTrue, length, ⊤};
 ghost use Rattle.std.specs.List.{Contains, slice_get};
 ghost use Rattle.stun_base.specs.Attributes.{PASSWORD_ALGORITHMS};
 ghost use Rattle.stun_types.specs.PasswordAlgorithms.{algorithms_of, algorithms_of-written, are_entries, entry_list, spelled_entries};
@@ -12,6 +12,7 @@ use crate::attribute::{
     RawAttribute,
 };
 use crate::write::MessageWrite;
+use std::alloc::AllocError;
 use std::marker::Model;
 use stun_base::error::StunParseError;
 
@@ -42,6 +43,19 @@ impl<'a> Model for PasswordAlgorithms<'a> {
     ghost view = { λ algorithms. list_of algorithms.source };
 
     ghost invariant = { λ algorithms. IsKnown algorithms.source };
+}
+
+/// It takes no memory and never fails.
+impl<'a> Clone for PasswordAlgorithms<'a> {
+    ghost is_clone = { λ it copy. copy ≡ it };
+
+    ghost is_infallible = { λ _. ⊤ };
+
+    fn clone(&self) -> Result<Self, AllocError> {
+        Ok(PasswordAlgorithms {
+            source: self.source,
+        })
+    }
 }
 
 /// Whether bytes are entries of known algorithms without parameters.

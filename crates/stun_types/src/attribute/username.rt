@@ -1,6 +1,8 @@
 //! USERNAME (RFC 8489, section 14.3).
 
-ghost use Rattle.std.specs.Prelude.{◌≡◌, ◌≤◌, ◌<◌, ◌↔◌, IfOk, IsOkUnless, IsErrOf, IsUtf8, length};
+ghost use Rattle.std.specs.Prelude.{◌≡◌, ◌≤◌, ◌<◌, ◌↔◌, IfOk, IsOkUnless, IsErrOf, IsUtf8, length, ⊤};
+ghost use Rattle.std.specs.Cmp.{partial_equiv_from_equiv};
+ghost use Rattle.stun_base.specs.Credentials.{same_text, same_text_equivalence};
 ghost use Rattle.stun_base.specs.Attributes.{USERNAME};
 ghost use Rattle.stun_types.specs.Text.{text_of, text_of-written};
 
@@ -10,6 +12,7 @@ use crate::attribute::{
     Attribute, AttributeFromRaw, AttributeStaticType, AttributeType, RawAttribute,
 };
 use crate::write::MessageWrite;
+use std::alloc::AllocError;
 use std::marker::Model;
 use stun_base::error::{StunParseError, StunWriteError};
 
@@ -30,6 +33,32 @@ impl<'a> Model for Username<'a> {
     ghost view = { λ username. username.text.now };
 
     ghost invariant = { λ username. length username.text.now ≤ 513 };
+}
+
+/// It takes no memory and never fails.
+impl<'a> Clone for Username<'a> {
+    ghost is_clone = { λ it copy. copy ≡ it };
+
+    ghost is_infallible = { λ _. ⊤ };
+
+    fn clone(&self) -> Result<Self, AllocError> {
+        Ok(Username { text: self.text })
+    }
+}
+
+/// Equal are user names of the same bytes.
+impl<'a> PartialEq for Username<'a> {
+    ghost eq = { same_text };
+
+    ghost laws = { partial_equiv_from_equiv same_text_equivalence };
+
+    fn eq(&self, other: &Self) -> bool {
+        self.text == other.text
+    }
+}
+
+impl<'a> Eq for Username<'a> {
+    ghost laws = { same_text_equivalence };
 }
 
 impl<'a> Username<'a> {

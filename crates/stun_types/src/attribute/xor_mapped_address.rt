@@ -21,7 +21,7 @@ use stun_base::header::MAGIC_COOKIE;
 use stun_base::transaction_id::TransactionId;
 
 /// The first half of the magic cookie, which the port is hidden by.
-const PORT_KEY: u16 = 0x2112;
+const PORT_KEY: u16 = (MAGIC_COOKIE >> 16) as u16;
 
 /// The bytes of the value before the octets.
 const FAMILY_AND_PORT_LENGTH: usize = 4;
@@ -33,7 +33,7 @@ const IPV4: u8 = 1;
 const IPV6: u8 = 2;
 
 /// The octets of an address, each hidden by the key.
-#[derive(Clone, Copy, Debug)]
+#[derive(Clone, Copy, Debug, PartialEq, Eq)]
 enum XoredOctets {
     V4([u8; 4]),
     V6([u8; 16]),
@@ -41,7 +41,7 @@ enum XoredOctets {
 
 /// The address that a request came from, as it stands in a message: port and octets are hidden by the magic cookie and the
 /// transaction id. Contracts see its parts as they stand there.
-#[derive(Debug, Drop)]
+#[derive(Clone, Copy, Debug, PartialEq, Eq)]
 pub struct XorMappedAddress {
     port: u16,
     octets: XoredOctets,
@@ -52,7 +52,7 @@ impl Model for XorMappedAddress {
 
     ghost Value = { XoredAddress };
 
-    ghost use Rattle.stun_types.specs.XoredOctets.{family_of, octets_of, IsWhole};
+    ghost use Rattle.stun_types.specs.XoredOctets.{family_of, octets_of, with_family, with_family-of, IsWhole};
 
     ghost view = { λ address. record {
       family = family_of address.octets;
@@ -61,6 +61,10 @@ impl Model for XorMappedAddress {
     } };
 
     ghost invariant = { λ address. IsWhole address.octets };
+
+    ghost inverse = { λ parts. record { port = parts.port; octets = with_family parts.family parts.octets } };
+
+    ghost inverse_ok = { λ address whole i. record { port = address.port; octets = with_family-of address.octets i } };
 }
 
 /// Each octet xor the byte of the key at its place.
@@ -173,6 +177,7 @@ impl Attribute for XorMappedAddress {
     }
 
     fn length(&self) -> usize {
+        // Read for the clause `well_formed`: a field's type bounds it.
         let _port = self.port;
         match &self.octets {
             XoredOctets::V4(octets) => FAMILY_AND_PORT_LENGTH + octets.as_slice().len(),

@@ -3,14 +3,15 @@
 ghost use Rattle.std.specs.Prelude.{◌≡◌, [], IfOk};
 ghost use Rattle.stun_types.specs.WriteVec.{Written};
 
-use crate::write::MessageWrite;
+use crate::write::{MAX_DATA_LENGTH, MessageWrite};
 use byteorder::{BigEndian, ByteOrder};
 use std::alloc::{Allocator, Global};
 use std::marker::Model;
 use stun_base::error::StunWriteError;
+use stun_base::header::HEADER_LENGTH;
 
 /// The bytes of the longest message with its header.
-const MAX_LENGTH: usize = 65552;
+const MAX_LENGTH: usize = HEADER_LENGTH + MAX_DATA_LENGTH;
 
 /// Writes a message to a `Vec`.
 #[derive(Drop)]

@@ -29,5 +29,7 @@ echo "$(date -u +%Y-%m-%d), $(sed -n 's/^model name.*: //p' /proc/cpuinfo | head
 echo
 out/bench out/counts
 # The archive is built for x86-64-v2, which has SSSE3; OpenSSL picks AVX, AVX2 and the SHA instructions where they are.
+printf '\nWith OpenSSL kept from the SHA instructions:\n\n'
+OPENSSL_ia32cap=':~0x20000000' out/bench out/counts
 printf '\nWith OpenSSL kept from AVX, AVX2 and the SHA instructions, as the archive is:\n\n'
 OPENSSL_ia32cap='~0x1000000000000000:~0x20000020' out/bench out/counts

@@ -98,7 +98,7 @@ impl<A: Allocator> fmt::Debug for IntegrityKey<A> {
 }
 
 /// Puts a user's name, realm and password into an empty text, with colons between them, or answers
-/// false where they find no room. The text stays where it is: to move it takes as long as the rest.
+/// false where they find no room. It is filled in place: to move it would wait for what was written.
 fn join(text: &mut ShortText, username: &[u8], realm: &[u8], password: &[u8]) -> bool
     requires { text.old ≡ [] }
     ensures { result ≡ true → text.new ≡ spec.with_colon (spec.with_colon username.now realm.now) password.now }

@@ -33,7 +33,7 @@ enum {
     STUN_TRUNCATED = -1,           /* bytes are missing at the end: of the header, the message or an attribute */
     STUN_NOT_STUN = -2,            /* no header: its top two bits, its cookie, or a length that is no multiple of 4 */
     STUN_TOO_LARGE = -3,           /* bytes stand behind the end of the message */
-    STUN_NO_INTEGRITY = -4,        /* no integrity attribute counts */
+    STUN_NO_INTEGRITY = -4,        /* no integrity attribute is visible */
     STUN_MALFORMED_INTEGRITY = -5, /* the integrity attribute that decides has a length that its type cannot have */
     STUN_INTEGRITY_FAILED = -6,    /* its value is not the whole digest of what it covers under the key */
     STUN_BAD_ARGUMENT = -7,        /* the algorithm is neither 1 nor 2, or the id has not 12 bytes */
@@ -61,8 +61,8 @@ int64_t stun_parse(const uint8_t *message, size_t length);
  * (section 9.2.2).
  *
  * Answers STUN_SHA1 or STUN_SHA256, or refuses as stun_parse does, and then: STUN_NO_INTEGRITY,
- * STUN_MALFORMED_INTEGRITY, STUN_INTEGRITY_FAILED. MESSAGE-INTEGRITY-SHA256 decides where it counts, and
- * MESSAGE-INTEGRITY where it does not. A SHA-256 digest that is cut short does not stand. FINGERPRINT is not checked. */
+ * STUN_MALFORMED_INTEGRITY, STUN_INTEGRITY_FAILED. MESSAGE-INTEGRITY-SHA256 decides where it is visible, and
+ * MESSAGE-INTEGRITY where it is not. A SHA-256 digest that is cut short does not stand. FINGERPRINT is not checked. */
 int64_t stun_verify(const uint8_t *message, size_t length, const uint8_t *key, size_t key_length);
 
 /* Writes a Binding request with this transaction id, a USERNAME and the integrity attribute of the algorithm under a key

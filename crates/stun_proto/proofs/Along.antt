@@ -1,14 +1,16 @@
 -- Where both sides of a meeting stand along its steps.
-use Rattle.std.proofs.Common.{◌≡◌, ℕ, zero, suc, ◌≤◌, arith, List, [], ◌∷◌, length, take, refl, sym, subst, Ok}
+use Rattle.std.proofs.Common.{◌≡◌, ℕ, zero, suc, ◌≤◌, arith, List, [], ◌∷◌, length, take, refl, sym, subst, Ok, Err}
 use Rattle.std.specs.Prelude.{Contains}
 use Rattle.std.specs.declared.result.Result.{Result}
 use Rattle.std.proofs.Math.Seq.{take-nil}
 use Rattle.stun_base.specs.declared.error.StunWriteError.{StunWriteError}
 use Rattle.stun_auth.specs.Additions.{Page}
 use Rattle.stun_auth.specs.Client.{ClientState}
+use Rattle.stun_auth.specs.ClientStep.{ClientAnswer, IsResend}
+use Rattle.stun_auth.specs.declared.client_answer.LongTermClientValidation.TheVariants.{ResendRequest, Validated}
 use Rattle.stun_auth.specs.Validation.{ServerSeen}
 use Rattle.stun_proto.specs.Serving.{after_call, after_calls}
-use Rattle.stun_proto.specs.Sides.{Sides, behind_calls, if_signed, sides}
+use Rattle.stun_proto.specs.Sides.{Sides, behind_calls, if_resent, if_signed, sides}
 use Rattle.stun_proto.specs.declared.replay.call.ServerCall.{ServerCall}
 
 pub here : (x : Sides) (xs : List Sides) → Contains (x ∷ xs) x
@@ -21,6 +23,12 @@ there y xs x (k, below, is) = (suc k, omega (arith, below), is)
 pub at_signed : (o : Result Page StunWriteError) (page : Page) (first : Sides) (next : Page → List Sides) (x : Sides) → Ok page ≡ o
     → Contains (first ∷ next page) x → Contains (first ∷ if_signed o next) x
 at_signed o page first next x is h = subst (λ r. Contains (first ∷ if_signed r next) x) is h
+
+-- where a client takes up what it has read
+pub at_resent : (given : ClientAnswer) (next : List Sides) (x : Sides) → IsResend given → Contains next x → Contains (if_resent given next) x
+at_resent (Ok (ResendRequest a)) next x resends h = h
+at_resent (Ok (Validated a)) next x resends h = absurd resends
+at_resent (Err reason) next x resends h = absurd resends
 
 -- behind the first of the calls
 pub at_call : (state : ClientState) (s : ServerSeen) (calls : List ServerCall) (next : ServerSeen → List Sides) (k : ℕ) → k ≤ length calls

@@ -13,7 +13,7 @@ use Rattle.stun_auth.specs.declared.server_reason.LongTermServerAuthErrorReason.
 use Rattle.stun_auth.specs.declared.server_reason.LongTermServerValidation.TheVariants as Served
 use Rattle.stun_auth.specs.Additions.{Page, UnlessMemory}
 use Rattle.stun_auth.specs.Client.{ClientSide, ClientState}
-use Rattle.stun_auth.specs.ClientStep.{ClientAnswer, ClientStep, UNAUTHORIZED, client_step}
+use Rattle.stun_auth.specs.ClientStep.{ClientAnswer, ClientStep, IsResend, UNAUTHORIZED, client_step}
 use Rattle.stun_auth.specs.Reading.{reading_of}
 use Rattle.stun_auth.specs.ServerSigning.{after_signing}
 use Rattle.stun_auth.specs.Validation.{Answer, ServerSeen, after_message, answer, sight}
@@ -26,7 +26,7 @@ use Rattle.stun_proto.specs.declared.replay.negotiation.NegotiateError.{Negotiat
 use Rattle.stun_proto.specs.declared.replay.negotiation.NegotiateError.TheVariants.{Memory, Write}
 use Rattle.stun_proto.specs.declared.replay.negotiation.Outcome.{Outcome}
 use Rattle.stun_proto.specs.declared.replay.negotiation.Outcome.TheVariants.{ClientRefused, ServerRefused}
-use Rattle.stun_proto.proofs.Along.{at_call, at_signed, here, past_calls, there}
+use Rattle.stun_proto.proofs.Along.{at_call, at_resent, at_signed, here, past_calls, there}
 
 -- ---- the ways in which a run ends
 
@@ -97,15 +97,16 @@ module _ (m : Meeting) (client : ClientSide) (before : ServerSeen) where
     last_step = client_step m.settings client.state (reading_of page.bytes)
 
     -- the client's memory is wanting
-    pub success_stopped : (new : ClientSide) → new ≡ client → (e : NegotiateError) → e ≡ Memory
+    pub success_stopped : IsResend last_step.answer → (new : ClientSide) → new ≡ client → (e : NegotiateError) → e ≡ Memory
         → IsRun (Err e) client new server (succeeded m a client.state before (responded (success m.second.id) (sight before m.from))) (first ∷ behind_success m client.state before)
-    success_stopped new same e is =
+    success_stopped resends new same e is =
+        let there_signed = sides client.state (after_signing before m.from true) in
         run_stopped e client new server _ (first ∷ behind_success m client.state before) is (ap (λ (k : ClientSide). k.settings) same)
-        (at_signed (responded (success m.second.id) (sight before m.from)) page first (λ (p : Page). sides client.state (after_signing before m.from true) ∷ []) (sides new.state server) signed
-        (there first (sides client.state (after_signing before m.from true) ∷ []) (sides new.state server)
-        (subst (λ (k : ClientSide). Contains (sides client.state (after_signing before m.from true) ∷ []) (sides k.state server)) (sym same)
-        (subst (λ s. Contains (sides client.state (after_signing before m.from true) ∷ []) (sides client.state s)) (sym left)
-        (here (sides client.state (after_signing before m.from true)) [])))))
+        (at_signed (responded (success m.second.id) (sight before m.from)) page first (λ (p : Page). if_resent (client_step m.settings client.state (reading_of p.bytes)).answer (there_signed ∷ [])) (sides new.state server) signed
+        (there first (if_resent last_step.answer (there_signed ∷ [])) (sides new.state server)
+        (at_resent last_step.answer (there_signed ∷ []) (sides new.state server) resends
+        (subst (λ (k : ClientSide). Contains (there_signed ∷ []) (sides k.state server)) (sym same)
+        (subst (λ s. Contains (there_signed ∷ []) (sides client.state s)) (sym left) (here there_signed []))))))
 
     -- the client has answered
     pub success_read : (new : ClientSide) (given : ClientAnswer) (outcome : Outcome) → given ≡ last_step.answer → new ≡ stepped client last_step → outcome ≡ outcome_of a given

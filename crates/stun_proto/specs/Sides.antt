@@ -58,10 +58,10 @@ behind_calls state server (call ∷ calls) next =
 
 -- ---- the sides behind each step, the last steps first
 
--- the success is signed; the client that reads it ends the run
+-- the success is signed; the client that reads it ends the run, and wants no memory unless it takes it for a challenge
 abbrev pub behind_success : Meeting → ClientState → ServerSeen → List Sides
 behind_success m state server = if_signed (responded (success m.second.id) (sight server m.from)) (λ page.
-    sides state (after_signing server m.from true) ∷ [])
+    if_resent (client_step m.settings state (reading_of page.bytes)).answer (sides state (after_signing server m.from true) ∷ []))
 
 -- the second list of calls is made, and the second request is read by the server and accepted
 abbrev pub behind_second : Meeting → ClientState → ServerSeen → List Sides

@@ -1,5 +1,6 @@
 //! The events of a run: one call of the agent for each, and its step.
-ghost use Rattle.std.specs.Prelude.{◌≡◌, ◌++◌, ◌∷◌, [], ◌⊎◌, IfOk, OnOk, OnErr};
+ghost use Rattle.std.specs.Prelude.{◌≡◌, ◌≢◌, ◌++◌, ◌∷◌, [], ◌⊎◌, None, IfOk, IsOk, OnOk, OnErr};
+ghost use Rattle.stun_agent.specs.Agent.{request_refusal};
 ghost use Rattle.stun_proto.specs.Calls.{TakesEvent};
 ghost use Rattle.stun_proto.specs.Run.{after_sending, step_of_sending, after_asking, step_of_asking, after_receiving, step_of_receiving, after_event};
 ghost use Rattle.stun_proto.specs.Steps.{step_of, steps_of};
@@ -80,7 +81,7 @@ fn send<A: Allocator + Copy>(
     add(steps, step)
 }
 
-// Sends a request, and tells its step.
+// Sends a request, and tells its step. Where the request is refused, no memory is wanting.
 fn ask<A: Allocator + Copy>(
     alloc: A,
     agent: &mut StunAgent<A>,
@@ -91,6 +92,7 @@ fn ask<A: Allocator + Copy>(
     ensures after { OnOk result (agent.new ≡ after_asking now bytes.now to agent.old) }
     ensures step { IfOk result (λ step. step_of step ≡ step_of_asking now bytes.now to agent.old) }
     ensures broken { OnErr result ((agent.new ≡ agent.old) ⊎ (agent.new ≡ after_asking now bytes.now to agent.old)) }
+    ensures refused { request_refusal agent.old bytes.now ≢ None → IsOk result }
 {
     match agent.send_request(bytes, to, now) {
         Ok(transmit) => transmitted(alloc, now, transmit.to, transmit.data),

@@ -1,6 +1,6 @@
 //! A server's run over a list of calls.
 
-ghost use Rattle.std.specs.Prelude.{◌≡◌, ◌≤◌, Ok, Err, IfOk, OnOk, OnErr, IfErr, IsErr, IsOkAnd, length, take};
+ghost use Rattle.std.specs.Prelude.{◌≡◌, ◌≢◌, ◌≤◌, None, Ok, Err, IfOk, OnOk, OnErr, IfErr, IsErr, IsOk, IsOkAnd, length, take};
 ghost use Rattle.std.specs.declared.net.socket_addr.SocketAddr.{SocketAddr as TheAddress};
 ghost use Rattle.stun_types.specs.Message.{refusal};
 ghost use Rattle.stun_auth.specs.Reading.{reading_of};
@@ -109,7 +109,7 @@ fn serve_call<A: Allocator + Copy>(
     }
 }
 
-/// Validates bytes that came from an address, where they are a message.
+/// Validates bytes that came from an address, where they are a message. Where they are none, no memory is wanting.
 fn validate<A: Allocator + Copy>(
     server: &mut LongTermServerAuth<A>,
     bytes: &[u8],
@@ -120,6 +120,7 @@ fn validate<A: Allocator + Copy>(
     ensures reply { IfOk result (λ given. reply_of given ≡ reply_unless (refusal bytes.now) (reply_of_answer (answer (sight server.old from) now words (reading_of bytes.now)))) }
     ensures server { OnOk result (server.new ≡ record server.old { places = places_unless (refusal bytes.now) server.old.places (after_message server.old from now words (reading_of bytes.now)).places }) }
     ensures err { OnErr result (server.new ≡ server.old) }
+    ensures no_message { refusal bytes.now ≢ None → IsOk result }
 {
     let message = match Message::from_bytes(bytes) {
         Ok(message) => message,

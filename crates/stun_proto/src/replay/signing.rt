@@ -1,6 +1,6 @@
 //! Signing a message for an address: its attributes are written anew, and then the server's.
 
-ghost use Rattle.std.specs.Prelude.{◌≡◌, ⊤, [], OnOk, OnErr, IfOk, IsErr, IsOkAnd};
+ghost use Rattle.std.specs.Prelude.{◌≡◌, ◌≢◌, ⊤, [], None, OnOk, OnErr, IfOk, IsErr, IsOk, IsOkAnd};
 ghost use Rattle.stun_base.specs.Header.{type_field};
 ghost use Rattle.stun_types.specs.Message.{refusal};
 ghost use Rattle.stun_types.specs.Writing.{IsOpen};
@@ -20,7 +20,7 @@ use stun_base::error::StunWriteError;
 use stun_types::message::{Message, MessageWriteVec};
 use stun_types::prelude::*;
 
-/// Signs bytes for an address, where they are a message.
+/// Signs bytes for an address, where they are a message. Where they are none, no memory is wanting.
 pub(crate) fn sign<A: Allocator + Copy>(
     alloc: A,
     server: &mut LongTermServerAuth<A>,
@@ -33,6 +33,7 @@ pub(crate) fn sign<A: Allocator + Copy>(
           (if_signed (signing (sight server.old to) bytes.now) server.old.places (after_signing server.old to (is_response (class_in bytes.now))).places);
     }) }
     ensures err { OnErr result (server.new ≡ server.old) }
+    ensures no_message { refusal bytes.now ≢ None → IsOk result }
 {
     let message = match Message::from_bytes(bytes) {
         Ok(message) => message,

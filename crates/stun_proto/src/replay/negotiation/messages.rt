@@ -6,7 +6,7 @@ ghost use Rattle.stun_base.specs.MessageType.{method_of};
 ghost use Rattle.stun_types.specs.Message.{IsMessage};
 ghost use Rattle.stun_types.specs.Writing.{IsOpen};
 ghost use Rattle.stun_auth.specs.Additions.{UnlessMemory};
-ghost use Rattle.stun_auth.specs.ClientStep.{ForReason as ForClientReason, UNAUTHORIZED, client_step};
+ghost use Rattle.stun_auth.specs.ClientStep.{ForReason as ForClientReason, IsResend, UNAUTHORIZED, client_step};
 ghost use Rattle.stun_auth.specs.Reading.{class_in, is_response, reading_of};
 ghost use Rattle.stun_auth.specs.Reasons.{ForReason as ForServerReason};
 ghost use Rattle.stun_auth.specs.ServerSigning.{after_signing};
@@ -166,7 +166,8 @@ fn server_refusal(
     }
 }
 
-/// What the client makes of a response. The one error is that memory is wanting; the client is then as before.
+/// What the client makes of a response. The one error is that memory is wanting, which it can be only where a challenge is to be
+/// taken up; the client is then as before.
 pub(crate) fn read<A: Allocator + Copy>(
     client: &mut LongTermClientAuth<A>,
     bytes: &[u8],
@@ -175,6 +176,7 @@ pub(crate) fn read<A: Allocator + Copy>(
     ensures answer { IfOk result (λ a. a ≡ (client_step client.old.settings client.old.state (reading_of bytes.now)).answer) }
     ensures client { OnOk result (client.new ≡ record client.old { state = (client_step client.old.settings client.old.state (reading_of bytes.now)).state }) }
     ensures err { OnErr result (client.new ≡ client.old) }
+    ensures memory { OnErr result (IsResend (client_step client.old.settings client.old.state (reading_of bytes.now)).answer) }
 {
     let response = message_in(bytes);
     match client.validate_incoming_message(&response) {

@@ -2,7 +2,7 @@ use Rattle.std.proofs.Common.{◌≡◌, ◌∷◌, refl, sym, ◌∙◌, ap, su
 use Rattle.stun_types.specs.Message.{IsMessage}
 use Rattle.stun_types.specs.WriteVec.{Written}
 use Rattle.stun_auth.specs.Additions.{UnlessMemory}
-use Rattle.stun_auth.specs.ClientStep.{client_step}
+use Rattle.stun_auth.specs.ClientStep.{IsResend, client_step}
 use Rattle.stun_auth.specs.Reading.{reading_of}
 use Rattle.stun_auth.specs.Validation.{sight}
 use Rattle.stun_proto.specs.Meetings.{meeting_of}
@@ -38,7 +38,8 @@ returns-in_err-answer g c =
     let met = succeeded m c.args.algorithm k.state s (responded (success m.second.id) (sight s m.from)) in
     let signed = c.in_ok-signed.ensures.answer ∙ ap (λ i. responded (success i) (sight s m.from)) c.requires.id in
     by_error c.from_residual-in_err-answer.result _ (λ r. IsRun r k c.read.new.client c.success.new.server met (sides k.state s ∷ behind_success m k.state s)) c.from_residual-in_err-answer.ensures.1
-    (λ e is. success_stopped m k s c.args.algorithm (page_of bytes) signed c.success.new.server c.in_ok-signed.ensures.server c.read.new.client c.in_err-answer.ensures.err e is)
+    (λ e is. success_stopped m k s c.args.algorithm (page_of bytes) signed c.success.new.server c.in_ok-signed.ensures.server
+    (subst (λ b. IsResend (client_step k.settings k.state (reading_of b)).answer) c.data.ensures c.in_err-answer.ensures.memory) c.read.new.client c.in_err-answer.ensures.err e is)
 
 pub returns : goal.returns
 returns g c =

@@ -1,6 +1,6 @@
-use Rattle.std.proofs.Common.{◌≡◌, ◌∙◌, ap, subst, Ok, Err}
+use Rattle.std.proofs.Common.{◌≡◌, ◌∙◌, ap, subst, Ok, Err, List, ℕ}
 use Rattle.std.specs.Prelude.{IsErr}
-use Rattle.stun_auth.specs.ClientStep.{ClientAnswer, ForReason, client_step}
+use Rattle.stun_auth.specs.ClientStep.{ClientAnswer, ForReason, IsResend, client_step}
 use Rattle.stun_auth.specs.Reading.{reading_of}
 use Rattle.stun_auth.specs.declared.client_answer.LongTermClientAuthErrorReason.{LongTermClientAuthErrorReason}
 use Rattle.stun_proto.proofs.Heard.{either_client, off_told, off_untold, on_told, on_untold, told, untold}
@@ -48,3 +48,14 @@ returns-in-Err-clause-err g c =
     (λ given is. off_told c.client_refusal.result (Err reason) _ given)
     (λ none is. off_untold c.client_refusal.result _ is)
     (subst P c.reason.ensures c.client_refusal.ensures) c.in-Err.ensures.state
+
+pub returns-in-Err-clause-memory : goal.returns-in-Err-clause-memory
+returns-in-Err-clause-memory g c =
+    let k = c.args.client.now in
+    let reason = c.in-Err.error in
+    let Resends : List ℕ → Type 0 = λ m. IsResend (client_step k.settings k.state (reading_of m)).answer in
+    let P : LongTermClientAuthErrorReason → Type 0 = λ r. ForReason r (c.client_refusal.result ≡ Ok (Err r)) (IsErr c.client_refusal.result) in
+    either_client reason
+    (λ given is. off_told c.client_refusal.result (Err reason) _ given)
+    (λ none is. off_untold c.client_refusal.result _ (subst Resends c.message_in-response.ensures is))
+    (subst P c.reason.ensures c.client_refusal.ensures) c.in-Err.ensures.answer

@@ -16,6 +16,8 @@ mod messages;
 #[cfg(test)]
 mod nonces;
 #[cfg(test)]
+mod renewal;
+#[cfg(test)]
 mod server;
 #[cfg(test)]
 mod server_addresses;

@@ -3,7 +3,7 @@ use Rattle.std.proofs.Common.{◌≡◌, ℕ, zero, suc, ◌+◌, ◌<◌, List,
 use Rattle.std.proofs.Math.ListN.{set}
 use Rattle.std.proofs.lemmas.List.{take_more_set}
 use Rattle.rand_core.specs.Stream.{Stream, next_u32}
-use Rattle.stun_auth.specs.Nonces.{next_words, after_words}
+use Rattle.stun_base.specs.Words.{next_words, after_words}
 
 next_words-suc : (n : ℕ) (source : Stream) → next_words (suc n) source ≡ next_words n source ++ (next_u32 (after_words n source)).0 ∷ []
 unfolding next_words after_words

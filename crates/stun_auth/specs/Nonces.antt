@@ -1,7 +1,6 @@
 -- Nonces of a server, and the security bits that they carry (RFC 8489, section 9.2).
-use Rattle.std.specs.Prelude.{ℕ, zero, suc, nat_eq, ◌+◌, ◌%◌, ◌-◌, ◌==◌, nat_lt, nat_le, Bool, false, not, ◌&&◌, if◌then◌else◌, List, [], ◌∷◌, ◌++◌, length, take, drop, map, codes, Option, Some, None, bit_and, bit_or}
+use Rattle.std.specs.Prelude.{ℕ, nat_eq, ◌+◌, ◌%◌, ◌-◌, ◌==◌, nat_lt, nat_le, Bool, false, not, ◌&&◌, if◌then◌else◌, List, [], ◌∷◌, ◌++◌, length, take, drop, map, codes, Option, Some, None, bit_and, bit_or}
 use Rattle.std.specs.List.{starts_with}
-use Rattle.rand_core.specs.Stream.{Stream, next_u32}
 use Rattle.std.specs.declared.result.Result.{Result}
 use Rattle.std.specs.declared.result.Result.TheVariants.{Ok, Err}
 use Rattle.base64.specs.declared.decode.DecodeError.{DecodeError}
@@ -61,15 +60,6 @@ letter word = letter_at (word % 62)
 -- the first security byte of a server's nonces
 abbrev pub security_byte : AlgorithmSet → Feature → ℕ
 security_byte algorithms feature = (if contains Sha256 algorithms then 0x80 else 0) + (if is_possible feature then 0x40 else 0)
-
--- the next words of a source, and the source after them
-unfoldable pub next_words : ℕ → Stream → List ℕ
-next_words zero source = []
-next_words (suc n) source = (next_u32 source).0 ∷ next_words n (next_u32 source).1
-
-unfoldable pub after_words : ℕ → Stream → Stream
-after_words zero source = source
-after_words (suc n) source = after_words n (next_u32 source).1
 
 -- the front of a nonce with this security byte
 abbrev pub front : ℕ → List ℕ

@@ -18,13 +18,8 @@ use crate::supported::Supported;
 use std::alloc::{Allocator, Global};
 use std::marker::Model;
 use std::mem;
+use stun_types::attribute::ErrorCode;
 use stun_types::message::{IntegrityAlgorithm, LongTermCredentials, Message};
-
-/// The code of a challenge (RFC 8489, section 14.8).
-const UNAUTHORIZED: u16 = 401;
-
-/// The code of a stale nonce (section 14.8).
-const STALE_NONCE: u16 = 438;
 
 /// How far a client has come with its server.
 #[derive(Drop)]
@@ -155,7 +150,7 @@ impl<A: Allocator> LongTermClientAuth<A> {
         self.supported = self.supported.with(algorithm);
     }
 
-    /// Supports one algorithm alone.
+    /// Supports one algorithm alone. Where a nonce asks for no password algorithms, a client takes HMAC-SHA1 all the same.
     pub fn set_supported_integrity(&mut self, algorithm: IntegrityAlgorithm)
         ensures { self.new ≡ record self.old { settings = record self.old.settings { supported = algorithm ∷ [] } } }
     {
@@ -281,10 +276,10 @@ impl<A: Allocator + Copy> LongTermClientAuth<A> {
     {
         let digest = self.standing_digest(message);
         let error = reading::error(message);
-        if is_code(UNAUTHORIZED, error) && !self.is_authenticated() {
+        if is_code(ErrorCode::UNAUTHORIZED, error) && !self.is_authenticated() {
             return self.take_up(message, digest);
         }
-        if is_code(STALE_NONCE, error) {
+        if is_code(ErrorCode::STALE_NONCE, error) {
             return self.renew(message, digest);
         }
         self.settle(reading::is_success(message), digest)

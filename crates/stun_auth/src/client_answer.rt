@@ -7,9 +7,10 @@ use stun_base::error::ValidateError;
 use thiserror::Error;
 
 /// What a client makes of a message that it does not refuse.
-#[derive(Debug, PartialEq, Eq, Drop)]
+#[derive(Clone, Copy, Debug, PartialEq, Eq)]
 pub enum LongTermClientValidation {
-    /// The request is to be signed and sent again, under a new transaction id.
+    /// The request is to be signed and sent again, under a new transaction id. Hand the message to the agent too, so that
+    /// the request that it answers ends.
     ///
     /// The algorithm is there if the message itself was signed under the key that was kept before it.
     ResendRequest(Option<IntegrityAlgorithm>),
@@ -47,7 +48,8 @@ impl From<ValidateError> for LongTermClientAuthErrorReason {
 }
 
 /// A refusal of a client. Contracts see its reason.
-#[derive(Debug, Drop)]
+#[derive(Clone, Copy, Debug, PartialEq, Eq, Error)]
+#[error("{reason}")]
 pub struct LongTermClientAuthError {
     reason: LongTermClientAuthErrorReason,
 }
@@ -58,6 +60,8 @@ impl Model for LongTermClientAuthError {
     ghost Value = { LongTermClientAuthErrorReason };
 
     ghost view = { λ error. error.reason };
+
+    ghost inverse = { λ reason. record { reason = reason } };
 }
 
 impl LongTermClientAuthError {
@@ -75,7 +79,7 @@ impl LongTermClientAuthError {
         self.reason
     }
 
-    /// The algorithm of a refused message: always `None`.
+    /// Always `None`: no digest is told of a message that is refused.
     pub fn integrity(&self) -> Option<IntegrityAlgorithm>
         ensures { result ≡ None }
     {

@@ -1,6 +1,6 @@
 //! The server's side of long-term authentication (RFC 8489, section 9.2.4).
 
-ghost use Rattle.std.specs.Prelude.{◌≡◌, ◌≤◌, ⊤, Option, None, Some, OnOk, OnErr, Ok};
+ghost use Rattle.std.specs.Prelude.{◌≡◌, ◌≤◌, ⊤, Option, None, Some, OnOk, OnErr, Ok, codes};
 ghost use Rattle.std.specs.Duration.{as_nanos};
 ghost use Rattle.std.specs.Option.{option_copied, option_map};
 ghost use Rattle.std.specs.FinMap as map;
@@ -16,6 +16,7 @@ use crate::feature::Feature;
 use crate::places::Places;
 use crate::registry::Registry;
 use std::alloc::{AllocError, Allocator, Global};
+use std::fmt;
 use std::marker::Model;
 use std::net::SocketAddr;
 use std::time::Duration;
@@ -43,8 +44,9 @@ pub fn minimum_nonce_expiry_duration() -> Duration
 /// Contracts see the realm, the supported algorithms, the users' passwords by name, the settings, and the place of each
 /// address: its nonce with the nonce's end, the algorithms that were offered, and the client.
 ///
-/// The place of an address stays until the server is dropped. It is made by any message without integrity, so whoever can
-/// send from many addresses makes it grow.
+/// The place of an address stays until the server is dropped. Each request or indication from a new address makes one,
+/// unless it has integrity and lacks REALM, NONCE or a name (none of these need be right), so whoever can send from many
+/// addresses makes the server grow. `Debug` shows nothing of what it holds.
 #[derive(Drop)]
 pub struct LongTermServerAuth<A: Allocator = Global> {
     alloc: A,
@@ -63,6 +65,14 @@ impl<A: Allocator> Model for LongTermServerAuth<A> {
     ghost coded = { coded_server };
 
     ghost view = { λ s. record { registered = s.registry; feature = s.feature; expiry = as_nanos s.expiry; places = s.places } };
+}
+
+impl<A: Allocator> fmt::Debug for LongTermServerAuth<A> {
+    ghost debug_output = { λ _. Some (codes "LongTermServerAuth { .. }") };
+
+    fn fmt<W: fmt::Write>(&self, f: &mut fmt::Formatter<W>) -> fmt::Result {
+        f.write_str("LongTermServerAuth { .. }")
+    }
 }
 
 impl<A: Allocator + Copy> LongTermServerAuth<A> {
@@ -136,7 +146,8 @@ impl<A: Allocator + Copy> LongTermServerAuth<A> {
         self.registry.set_supported(AlgorithmSet::only(algorithm));
     }
 
-    /// Says whether users may be named by a hash. It takes no memory today and never fails.
+    /// Says whether users may be named by a hash. It always succeeds; the `Result` leaves room for a server that keeps hashes
+    /// only where they are wanted.
     pub fn set_anonymous_username(&mut self, feature: Feature) -> Result<(), AllocError>
         ensures ok { result ≡ Ok tt }
         ensures state { self.new ≡ record self.old { feature = feature } }

@@ -25,7 +25,7 @@ pub enum LongTermServerAuthErrorReason {
     /// No digest of a response stands under the key of the address's client.
     #[error("The message failed integrity checks")]
     IntegrityFailed,
-    /// Never answered by a server.
+    /// Kept from the Rust crate: no call of a server answers it.
     #[error("A required feature is not supported")]
     UnsupportedFeature,
     /// The realm, the nonce, the name or an agreed algorithm is missing (400).
@@ -53,7 +53,8 @@ impl From<ValidateError> for LongTermServerAuthErrorReason {
 /// A refusal of a message by a server.
 ///
 /// Contracts see its reason.
-#[derive(Clone, Copy, Debug, PartialEq, Eq)]
+#[derive(Clone, Copy, Debug, PartialEq, Eq, Error)]
+#[error("{reason}")]
 pub struct LongTermServerAuthError {
     reason: LongTermServerAuthErrorReason,
 }
@@ -83,7 +84,7 @@ impl LongTermServerAuthError {
         self.reason
     }
 
-    /// The algorithm of a digest that stood all the same: a server tells none.
+    /// Always `None`: no digest is told of a message that is refused.
     pub fn integrity(&self) -> Option<IntegrityAlgorithm>
         ensures { result ≡ None }
     {

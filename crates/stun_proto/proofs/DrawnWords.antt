@@ -2,7 +2,7 @@
 use Rattle.std.proofs.Common.{◌≡◌, ℕ, zero, suc, List, [], ◌∷◌, length, refl, ◌∙◌, ap, arith}
 use Rattle.rand_core.specs.Steps.{stream_of, steps_u32}
 use Rattle.rand_core.proofs.StepsLemmas.{next_u32-stream_of}
-use Rattle.stun_auth.specs.Nonces.{next_words}
+use Rattle.stun_base.specs.Words.{next_words}
 use Rattle.stun_proto.specs.Words.{next_word}
 
 pub next_words-source : (n : ℕ) (words : List ℕ) → length words ≡ n → next_words n (stream_of (steps_u32 next_word) words) ≡ words

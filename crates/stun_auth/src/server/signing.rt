@@ -50,6 +50,8 @@ impl<A: Allocator + Copy> LongTermServerAuth<A> {
     /// attribute under the client's present key, or the refusal `IntegrityFailed` where user or key is gone. Without a
     /// client a response gets PASSWORD-ALGORITHMS, the supported algorithms, which are then the ones offered to the address.
     ///
+    /// Sign successes, 401 and 438; a 400 goes out as it is (RFC 8489, section 9.2.4).
+    ///
     /// The first refusal in the order of the attributes is answered, `TooLarge` for a realm past 763 bytes included. It
     /// drops the writer and leaves the server. The writer holds a message without FINGERPRINT.
     pub fn sign_outgoing_message<W: MessageWrite>(

@@ -4,7 +4,7 @@ ghost use Rattle.std.specs.Prelude.{◌≡◌, ⊤, Option, None, Some, IfOk, Ok
 ghost use Rattle.std.specs.FinMap as map;
 ghost use Rattle.std.specs.String.{string_bytes};
 ghost use Rattle.stun_base.specs.Moments.{moment_after};
-ghost use Rattle.stun_auth.specs.Nonces.{next_words, after_words};
+ghost use Rattle.stun_base.specs.Words.{next_words, after_words};
 ghost use Rattle.stun_auth.specs.Reading.{reading_of};
 ghost use Rattle.stun_auth.specs.Seen.{PlaceSeen, renewed};
 ghost use Rattle.stun_auth.specs.Places.{place_seen, with_change};

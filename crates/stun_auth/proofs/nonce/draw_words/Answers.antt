@@ -1,6 +1,6 @@
 use Rattle.std.proofs.Common.{◌≡◌, refl, sym, ◌∙◌, ap, take, length-set, arith}
 use Rattle.std.proofs.Math.Seq.{take-length}
-use Rattle.stun_auth.specs.Nonces.{next_words}
+use Rattle.stun_base.specs.Words.{next_words}
 use Rattle.stun_auth.proofs.Drawn.{drawn, next_words-none, after_words-none}
 use Rattle.stun_auth.proofs.nonce.draw_words.Goals as goal
 

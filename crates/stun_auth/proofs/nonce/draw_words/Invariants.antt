@@ -1,5 +1,5 @@
 use Rattle.std.proofs.Common.{◌≡◌, take, length}
-use Rattle.stun_auth.specs.Nonces.{next_words, after_words}
+use Rattle.stun_base.specs.Words.{next_words, after_words}
 use Rattle.stun_auth.proofs.nonce.draw_words.Given as goal
 
 -- the words so far

@@ -2,7 +2,7 @@ use Rattle.std.proofs.Common.{rules, ◌≡◌, refl, sym, ◌∙◌, ap, true, 
 use Rattle.std.specs.Prelude.{not, ◌||◌}
 use Rattle.std.specs.FinMap as map
 use Rattle.std.specs.String.{string_bytes}
-use Rattle.stun_auth.specs.Nonces.{next_words}
+use Rattle.stun_base.specs.Words.{next_words}
 use Rattle.stun_auth.specs.Reading.{reading_of}
 use Rattle.stun_auth.specs.Server.{stands_at}
 use Rattle.stun_auth.specs.Validation.{needs_nonce, is_malformed}

@@ -1,7 +1,7 @@
 -- The answer of the table is an acceptance exactly where the conjunction holds.
 use Rattle.std.proofs.Common.{sym, subst}
 use Rattle.std.specs.Prelude.{⊤}
-use Rattle.stun_auth.specs.Nonces.{next_words}
+use Rattle.stun_base.specs.Words.{next_words}
 use Rattle.stun_auth.specs.Reading.{reading_of}
 use Rattle.stun_auth.specs.Reasons.{OrMemory}
 use Rattle.stun_auth.specs.Validation.{Answer, ValidatesAccepted, sight}

@@ -1,7 +1,7 @@
 use Rattle.std.proofs.Common.{◌≡◌, ◌∙◌, subst, Err}
 use Rattle.std.specs.Prelude.{IsErr, IsOkAnd}
 use Rattle.rand_core.specs.Steps.{stream_of, steps_u32}
-use Rattle.stun_auth.specs.Nonces.{next_words}
+use Rattle.stun_base.specs.Words.{next_words}
 use Rattle.stun_auth.specs.Reasons.{ForReason}
 use Rattle.stun_auth.specs.Validation.{sight}
 use Rattle.stun_auth.specs.declared.server_reason.LongTermServerAuthErrorReason.{LongTermServerAuthErrorReason}

@@ -34,4 +34,6 @@ mod short_term;
 #[cfg(test)]
 mod spelled;
 #[cfg(test)]
+mod texts;
+#[cfg(test)]
 mod words;

@@ -123,7 +123,7 @@ own_place a (Call.RemoveClient b) s h =
 own_place a (Call.SetExpiry expiry) s h = refl
 
 -- an own call does to what an address can tell what it does to the server
-own_step : (a : SocketAddr) (call : ServerCall) (s : ServerSeen) → concerns a call ≡ true → sight (after_call s call) a ≡ sight_after (sight s a) call
+pub own_step : (a : SocketAddr) (call : ServerCall) (s : ServerSeen) → concerns a call ≡ true → sight (after_call s call) a ≡ sight_after (sight s a) call
 own_step a call s h = ap (seen_behind s call) (own_place a call s h)
 
 -- a call of another address does nothing to it

@@ -19,6 +19,7 @@ use Rattle.stun_auth.specs.Seen.{ClientSeen, PlaceSeen}
 use Rattle.stun_auth.specs.Signed.{hashed_name, plain_name}
 use Rattle.stun_auth.specs.Server.{Sight}
 use Rattle.stun_proto.specs.Negotiation.{asked, failure, responded, success}
+use Rattle.stun_proto.specs.Renewal.{IsAsked, IsTold}
 
 -- what a server's nonces ask for
 pub record NoncesAsk : Type 0 where
@@ -66,9 +67,11 @@ pub record SignedIsRead : Type 0 where
   pub challenge : (id : ℕ) (s : Sight) (p : PlaceSeen) (page : Page) → s.place ≡ Some p → p.client ≡ None → IsUtf8 s.registered.realm → IsUtf8 p.nonce
       → responded (failure UNAUTHORIZED id) s ≡ Ok page
       → IsFailure UNAUTHORIZED s.registered.realm p.nonce (reading_of page.bytes) × ((reading_of page.bytes).algorithms ≡ Some (listed s.registered.algorithms))
-  pub stale : (id : ℕ) (s : Sight) (p : PlaceSeen) (c : ClientSeen) (key : List ℕ) (page : Page) → s.place ≡ Some p → p.client ≡ Some c
-      → key_at s.registered c.name c.algorithm ≡ Some key → IsUtf8 s.registered.realm → IsUtf8 p.nonce
-      → responded (failure STALE_NONCE id) s ≡ Ok page → IsFailure STALE_NONCE s.registered.realm p.nonce (reading_of page.bytes)
+  pub any_request : (state : ClientState) (c : Challenge) (set : AlgorithmSet) (hashes : Bool) (name realm : List ℕ) (page : Page)
+      → kept_challenge state ≡ Some c → c.algorithms ≡ listed set → c.naming ≡ naming_of hashes name realm
+      → IsUtf8 c.realm → IsUtf8 c.nonce → IsUtf8 name → IsAsked state page → IsRequest c (reading_of page.bytes)
+  pub stale : (s : Sight) (p : PlaceSeen) (page : Page) → s.place ≡ Some p → IsUtf8 s.registered.realm → IsUtf8 p.nonce
+      → IsTold s page → IsFailure STALE_NONCE s.registered.realm p.nonce (reading_of page.bytes)
   pub success : (id : ℕ) (s : Sight) (p : PlaceSeen) (c : ClientSeen) (key : List ℕ) (page : Page) → s.place ≡ Some p → p.client ≡ Some c
       → key_at s.registered c.name c.algorithm ≡ Some key → IsUtf8 s.registered.realm → IsUtf8 p.nonce
       → responded (success id) s ≡ Ok page → IsSuccess c.algorithm key (reading_of page.bytes)

@@ -1,7 +1,7 @@
 -- What is read of each message of a run, by the laws on what signing adds.
 use Rattle.std.proofs.Common.{◌≡◌, ℕ, zero, suc, ◌-◌, ◌<◌, ◌≤◌, ◌^◌, List, [], ◌∷◌, length, Bool, true, false, Option, Some, None, refl, sym, ◌∙◌, ap, subst, Ok, Err, arith}
-use Rattle.std.specs.Prelude.{cond, codes, IsUtf8, nat_lt, ◌||◌, ◌&&◌, if◌then◌else◌}
-use Rattle.std.specs.Option.{option_map}
+use Rattle.std.specs.Prelude.{cond, codes, IsOk, IsUtf8, nat_lt, ◌==◌, ◌||◌, ◌&&◌, if◌then◌else◌}
+use Rattle.std.specs.Option.{IsSome, option_map}
 use Rattle.std.specs.declared.result.Result.{Result}
 use Rattle.std.proofs.lemmas.Bool.{ltb-false, ltb-true}
 use Rattle.std.specs.Str.{IsAscii}
@@ -33,6 +33,7 @@ use Rattle.stun_auth.specs.Server.{Sight}
 use Rattle.stun_auth.specs.ServerSigning.{server_signed}
 use Rattle.stun_auth.specs.Signed.{Added, IsBuilt, IsUnsigned, IsWritable, ReadsAs, added_at, added_by_client, added_by_server, added_for, added_if_kept, added_under, added_under_key, added_without_client, additions_of, error_attribute, is_listed, nothing, only_if, plain_name, hashed_name}
 use Rattle.stun_proto.specs.Negotiation.{asked, error, failure, page_of, request, responded, success}
+use Rattle.stun_proto.specs.Renewal.{IsAsked, IsTold}
 use Rattle.stun_proto.proofs.Signed.{IsBare, IsFailure, IsRequest, IsSuccess, SignedIsRead}
 
 -- the laws on signing
@@ -44,6 +45,7 @@ pub record SigningLaws : Type 0 where
       → IsBuilt (spelled message_type transaction_id (error_attribute error ∷ [])) (class_of message_type) (if is_error (class_of message_type) then Some error.code else None)
   pub client : (request : Bool) (state : ClientState) → client_additions request state ≡ additions_of (added_by_client request state)
   pub server : (s : Sight) (response : Bool) (page : Page) (a : Added) → added_by_server s response ≡ Some a → server_signed s response page ≡ added_all (additions_of a) page
+  pub there : (s : Sight) (response : Bool) (page : Page) → IsOk (server_signed s response page) → IsSome (added_by_server s response)
 
 -- ---- a text of ASCII
 abbrev all_small : List ℕ → Bool
@@ -128,15 +130,15 @@ module _ (laws : SigningLaws) where
   failure_built code id is = laws.failure (type_number Class.Error 1) id (error code) (omega arith) is
 
   -- ---- requests
-  asked_by : (id : ℕ) (state : ClientState) (kept : Option Challenge) (page : Page) → kept_challenge state ≡ kept → asked id state ≡ Ok page
-      → added_all (additions_of (added_if_kept true kept)) (page_of (request id)) ≡ Ok page
-  unfolding asked
-  asked_by id state kept page is signed =
-      sym (ap (λ l. added_all l (page_of (request id))) (laws.client true state ∙ ap (λ k. additions_of (added_if_kept true k)) is)) ∙ signed
+  asked_by : (state : ClientState) (kept : Option Challenge) (message page : Page) → kept_challenge state ≡ kept
+      → added_all (client_additions true state) message ≡ Ok page → added_all (additions_of (added_if_kept true kept)) message ≡ Ok page
+  asked_by state kept message page is signed =
+      sym (ap (λ l. added_all l message) (laws.client true state ∙ ap (λ k. additions_of (added_if_kept true k)) is)) ∙ signed
 
   bare_read : (id : ℕ) (page : Page) → asked id initial ≡ Ok page → IsBare (reading_of page.bytes)
+  unfolding asked
   bare_read id page signed =
-      let r = reads_as (request id) Class.Request None nothing page (request_built id) (record { nonce = tt; realm = tt; username = tt; userhash = tt }) (asked_by id initial None page refl signed) in
+      let r = reads_as (request id) Class.Request None nothing page (request_built id) (record { nonce = tt; realm = tt; username = tt; userhash = tt }) (asked_by initial None (page_of (request id)) page refl signed) in
       record { response = ap is_response r.class_is; protected = r.integrity_is }
 
   -- what is added under a challenge, by the naming
@@ -161,16 +163,17 @@ module _ (laws : SigningLaws) where
   either true = refl
   either false = refl
 
-  request_read : (id : ℕ) (state : ClientState) (c : Challenge) (set : AlgorithmSet) (hashes : Bool) (name realm : List ℕ) (page : Page)
+  any_request_read : (state : ClientState) (c : Challenge) (set : AlgorithmSet) (hashes : Bool) (name realm : List ℕ) (page : Page)
       → kept_challenge state ≡ Some c → c.algorithms ≡ listed set → c.naming ≡ naming_of hashes name realm
-      → IsUtf8 c.realm → IsUtf8 c.nonce → IsUtf8 name → asked id state ≡ Ok page → IsRequest c (reading_of page.bytes)
-  request_read id state c set hashes name realm page kept listed_is naming_is realm_text nonce_text name_text signed =
+      → IsUtf8 c.realm → IsUtf8 c.nonce → IsUtf8 name → IsAsked state page → IsRequest c (reading_of page.bytes)
+  any_request_read state c set hashes name realm page kept listed_is naming_is realm_text nonce_text name_text is =
+      let message = is.message in
       let added = by_naming c (naming_of hashes name realm) in
-      let done = sym (ap (λ n. added_all (additions_of (by_naming c n)) (page_of (request id))) naming_is) ∙ asked_by id state (Some c) page kept signed in
-      let r = reads_as (request id) Class.Request None added page (request_built id) (writable_under c hashes name realm (page_of (request id)) page realm_text nonce_text name_text done) done in
+      let done = sym (ap (λ n. added_all (additions_of (by_naming c n)) message) naming_is) ∙ asked_by state (Some c) message page kept is.signed in
+      let r = laws.read added message.bytes message.room page is.unsigned (writable_under c hashes name realm message page realm_text nonce_text name_text done) done in
       let there = ap is_listed listed_is ∙ listed_there set in
       record {
-        response = ap is_response r.class_is;
+        response = ap is_response (r.class_is ∙ is.class_is);
         protected = r.integrity_is;
         realm = r.realm_is;
         nonce = r.nonce_is;
@@ -180,6 +183,14 @@ module _ (laws : SigningLaws) where
         algorithm = r.algorithm_is ∙ ap (λ b. only_if (is_sha256 c.algorithm || b) c.algorithm) there ∙ ap (λ b. only_if b c.algorithm) (either (is_sha256 c.algorithm));
         digest = r.digest_stands (record { algorithm = c.algorithm; key = c.key }) refl;
       }
+
+  request_read : (id : ℕ) (state : ClientState) (c : Challenge) (set : AlgorithmSet) (hashes : Bool) (name realm : List ℕ) (page : Page)
+      → kept_challenge state ≡ Some c → c.algorithms ≡ listed set → c.naming ≡ naming_of hashes name realm
+      → IsUtf8 c.realm → IsUtf8 c.nonce → IsUtf8 name → asked id state ≡ Ok page → IsRequest c (reading_of page.bytes)
+  unfolding asked
+  request_read id state c set hashes name realm page kept listed_is naming_is realm_text nonce_text name_text signed =
+      any_request_read state c set hashes name realm page kept listed_is naming_is realm_text nonce_text name_text
+      (record { message = page_of (request id); unsigned = (request_built id).unsigned; class_is = (request_built id).class_is; signed = signed })
 
   -- ---- responses
   responded_by : (message : List ℕ) (s : Sight) (a : Added) (page : Page) → added_by_server s true ≡ Some a → responded message s ≡ Ok page
@@ -200,9 +211,6 @@ module _ (laws : SigningLaws) where
 
   unauthorized_is : IsError (error UNAUTHORIZED)
   unauthorized_is = record { from_300 = omega arith; below_700 = omega arith; text = IsUtf8-from_ascii (codes "Unauthorized") (from_small (codes "Unauthorized") refl); short = omega arith }
-
-  stale_is : IsError (error STALE_NONCE)
-  stale_is = record { from_300 = omega arith; below_700 = omega arith; text = IsUtf8-from_ascii (codes "Stale Nonce") (from_small (codes "Stale Nonce") refl); short = omega arith }
 
   writable_offer : (users : Registered) (nonce : List ℕ) (page done : Page) → IsUtf8 users.realm → IsUtf8 nonce
       → added_all (additions_of (added_without_client true users nonce)) page ≡ Ok done → IsWritable (added_without_client true users nonce)
@@ -226,15 +234,43 @@ module _ (laws : SigningLaws) where
       let r = reads_as message Class.Error (Some UNAUTHORIZED) added page (failure_built UNAUTHORIZED id unauthorized_is) (writable_offer s.registered p.nonce (page_of message) page realm_text nonce_text done) done in
       (record { error = r.error_is; realm = r.realm_is; nonce = r.nonce_is }, r.algorithms_are)
 
-  stale_read : (id : ℕ) (s : Sight) (p : PlaceSeen) (c : ClientSeen) (key : List ℕ) (page : Page) → s.place ≡ Some p → p.client ≡ Some c
-      → key_at s.registered c.name c.algorithm ≡ Some key → IsUtf8 s.registered.realm → IsUtf8 p.nonce
-      → responded (failure STALE_NONCE id) s ≡ Ok page → IsFailure STALE_NONCE s.registered.realm p.nonce (reading_of page.bytes)
-  stale_read id s p c key page place client found realm_text nonce_text signed =
-      let message = failure STALE_NONCE id in
-      let added = added_under_key true s.registered p.nonce c.algorithm key in
-      let done = responded_by message s added page (known s p c key place client found) signed in
-      let r = reads_as message Class.Error (Some STALE_NONCE) added page (failure_built STALE_NONCE id stale_is) (writable_known s.registered p.nonce c.algorithm key (page_of message) page realm_text nonce_text done) done in
-      record { error = r.error_is; realm = r.realm_is; nonce = r.nonce_is }
+  -- an error of code 438, with or without a client
+  module _ (s : Sight) (p : PlaceSeen) (page : Page) (place : s.place ≡ Some p) (realm_text : IsUtf8 s.registered.realm) (nonce_text : IsUtf8 p.nonce) (told : IsTold s page) where
+    abbrev error_told : Page
+    error_told = told.message
+
+    reads_failure : (a : Added) → a.realm ≡ Some s.registered.realm → a.nonce ≡ Some p.nonce → IsWritable a
+        → added_all (additions_of a) error_told ≡ Ok page → IsFailure STALE_NONCE s.registered.realm p.nonce (reading_of page.bytes)
+    reads_failure a realm nonce writable done =
+        let r = laws.read a error_told.bytes error_told.room page told.unsigned writable done in
+        record { error = r.error_is ∙ told.code_is; realm = r.realm_is ∙ realm; nonce = r.nonce_is ∙ nonce }
+
+    added_so : (a : Added) → added_by_server s true ≡ Some a → added_all (additions_of a) error_told ≡ Ok page
+    added_so a is = sym (laws.server s true error_told a is) ∙ told.signed
+
+    -- without the client's key nothing is signed
+    keyless : (c : ClientSeen) → p.client ≡ Some c → key_at s.registered c.name c.algorithm ≡ None → IsFailure STALE_NONCE s.registered.realm p.nonce (reading_of page.bytes)
+    keyless c client gone =
+        let none : added_by_server s true ≡ None = ap (added_at true s.registered) place ∙ ap (added_for true s.registered p.nonce) client ∙ ap (option_map (added_under_key true s.registered p.nonce c.algorithm)) gone in
+        impossible (subst IsSome none (laws.there s true error_told (subst IsOk (sym told.signed) refl)))
+      where
+        impossible : IsSome {T = Added} None → IsFailure STALE_NONCE s.registered.realm p.nonce (reading_of page.bytes)
+        impossible h = cc
+
+    by_key : (c : ClientSeen) → p.client ≡ Some c → (o : Option (List ℕ)) → key_at s.registered c.name c.algorithm ≡ o → IsFailure STALE_NONCE s.registered.realm p.nonce (reading_of page.bytes)
+    by_key c client None gone = keyless c client gone
+    by_key c client (Some key) found =
+        let done = added_so (added_under_key true s.registered p.nonce c.algorithm key) (known s p c key place client found) in
+        reads_failure (added_under_key true s.registered p.nonce c.algorithm key) refl refl (writable_known s.registered p.nonce c.algorithm key error_told page realm_text nonce_text done) done
+
+    by_client : (o : Option ClientSeen) → p.client ≡ o → IsFailure STALE_NONCE s.registered.realm p.nonce (reading_of page.bytes)
+    by_client None client =
+        let done = added_so (added_without_client true s.registered p.nonce) (offered s p place client) in
+        reads_failure (added_without_client true s.registered p.nonce) refl refl (writable_offer s.registered p.nonce error_told page realm_text nonce_text done) done
+    by_client (Some c) client = by_key c client (key_at s.registered c.name c.algorithm) refl
+
+    stale_read : IsFailure STALE_NONCE s.registered.realm p.nonce (reading_of page.bytes)
+    stale_read = by_client p.client refl
 
   success_read : (id : ℕ) (s : Sight) (p : PlaceSeen) (c : ClientSeen) (key : List ℕ) (page : Page) → s.place ≡ Some p → p.client ≡ Some c
       → key_at s.registered c.name c.algorithm ≡ Some key → IsUtf8 s.registered.realm → IsUtf8 p.nonce
@@ -246,4 +282,4 @@ module _ (laws : SigningLaws) where
       record { error = r.error_is; success = ap is_success r.class_is; digest = r.digest_stands (record { algorithm = c.algorithm; key = key }) refl }
 
   pub signed_is_read : SignedIsRead
-  signed_is_read = record { bare = bare_read; request = request_read; challenge = challenge_read; stale = stale_read; success = success_read }
+  signed_is_read = record { bare = bare_read; request = request_read; any_request = any_request_read; challenge = challenge_read; stale = stale_read; success = success_read }

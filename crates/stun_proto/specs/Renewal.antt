@@ -1,69 +1,121 @@
 -- A nonce that has run out, and the one that takes its place (RFC 8489, sections 9.2.4 and 9.2.6).
-use Rattle.std.specs.Prelude.{◌≡◌, ℕ, ◌<◌, ◌≤◌, List, true, false, if◌then◌else◌}
+use Rattle.std.specs.Prelude.{◌≡◌, ℕ, ◌<◌, ◌≤◌, nat_le, List, Bool, true, false, if◌then◌else◌, Some}
+use Rattle.std.specs.List.{All}
 use Rattle.std.specs.Str.{bytes_eq}
+use Rattle.std.specs.declared.net.socket_addr.SocketAddr.{SocketAddr}
 use Rattle.std.specs.declared.result.Result.TheVariants.{Ok, Err}
+use Rattle.stun_base.specs.Address.{same_address}
 use Rattle.stun_base.specs.Credentials.{NameAndPassword}
 use Rattle.stun_base.specs.Moments.{moment_after}
+use Rattle.stun_base.specs.declared.message_type.MessageClass.TheVariants.{Request}
 use Rattle.stun_auth.specs.declared.server_reason.LongTermServerAuthErrorReason.TheVariants.{StaleNonce}
 use Rattle.stun_auth.specs.declared.server_reason.LongTermServerValidation.TheVariants.{Validated}
-use Rattle.stun_auth.specs.Additions.{Page}
-use Rattle.stun_auth.specs.Client.{Challenge, ClientState, authenticated}
+use Rattle.stun_auth.specs.Additions.{Page, added_all}
+use Rattle.stun_auth.specs.Client.{Challenge, ClientSettings, ClientState, authenticated}
+use Rattle.stun_auth.specs.ClientSigning.{client_additions}
 use Rattle.stun_auth.specs.ClientStep.{STALE_NONCE, client_step}
 use Rattle.stun_auth.specs.Nonces.{nonce_of}
-use Rattle.stun_auth.specs.Reading.{reading_of}
+use Rattle.stun_auth.specs.Reading.{class_in, error_code, reading_of}
 use Rattle.stun_auth.specs.Seen.{PlaceSeen}
-use Rattle.stun_auth.specs.ServerSigning.{after_signing}
+use Rattle.stun_auth.specs.Server.{Sight}
+use Rattle.stun_auth.specs.ServerSigning.{after_signing, server_signed}
+use Rattle.stun_auth.specs.Signed.{IsUnsigned}
 use Rattle.stun_auth.specs.Validation.{Answer, ServerSeen, after_message, answer, sight}
-use Rattle.stun_proto.specs.Matching.{AreJoined, AreOfOthers, AreTexts}
-use Rattle.stun_proto.specs.Negotiation.{Meeting, Turn, asked, failure, responded}
+use Rattle.stun_proto.specs.Matching.{AreJoined, AreTexts}
 use Rattle.stun_proto.specs.Serving.{after_calls}
+use Rattle.stun_proto.specs.declared.replay.call.ServerCall.{ServerCall}
+use Rattle.stun_proto.specs.declared.replay.call.ServerCall.TheVariants as Call
 
--- ---- a request, the error that tells it stale, and the request again
+-- ---- a request, the error that tells it stale, and a request again
 
--- what the server answers to a request, and the server behind it
-abbrev pub answer_to : Meeting → Turn → ServerSeen → Page → Answer
-answer_to m turn server page = answer (sight server m.from) turn.now turn.words (reading_of page.bytes)
+-- the moment at which the server reads a request, and the random words of a nonce
+pub record Arrival : Type 0 where
+  pub now : ℕ
+  pub words : List ℕ
 
-abbrev pub after_request : Meeting → Turn → ServerSeen → Page → ServerSeen
-after_request m turn server page = after_message server m.from turn.now turn.words (reading_of page.bytes)
+-- what the client is set to, its address, its two requests, and the server's calls before the error and before the second one
+pub record Renewal : Type 0 where
+  pub settings : ClientSettings
+  pub from : SocketAddr
+  pub first : Arrival
+  pub before_error : List ServerCall
+  pub before_second : List ServerCall
+  pub second : Arrival
 
--- the client that has read the error
-abbrev pub told : Meeting → ClientState → Page → ClientState
-told m state page = (client_step m.settings state (reading_of page.bytes)).state
-
--- the server that has signed the error, behind both lists of calls
-abbrev pub after_telling : Meeting → ServerSeen → ServerSeen
-after_telling m server = after_calls (after_calls (after_signing server m.from true) m.first.before) m.second.before
-
--- the nonce that is drawn with the first request
-abbrev pub drawn : Meeting → ServerSeen → List ℕ
+-- the nonce that is drawn with the first request, and the last moment at which it stands
+abbrev pub drawn : Renewal → ServerSeen → List ℕ
 drawn m server = nonce_of server.registered.algorithms server.feature m.first.words
+
+abbrev pub end : Renewal → ServerSeen → ℕ
+end m server = moment_after m.first.now server.expiry
+
+-- what the server answers to a request
+abbrev pub answer_at : Renewal → Arrival → ServerSeen → Page → Answer
+answer_at m arrival server page = answer (sight server m.from) arrival.now arrival.words (reading_of page.bytes)
+
+-- the server that signs the error
+abbrev pub at_error : Renewal → ServerSeen → Page → ServerSeen
+at_error m server asking = after_calls (after_message server m.from m.first.now m.first.words (reading_of asking.bytes)) m.before_error
+
+-- the client that has read it
+abbrev pub told : Renewal → ClientState → Page → ClientState
+told m state telling = (client_step m.settings state (reading_of telling.bytes)).state
+
+-- the server that reads the second request
+abbrev pub at_second : Renewal → ServerSeen → Page → ServerSeen
+at_second m server asking = after_calls (after_signing (at_error m server asking) m.from true) m.before_second
+
+-- ---- the messages
+
+-- a request that the client signs: of any method, with any attributes of its own, in a writer with any room
+pub record IsAsked (state : ClientState) (asking : Page) : Type 0 where
+  pub message : Page
+  pub unsigned : IsUnsigned message.bytes
+  pub class_is : class_in message.bytes ≡ Request
+  pub signed : added_all (client_additions true state) message ≡ Ok asking
+
+-- an error of code 438 that the server signs, of any method and with any attributes of its own
+pub record IsTold (s : Sight) (telling : Page) : Type 0 where
+  pub message : Page
+  pub unsigned : IsUnsigned message.bytes
+  pub code_is : error_code message.bytes ≡ Some STALE_NONCE
+  pub signed : server_signed s true message ≡ Ok telling
 
 -- ---- the law
 
--- the nonce has run out at the first request, and the new one stands at the second; the calls between are those of others
-pub record HasRunOut (m : Meeting) (who : NameAndPassword) (server : ServerSeen) (p : PlaceSeen) (c : Challenge) : Type 0 where
+-- whether a call leaves users, settings and the nonce of an address: messages from there are read while it stands
+abbrev pub leaves_nonce : SocketAddr → ℕ → ServerCall → Bool
+leaves_nonce a end (Call.Validate from now message words) = if same_address from a then nat_le now end else true
+leaves_nonce a end (Call.Sign to message) = true
+leaves_nonce a end (Call.AddUser name password) = false
+leaves_nonce a end (Call.RemoveUser name) = false
+leaves_nonce a end (Call.AddIntegrity algorithm) = false
+leaves_nonce a end (Call.SetIntegrity algorithm) = false
+leaves_nonce a end (Call.SetAnonymous feature) = false
+leaves_nonce a end (Call.RemoveClient address) = true
+leaves_nonce a end (Call.SetExpiry expiry) = false
+
+abbrev pub LeaveNonce : Renewal → ServerSeen → List ServerCall → Type 0
+LeaveNonce m server calls = All (λ call. leaves_nonce m.from (end m server) call ≡ true) calls
+
+-- the nonce of an authenticated client has run out at its first request, and the new one stands at its second
+pub record HasRunOut (m : Renewal) (who : NameAndPassword) (server : ServerSeen) (p : PlaceSeen) (c : Challenge) : Type 0 where
   pub joined : AreJoined (sight server m.from) p c who
   pub expired : p.expires < m.first.now
-  pub others_first : AreOfOthers m.from m.first.before
-  pub others_second : AreOfOthers m.from m.second.before
-  pub in_time : m.second.now ≤ moment_after m.first.now server.expiry
+  pub calls_before_error : LeaveNonce m server m.before_error
+  pub calls_before_second : LeaveNonce m server m.before_second
+  pub in_time : m.second.now ≤ end m server
 
--- a request, the error and the request again, as they are signed
-pub record AreSigned (m : Meeting) (server : ServerSeen) (c : Challenge) (asking telling again : Page) : Type 0 where
-  pub first : asked m.first.id (authenticated c) ≡ Ok asking
-  pub error : responded (failure STALE_NONCE m.first.id) (sight (after_request m m.first server asking) m.from) ≡ Ok telling
-  pub second : asked m.second.id (told m (authenticated c) telling) ≡ Ok again
-
-pub record IsRenewed (m : Meeting) (server : ServerSeen) (p : PlaceSeen) (c : Challenge) : Type 0 where
+pub record IsRenewed (m : Renewal) (server : ServerSeen) (p : PlaceSeen) (c : Challenge) : Type 0 where
   -- the request is stale, unless the old nonce is drawn again
-  pub first : (asking : Page) → asked m.first.id (authenticated c) ≡ Ok asking
-      → answer_to m m.first server asking ≡ (if bytes_eq p.nonce (drawn m server) then Ok (Validated c.algorithm) else Err StaleNonce)
-  -- once the client has read the error, the request is accepted
-  pub second : (asking telling again : Page) → bytes_eq p.nonce (drawn m server) ≡ false → AreSigned m server c asking telling again
-      → answer_to m m.second (after_telling m (after_request m m.first server asking)) again ≡ Ok (Validated c.algorithm)
+  pub first : (asking : Page) → IsAsked (authenticated c) asking
+      → answer_at m m.first server asking ≡ (if bytes_eq p.nonce (drawn m server) then Ok (Validated c.algorithm) else Err StaleNonce)
+  -- once the client has read the error, its request is accepted
+  pub second : (asking telling again : Page) → bytes_eq p.nonce (drawn m server) ≡ false → IsAsked (authenticated c) asking
+      → IsTold (sight (at_error m server asking) m.from) telling → IsAsked (told m (authenticated c) telling) again
+      → answer_at m m.second (at_second m server asking) again ≡ Ok (Validated c.algorithm)
 
 -- a client that was authenticated stays so: one error of code 438 brings the nonce under which it is accepted again
 abbrev pub NonceIsRenewed : Type 0
-NonceIsRenewed = (m : Meeting) (who : NameAndPassword) (server : ServerSeen) (p : PlaceSeen) (c : Challenge)
+NonceIsRenewed = (m : Renewal) (who : NameAndPassword) (server : ServerSeen) (p : PlaceSeen) (c : Challenge)
     → AreTexts server.registered.realm who.username → HasRunOut m who server p c → IsRenewed m server p c

@@ -186,7 +186,10 @@ pub fn strongest_is_agreed()
     laws::sides_add_by_attribute();
 }
 
-/// A client whose nonce has run out is told the new one, and is accepted with it (RFC 8489, sections 9.2.4 and 9.2.6).
+/// A request of an authenticated client whose nonce has run out is answered `StaleNonce`, unless the old nonce was drawn again.
+/// Once the client has read one error of code 438 that the server signed, its request is accepted while the new nonce stands
+/// (RFC 8489, sections 9.2.4 and 9.2.6). The messages are of any method, and have any attributes of their own but those that
+/// signing adds. Between them users and settings stay, and messages of the client's address are read while the nonce stands.
 pub fn nonce_is_renewed()
     ensures { NonceIsRenewed }
 {

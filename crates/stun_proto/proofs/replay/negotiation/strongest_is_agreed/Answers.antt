@@ -15,6 +15,7 @@ signing c = record {
   failure = c.built_messages_can_be_signed.ensures.error;
   client = c.sides_add_by_attribute.ensures.client;
   server = c.sides_add_by_attribute.ensures.server;
+  there = c.sides_add_by_attribute.ensures.there;
 }
 
 pub returns : goal.returns

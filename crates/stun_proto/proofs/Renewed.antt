@@ -1,13 +1,11 @@
 -- After one error of code 438 a request is accepted under the new nonce.
-use Rattle.std.proofs.Common.{◌≡◌, ℕ, zero, suc, ◌+◌, ◌<◌, List, [], ◌∷◌, length, Option, Some, None, Bool, true, false, refl, sym, ◌∙◌, ap, subst, Ok, Err, arith}
-use Rattle.std.specs.Prelude.{cond, not, ◌&&◌, ◌||◌, nat_le, IsUtf8}
+use Rattle.std.proofs.Common.{◌≡◌, ℕ, suc, List, [], ◌∷◌, Option, Some, None, Bool, true, false, refl, sym, ◌∙◌, ap, subst, Ok, Err, arith}
+use Rattle.std.specs.Prelude.{cond, not, ◌&&◌, nat_le, IsUtf8}
 use Rattle.std.specs.Option.{option_map}
 use Rattle.std.specs.Str.{bytes_eq}
-use Rattle.std.specs.declared.net.socket_addr.SocketAddr.{SocketAddr}
 use Rattle.std.specs.declared.result.Result.{Result}
 use Rattle.std.proofs.lemmas.Bool.{le-leb, lt-leb}
 use Rattle.std.proofs.lemmas.Slice.Eq.{bytes_eq-Decides}
-use Rattle.stun_base.specs.Address.{same_address}
 use Rattle.stun_base.specs.Credentials.{NameAndPassword}
 use Rattle.stun_base.specs.Keys.{long_term_key}
 use Rattle.stun_base.specs.Moments.{moment_after}
@@ -35,7 +33,7 @@ use Rattle.stun_auth.specs.ServerSigning.{after_signing}
 use Rattle.stun_auth.specs.Signed.{hashed_name, plain_name}
 use Rattle.stun_auth.specs.Validation.{ServerSeen, after_message, answer, answer_to, needs_nonce, place_after, sight, verdict_at, with_accepted}
 use Rattle.stun_proto.specs.Isolation.{concerns, place_unless, sight_after}
-use Rattle.stun_proto.specs.Matching.{AreJoined, AreTexts, Matches}
+use Rattle.stun_proto.specs.Matching.{AreTexts, Matches}
 use Rattle.stun_proto.specs.Renewal as renewal
 use Rattle.stun_proto.specs.Renewal.{HasRunOut, IsAsked, IsRenewed, IsTold, LeaveNonce, Renewal, answer_at, at_error, at_second, drawn, leaves_nonce, told}
 use Rattle.stun_proto.specs.Serving.{after_call, after_calls}

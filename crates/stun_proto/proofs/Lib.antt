@@ -25,6 +25,7 @@ pub mod Sights
 pub mod Signed
 pub mod SignedRuns
 pub mod SigningLemmas
+pub mod Small
 pub mod SoonerLemmas
 pub mod Strongest
 pub mod TurnLemmas

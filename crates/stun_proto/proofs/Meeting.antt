@@ -1,5 +1,5 @@
 -- An honest client and its server come to the strongest algorithm of both.
-use Rattle.std.proofs.Common.{◌≡◌, ℕ, List, Option, Some, None, Bool, true, false, refl, sym, ◌∙◌, ap, subst, Ok, Err}
+use Rattle.std.proofs.Common.{◌≡◌, ℕ, ◌≤◌, List, length, Option, Some, None, Bool, true, false, refl, sym, ◌∙◌, ap, subst, Ok, Err, arith}
 use Rattle.std.specs.Prelude.{cond, ◌&&◌, IsOk}
 use Rattle.std.specs.Option.{option_map, option_and_then}
 use Rattle.std.specs.FinMap as map
@@ -23,12 +23,12 @@ use Rattle.stun_auth.specs.Places.{with_offer}
 use Rattle.stun_auth.specs.Reading.{Reading, is_success, reading_of, stands_under}
 use Rattle.stun_auth.specs.Registered.{Registered, user_with_hash}
 use Rattle.stun_auth.specs.Seen.{PlaceSeen, renewed}
-use Rattle.stun_auth.specs.Signed.{hashed_name, plain_name}
+use Rattle.stun_auth.specs.Signed.{added_under_key, added_without_client, hashed_name, plain_name}
 use Rattle.stun_auth.specs.Server.{Sight, named_by, standing, standing_of}
 use Rattle.stun_auth.specs.ServerSigning.{after_signing}
 use Rattle.stun_auth.specs.Validation.{ServerSeen, after_message, answer, place_after, sight}
 use Rattle.stun_proto.specs.Best.{best}
-use Rattle.stun_proto.specs.Honest.{AgreesOn, ComesTo, HaveOwnHashes, IsHonest}
+use Rattle.stun_proto.specs.Honest.{AgreesOn, AreShort, ComesTo, HaveOwnHashes, IsHonest, IsReady}
 use Rattle.stun_proto.specs.Matching.{AreJoined, AreTexts, Matches}
 use Rattle.stun_proto.specs.Negotiation.{Meeting, Met, asked, challenge_read, challenged, confirmed, failure, first_answered, first_asked, negotiated, responded, second_answered, second_asked, succeeded, success}
 use Rattle.stun_proto.specs.Serving.{after_calls}
@@ -37,7 +37,8 @@ use Rattle.stun_proto.proofs.Chosen.{best-had, choose-best}
 use Rattle.stun_proto.proofs.Hashes.{own_hash, own_user}
 use Rattle.stun_proto.proofs.Matched.{complete, key_found, matched_verdict}
 use Rattle.stun_proto.proofs.Sights.{sight-after_message, sight-after_others, sight-after_signing}
-use Rattle.stun_proto.proofs.Signed.{IsBare, IsFailure, IsRequest, IsSuccess, NoncesAsk, SignedIsRead}
+use Rattle.stun_proto.proofs.Signed.{IsBare, IsFailure, IsRequest, IsSuccess, NoncesAsk, SignedIsRead, SigningSucceeds}
+use Rattle.stun_proto.proofs.Small.{known_small, nothing_small, offer_small, request_small}
 
 -- ---- what a client makes of what it reads
 
@@ -75,7 +76,19 @@ paged : {A : Type 0} (P : Result A StunWriteError → Type 0) (o : Result A Stun
 paged P (Ok page) refused signed = signed page refl
 paged P (Err reason) refused signed = refused reason refl
 
-module _ (say : NoncesAsk) (found : SignedIsRead) (m : Meeting) (who : NameAndPassword) (server : ServerSeen) (texts : AreTexts server.registered.realm who.username) (honest : IsHonest m who server) where
+-- an honest client is ready
+pub honest-ready : (m : Meeting) (who : NameAndPassword) (server : ServerSeen) → IsHonest m who server → IsReady m who server
+honest-ready m who server honest = record {
+  credentials = honest.credentials;
+  present = honest.present;
+  hashes = honest.hashes;
+  new_address = honest.new_address;
+  others_first = honest.others_first;
+  others_second = honest.others_second;
+  in_time = honest.in_time;
+}
+
+module _ (say : NoncesAsk) (found : SignedIsRead) (m : Meeting) (who : NameAndPassword) (server : ServerSeen) (texts : AreTexts server.registered.realm who.username) (ready : IsReady m who server) where
   abbrev users : Registered
   users = server.registered
 
@@ -85,9 +98,13 @@ module _ (say : NoncesAsk) (found : SignedIsRead) (m : Meeting) (who : NameAndPa
   abbrev meant : Option IntegrityAlgorithm
   meant = best m.settings.supported (listed users.algorithms) m.settings.feature server.feature
 
-  -- what a run whose signings succeed comes to
+  -- what rules out that a signing is refused
+  abbrev IsFitting : Type 0
+  IsFitting = SigningSucceeds × AreShort users.realm who.username m.first.words
+
+  -- what a run whose signings succeed comes to, and when they do
   abbrev Comes : Met → Type 0
-  Comes met = IsOk met.ending → ComesTo m.from who meant met
+  Comes met = (IsFitting → IsOk met.ending) × (IsOk met.ending → ComesTo m.from who meant met)
 
   -- the place when the nonce is made, when the list is offered, and when the client is accepted
   abbrev opened : PlaceSeen
@@ -104,7 +121,7 @@ module _ (say : NoncesAsk) (found : SignedIsRead) (m : Meeting) (who : NameAndPa
 
   -- ---- the first request
   first_at : standing (sight server m.from) m.first.now m.first.words ≡ opened
-  first_at = ap (λ o. standing_of o nonce m.first.now (moment_after m.first.now server.expiry)) honest.new_address
+  first_at = ap (λ o. standing_of o nonce m.first.now (moment_after m.first.now server.expiry)) ready.new_address
 
   abbrev after_first : Reading → ServerSeen
   after_first r = after_message server m.from m.first.now m.first.words r
@@ -122,7 +139,7 @@ module _ (say : NoncesAsk) (found : SignedIsRead) (m : Meeting) (who : NameAndPa
 
   offer_sight : (r : Reading) → IsBare r → sight (after_offer r) m.from ≡ seen offering
   offer_sight r bare =
-      sight-after_others (after_signing (after_first r) m.from true) m.from m.first.before honest.others_first
+      sight-after_others (after_signing (after_first r) m.from true) m.from m.first.before ready.others_first
       ∙ sight-after_signing (after_first r) m.from
       ∙ ap (λ (v : Sight). record v { place = option_map (with_offer v.registered.algorithms) v.place }) (first_sight r bare)
 
@@ -132,7 +149,7 @@ module _ (say : NoncesAsk) (found : SignedIsRead) (m : Meeting) (who : NameAndPa
   challenge_stepped : (r : Reading) → IsFailure UNAUTHORIZED users.realm nonce r → r.algorithms ≡ Some (listed users.algorithms)
       → client_step m.settings initial r ≡ after_challenge initial None (kept_if m.settings.feature who users.realm nonce (Some (listed users.algorithms)) (or_unsupported meant))
   challenge_stepped r reads list_is =
-      challenge_step m.settings who users.realm nonce (listed users.algorithms) r honest.credentials reads list_is
+      challenge_step m.settings who users.realm nonce (listed users.algorithms) r ready.credentials reads list_is
       ∙ ap (λ o. after_challenge initial None (kept_if m.settings.feature who users.realm nonce (Some (listed users.algorithms)) o))
       (choose-best say m.settings.supported users.algorithms m.settings.feature server.feature m.first.words)
 
@@ -146,13 +163,13 @@ module _ (say : NoncesAsk) (found : SignedIsRead) (m : Meeting) (who : NameAndPa
     algorithms = refl;
     algorithm = had;
     naming = (asks_for_userhash nonce && is_possible m.settings.feature, refl);
-    named = named_again users server.feature who (asks_for_userhash nonce) (is_possible m.settings.feature) honest.hashes honest.present (sym (say.userhash users.algorithms server.feature m.first.words));
+    named = named_again users server.feature who (asks_for_userhash nonce) (is_possible m.settings.feature) ready.hashes ready.present (sym (say.userhash users.algorithms server.feature m.first.words));
     key = refl;
-    present = honest.present;
+    present = ready.present;
   }
 
   second_at : standing (seen offering) m.second.now m.second.words ≡ offering
-  second_at = ap (λ b. cond b offering (renewed (Some offering) (nonce_of users.algorithms server.feature m.second.words) (moment_after m.second.now server.expiry) None)) (le-leb m.second.now (moment_after m.first.now server.expiry) honest.in_time)
+  second_at = ap (λ b. cond b offering (renewed (Some offering) (nonce_of users.algorithms server.feature m.second.words) (moment_after m.second.now server.expiry) None)) (le-leb m.second.now (moment_after m.first.now server.expiry) ready.in_time)
 
   second_served : (a : IntegrityAlgorithm) → contains a users.algorithms ≡ true → (r : Reading) → IsRequest (challenge a) r
       → (answer (seen offering) m.second.now m.second.words r ≡ Ok (Served.Validated a)) × (place_after (seen offering) m.second.now m.second.words r ≡ Some (taken a))
@@ -179,19 +196,44 @@ module _ (say : NoncesAsk) (found : SignedIsRead) (m : Meeting) (who : NameAndPa
     joined = (challenge a, taken a, refl, subst (λ (v : Sight). AreJoined v (taken a) (challenge a) who) (sym is) (joined_in a had));
   }
 
+  -- ---- no signing is refused
+  nonce_short : IsFitting → length nonce ≤ 763
+  nonce_short fitting =
+      let made = fitting.0.short users.algorithms server.feature m.first.words in
+      let words = fitting.1.words in
+      omega arith
+
+  challenge_signed : (r : Reading) → IsBare r → IsFitting → IsOk (responded (failure UNAUTHORIZED m.first.id) (sight (after_first r) m.from))
+  challenge_signed r bare fitting =
+      subst (λ v. IsOk (responded (failure UNAUTHORIZED m.first.id) v)) (sym (first_sight r bare))
+      (fitting.0.challenge m.first.id (seen opened) (added_without_client true users nonce) refl (offer_small users nonce (nonce_short fitting) fitting.1.realm))
+
+  request_signed : (a : IntegrityAlgorithm) → IsFitting → IsOk (asked m.second.id (authenticating (challenge a)))
+  request_signed a fitting =
+      fitting.0.request m.second.id (authenticating (challenge a))
+      (request_small (challenge a) users.algorithms (asks_for_userhash nonce && is_possible m.settings.feature) who.username users.realm refl refl (nonce_short fitting) fitting.1.realm fitting.1.username)
+
+  success_signed : (a : IntegrityAlgorithm) → contains a users.algorithms ≡ true → (before : ServerSeen) → sight before m.from ≡ seen (taken a) → IsFitting
+      → IsOk (responded (success m.second.id) (sight before m.from))
+  success_signed a had before is fitting =
+      subst (λ v. IsOk (responded (success m.second.id) v)) (sym is)
+      (fitting.0.success m.second.id (seen (taken a)) (added_under_key true users nonce a (challenge a).key)
+      (ap (option_map (added_under_key true users nonce a)) (key_found say users server.feature offering (challenge a) who (matched a had)))
+      (known_small users nonce a (challenge a).key (nonce_short fitting) fitting.1.realm))
+
   -- the success
   from_success : (a : IntegrityAlgorithm) → meant ≡ Some a → contains a users.algorithms ≡ true → (before : ServerSeen) → sight before m.from ≡ seen (taken a)
       → Comes (succeeded m a (authenticating (challenge a)) before (responded (success m.second.id) (sight before m.from)))
   from_success a chosen had before is =
       paged (λ o. Comes (succeeded m a (authenticating (challenge a)) before o)) (responded (success m.second.id) (sight before m.from))
-      (λ reason refused ok. cc)
-      (λ page signed ok.
+      (λ reason refused. (λ fitting. subst IsOk refused (success_signed a had before is fitting), λ ok. cc))
+      (λ page signed. (λ fitting. refl, λ ok.
       let reads = found.success m.second.id (seen (taken a)) (taken a) (record { name = who.username; algorithm = a }) (challenge a).key page refl refl
       (key_found say users server.feature offering (challenge a) who (matched a had)) texts.realm (say.text users.algorithms server.feature m.first.words) (sym (ap (responded (success m.second.id)) is) ∙ signed) in
       let last_is = sight-after_signing before m.from ∙ ap (λ (v : Sight). record v { place = option_map (with_offer v.registered.algorithms) v.place }) is in
       subst (λ o. ComesTo m.from who o (confirmed a (after_signing before m.from true) (client_step m.settings (authenticating (challenge a)) (reading_of page.bytes)))) (sym chosen)
       (subst (λ step. AgreesOn m.from who a (confirmed a (after_signing before m.from true) step)) (sym (success_step m.settings (challenge a) (reading_of page.bytes) a reads))
-      (agreed_on a had (after_signing before m.from true) last_is)))
+      (agreed_on a had (after_signing before m.from true) last_is))))
 
   -- the second request
   from_second : (a : IntegrityAlgorithm) → meant ≡ Some a → (before : ServerSeen) → sight before m.from ≡ seen offering
@@ -199,10 +241,10 @@ module _ (say : NoncesAsk) (found : SignedIsRead) (m : Meeting) (who : NameAndPa
   from_second a chosen before is =
       let had = best-had m.settings.supported users.algorithms m.settings.feature server.feature a chosen in
       let now = after_calls before m.second.before in
-      let now_is = sight-after_others before m.from m.second.before honest.others_second ∙ is in
+      let now_is = sight-after_others before m.from m.second.before ready.others_second ∙ is in
       let state = authenticating (challenge a) in
       paged (λ o. Comes (second_asked m state before o)) (asked m.second.id state)
-      (λ reason refused ok. cc)
+      (λ reason refused. (λ fitting. subst IsOk refused (request_signed a fitting), λ ok. cc))
       (λ page signed.
       let r = reading_of page.bytes in
       let reads = found.request m.second.id state (challenge a) users.algorithms (asks_for_userhash nonce && is_possible m.settings.feature) who.username users.realm page refl refl refl
@@ -217,9 +259,9 @@ module _ (say : NoncesAsk) (found : SignedIsRead) (m : Meeting) (who : NameAndPa
 
   -- the client's answer to the challenge
   given_up : meant ≡ None → (before : ServerSeen) → Comes (challenge_read m before (after_challenge initial None (kept_if m.settings.feature who users.realm nonce (Some (listed users.algorithms)) (or_unsupported None))))
-  given_up none before ok =
+  given_up none before = (λ fitting. refl, λ ok.
       subst (λ o. ComesTo m.from who o (challenge_read m before (after_challenge initial None (kept_if m.settings.feature who users.realm nonce (Some (listed users.algorithms)) (or_unsupported None)))))
-      (sym none) (record { ending = refl; client = refl })
+      (sym none) (record { ending = refl; client = refl }))
 
   from_step : (o : Option IntegrityAlgorithm) → meant ≡ o → (before : ServerSeen) → sight before m.from ≡ seen offering
       → Comes (challenge_read m before (after_challenge initial None (kept_if m.settings.feature who users.realm nonce (Some (listed users.algorithms)) (or_unsupported o))))
@@ -230,7 +272,7 @@ module _ (say : NoncesAsk) (found : SignedIsRead) (m : Meeting) (who : NameAndPa
   from_challenge : (r : Reading) → IsBare r → Comes (challenged m initial (after_first r) (responded (failure UNAUTHORIZED m.first.id) (sight (after_first r) m.from)))
   from_challenge r bare =
       paged (λ o. Comes (challenged m initial (after_first r) o)) (responded (failure UNAUTHORIZED m.first.id) (sight (after_first r) m.from))
-      (λ reason refused ok. cc)
+      (λ reason refused. (λ fitting. subst IsOk refused (challenge_signed r bare fitting), λ ok. cc))
       (λ page signed.
       let reads = found.challenge m.first.id (seen opened) opened page refl refl texts.realm (say.text users.algorithms server.feature m.first.words)
       (sym (ap (responded (failure UNAUTHORIZED m.first.id)) (first_sight r bare)) ∙ signed) in
@@ -241,11 +283,23 @@ module _ (say : NoncesAsk) (found : SignedIsRead) (m : Meeting) (who : NameAndPa
   from_first : Comes (first_asked m initial server (asked m.first.id initial))
   from_first =
       paged (λ o. Comes (first_asked m initial server o)) (asked m.first.id initial)
-      (λ reason refused ok. cc)
+      (λ reason refused. (λ fitting. subst IsOk refused (fitting.0.request m.first.id initial nothing_small), λ ok. cc))
       (λ page signed.
       let r = reading_of page.bytes in
       let bare = found.bare m.first.id page signed in
       subst (λ o. Comes (first_answered m initial (after_first r) o)) (sym (first_served r bare).0) (from_challenge r bare))
 
-  pub comes_to : ComesTo m.from who meant (negotiated m initial server)
-  comes_to = from_first honest.signed
+  pub comes_to : IsOk (negotiated m initial server).ending → ComesTo m.from who meant (negotiated m initial server)
+  comes_to = from_first.1
+
+  pub all_signed : IsFitting → IsHonest m who server
+  all_signed fitting = record {
+    credentials = ready.credentials;
+    present = ready.present;
+    hashes = ready.hashes;
+    new_address = ready.new_address;
+    others_first = ready.others_first;
+    others_second = ready.others_second;
+    in_time = ready.in_time;
+    signed = from_first.0 fitting;
+  }

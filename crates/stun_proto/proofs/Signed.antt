@@ -1,6 +1,6 @@
 -- What the lemmas on negotiation need of nonces, and of messages that were signed.
-use Rattle.std.proofs.Common.{◌≡◌, ℕ, List, Bool, true, false, Some, None, Ok}
-use Rattle.std.specs.Prelude.{◌||◌, IsUtf8}
+use Rattle.std.proofs.Common.{◌≡◌, ℕ, ◌+◌, ◌≤◌, List, length, Bool, true, false, Some, None, Ok}
+use Rattle.std.specs.Prelude.{◌||◌, IsOk, IsUtf8}
 use Rattle.std.specs.Option.{is_some}
 use Rattle.stun_base.specs.declared.algorithm.IntegrityAlgorithm.{IntegrityAlgorithm}
 use Rattle.stun_base.specs.declared.algorithm.IntegrityAlgorithm.TheVariants.{Sha256}
@@ -16,7 +16,7 @@ use Rattle.stun_auth.specs.Nonces.{asks_for_algorithms, asks_for_userhash, nonce
 use Rattle.stun_auth.specs.Reading.{Reading, is_response, is_success, reading_of, stands_under}
 use Rattle.stun_auth.specs.Registered.{key_at}
 use Rattle.stun_auth.specs.Seen.{ClientSeen, PlaceSeen}
-use Rattle.stun_auth.specs.Signed.{hashed_name, plain_name}
+use Rattle.stun_auth.specs.Signed.{Added, IsSmall, added_by_client, added_by_server, hashed_name, plain_name}
 use Rattle.stun_auth.specs.Server.{Sight}
 use Rattle.stun_proto.specs.Negotiation.{asked, failure, responded, success}
 use Rattle.stun_proto.specs.Renewal.{IsAsked, IsTold}
@@ -75,3 +75,10 @@ pub record SignedIsRead : Type 0 where
   pub success : (id : ℕ) (s : Sight) (p : PlaceSeen) (c : ClientSeen) (key : List ℕ) (page : Page) → s.place ≡ Some p → p.client ≡ Some c
       → key_at s.registered c.name c.algorithm ≡ Some key → IsUtf8 s.registered.realm → IsUtf8 p.nonce
       → responded (success id) s ≡ Ok page → IsSuccess c.algorithm key (reading_of page.bytes)
+
+-- each message of a run can be signed with what is small, and nonces are short
+pub record SigningSucceeds : Type 0 where
+  pub request : (id : ℕ) (state : ClientState) → IsSmall (added_by_client true state) → IsOk (asked id state)
+  pub challenge : (id : ℕ) (s : Sight) (a : Added) → added_by_server s true ≡ Some a → IsSmall a → IsOk (responded (failure UNAUTHORIZED id) s)
+  pub success : (id : ℕ) (s : Sight) (a : Added) → added_by_server s true ≡ Some a → IsSmall a → IsOk (responded (success id) s)
+  pub short : (set : AlgorithmSet) (f : Feature) (words : List ℕ) → length (nonce_of set f words) ≤ 13 + length words

@@ -1,5 +1,5 @@
 -- What is read of each message of a run, by the laws on what signing adds.
-use Rattle.std.proofs.Common.{◌≡◌, ℕ, zero, suc, ◌-◌, ◌<◌, ◌≤◌, ◌^◌, List, [], ◌∷◌, length, Bool, true, false, Option, Some, None, refl, sym, ◌∙◌, ap, subst, Ok, Err, arith}
+use Rattle.std.proofs.Common.{◌≡◌, ℕ, zero, suc, ◌+◌, ◌-◌, ◌<◌, ◌≤◌, ◌^◌, List, [], ◌∷◌, length, Bool, true, false, Option, Some, None, refl, sym, ◌∙◌, ap, subst, Ok, Err, arith}
 use Rattle.std.specs.Prelude.{cond, codes, IsOk, IsUtf8, nat_lt, ◌||◌, ◌&&◌, if◌then◌else◌}
 use Rattle.std.specs.Option.{IsSome, option_map}
 use Rattle.std.specs.declared.result.Result.{Result}
@@ -22,19 +22,21 @@ use Rattle.stun_auth.specs.AddedAttribute as attributes
 use Rattle.stun_auth.specs.Additions.{Addition, Page, added_all, added_one, after, attribute, growth_of, is_too_long, unless_refused, with_addition}
 use Rattle.stun_auth.specs.declared.algorithm_set.AlgorithmSet.{AlgorithmSet}
 use Rattle.stun_auth.specs.declared.algorithm_set.AlgorithmSet.TheVariants.{OnlySha1, OnlySha256, Both}
+use Rattle.stun_auth.specs.declared.feature.Feature.{Feature}
 use Rattle.stun_auth.specs.Algorithms.{is_sha256, listed}
 use Rattle.stun_auth.specs.Client.{Challenge, ClientState, Naming, initial}
 use Rattle.stun_auth.specs.ClientSigning.{client_additions, kept_challenge}
 use Rattle.stun_auth.specs.ClientStep.{STALE_NONCE, UNAUTHORIZED, naming_of}
+use Rattle.stun_auth.specs.Nonces.{nonce_of}
 use Rattle.stun_auth.specs.Reading.{class_in, error_code, is_error, is_response, is_success, reading_of}
 use Rattle.stun_auth.specs.Registered.{Registered, key_at}
 use Rattle.stun_auth.specs.Seen.{ClientSeen, PlaceSeen}
 use Rattle.stun_auth.specs.Server.{Sight}
 use Rattle.stun_auth.specs.ServerSigning.{server_signed}
-use Rattle.stun_auth.specs.Signed.{Added, IsBuilt, IsUnsigned, IsWritable, ReadsAs, added_at, added_by_client, added_by_server, added_for, added_if_kept, added_under, added_under_key, added_without_client, additions_of, error_attribute, is_listed, nothing, only_if, plain_name, hashed_name}
+use Rattle.stun_auth.specs.Signed.{Added, IsBuilt, IsSmall, IsUnsigned, IsWritable, ReadsAs, added_at, added_by_client, added_by_server, added_for, added_if_kept, added_under, added_under_key, added_without_client, additions_of, error_attribute, is_listed, nothing, only_if, plain_name, hashed_name}
 use Rattle.stun_proto.specs.Negotiation.{asked, error, failure, page_of, request, responded, success}
 use Rattle.stun_proto.specs.Renewal.{IsAsked, IsTold}
-use Rattle.stun_proto.proofs.Signed.{IsBare, IsFailure, IsRequest, IsSuccess, SignedIsRead}
+use Rattle.stun_proto.proofs.Signed.{IsBare, IsFailure, IsRequest, IsSuccess, SignedIsRead, SigningSucceeds}
 
 -- the laws on signing
 pub record SigningLaws : Type 0 where
@@ -46,6 +48,14 @@ pub record SigningLaws : Type 0 where
   pub client : (request : Bool) (state : ClientState) → client_additions request state ≡ additions_of (added_by_client request state)
   pub server : (s : Sight) (response : Bool) (page : Page) (a : Added) → added_by_server s response ≡ Some a → server_signed s response page ≡ added_all (additions_of a) page
   pub there : (s : Sight) (response : Bool) (page : Page) → IsOk (server_signed s response page) → IsSome (added_by_server s response)
+
+-- the laws on room
+pub record RoomLaws : Type 0 where
+  pub client : (request : Bool) (state : ClientState) (class : MessageClass) (error : Option ℕ) (message : List ℕ) (room : ℕ) → IsBuilt message class error
+      → IsSmall (added_by_client request state) → 2148 ≤ room → IsOk (added_all (client_additions request state) (record { bytes = message; room = room }))
+  pub server : (s : Sight) (response : Bool) (a : Added) (class : MessageClass) (error : Option ℕ) (message : List ℕ) (room : ℕ) → IsBuilt message class error
+      → added_by_server s response ≡ Some a → IsSmall a → 2148 ≤ room → IsOk (server_signed s response (record { bytes = message; room = room }))
+  pub short : (set : AlgorithmSet) (feature : Feature) (words : List ℕ) → length (nonce_of set feature words) ≤ 13 + length words
 
 -- ---- a text of ASCII
 abbrev all_small : List ℕ → Bool
@@ -283,3 +293,24 @@ module _ (laws : SigningLaws) where
 
   pub signed_is_read : SignedIsRead
   signed_is_read = record { bare = bare_read; request = request_read; any_request = any_request_read; challenge = challenge_read; stale = stale_read; success = success_read }
+
+  -- ---- nothing is refused in a vector
+  enough : (message : List ℕ) → length message ≤ 792 → 2148 ≤ 65552 - length message
+  enough message short = omega arith
+
+  module _ (room : RoomLaws) where
+    request_signed : (id : ℕ) (state : ClientState) → IsSmall (added_by_client true state) → IsOk (asked id state)
+    unfolding asked
+    request_signed id state small = room.client true state Class.Request None (request id) _ (request_built id) small (enough (request id) (request_built id).short)
+
+    response_signed : (message : List ℕ) (class : MessageClass) (code : Option ℕ) (s : Sight) (a : Added) → IsBuilt message class code → added_by_server s true ≡ Some a → IsSmall a → IsOk (responded message s)
+    unfolding responded
+    response_signed message class code s a built is small = room.server s true a class code message _ built is small (enough message built.short)
+
+    pub signing_succeeds : SigningSucceeds
+    signing_succeeds = record {
+      request = request_signed;
+      challenge = λ id s a. response_signed (failure UNAUTHORIZED id) Class.Error (Some UNAUTHORIZED) s a (failure_built UNAUTHORIZED id unauthorized_is);
+      success = λ id s a. response_signed (success id) Class.Success None s a (success_built id);
+      short = room.short;
+    }

@@ -1,5 +1,5 @@
 -- What an honest client and its server come to (RFC 8489, section 9.2).
-use Rattle.std.specs.Prelude.{◌≡◌, ℕ, ◌≤◌, List, true, Option, Some, None, IsOk}
+use Rattle.std.specs.Prelude.{◌≡◌, ℕ, ◌≤◌, List, length, true, Option, Some, None, IsOk}
 use Rattle.std.specs.Option.{is_some, option_and_then}
 use Rattle.std.specs.declared.result.Result.TheVariants.{Ok}
 use Rattle.std.specs.FinMap as map
@@ -66,3 +66,27 @@ abbrev pub StrongestIsAgreed : Type 0
 StrongestIsAgreed = (m : Meeting) (who : NameAndPassword) (server : ServerSeen)
     → AreTexts server.registered.realm who.username → IsHonest m who server
     → ComesTo m.from who (strongest m server) (negotiated m initial server)
+
+-- ---- signings that succeed
+
+-- what makes a client honest, but that its signings succeed
+pub record IsReady (m : Meeting) (who : NameAndPassword) (server : ServerSeen) : Type 0 where
+  pub credentials : m.settings.credentials ≡ Some who
+  pub present : map.get server.registered.passwords who.username ≡ Some who.password
+  pub hashes : HaveOwnHashes server.registered
+  pub new_address : map.get server.places m.from ≡ None
+  pub others_first : AreOfOthers m.from m.first.before
+  pub others_second : AreOfOthers m.from m.second.before
+  pub in_time : m.second.now ≤ moment_after m.first.now server.expiry
+
+-- realm and user name fit their attributes (sections 14.3 and 14.9), and a nonce is made of sixteen random words
+pub record AreShort (its_realm its_name its_words : List ℕ) : Type 0 where
+  pub realm : length its_realm ≤ 763
+  pub username : length its_name ≤ 513
+  pub words : length its_words ≤ 16
+
+-- then no signing is refused
+abbrev pub ShortNamesAreSigned : Type 0
+ShortNamesAreSigned = (m : Meeting) (who : NameAndPassword) (server : ServerSeen)
+    → AreTexts server.registered.realm who.username → AreShort server.registered.realm who.username m.first.words → IsReady m who server
+    → IsHonest m who server

@@ -3,7 +3,7 @@
 ghost use Rattle.std.specs.Prelude.{◌≡◌, ◌≢◌, ◌<◌, Contains, IfSome, IsUtf8, Err};
 ghost use Rattle.stun_base.specs.Credentials.{NameAndPassword};
 ghost use Rattle.stun_auth.specs.Client.{initial};
-ghost use Rattle.stun_proto.specs.Honest.{ComesTo, IsHonest, StrongestIsAgreed, strongest};
+ghost use Rattle.stun_proto.specs.Honest.{ComesTo, IsHonest, ShortNamesAreSigned, StrongestIsAgreed, strongest};
 ghost use Rattle.stun_proto.specs.Meetings.{turn_of};
 ghost use Rattle.stun_proto.specs.Negotiating.{lists, meeting, met_by, turn_at};
 ghost use Rattle.stun_proto.specs.Negotiation.{negotiated};
@@ -184,6 +184,18 @@ pub fn strongest_is_agreed()
     laws::signed_messages_are_read();
     laws::built_messages_can_be_signed();
     laws::sides_add_by_attribute();
+}
+
+/// No signing of a meeting is refused where realm and user name fit their attributes, 763 and 513 bytes (RFC 8489, sections 14.3
+/// and 14.9): then a client is honest that meets the other premises.
+pub fn short_names_are_signed()
+    ensures { ShortNamesAreSigned }
+{
+    laws::nonces_ask_for_what_is_supported();
+    laws::signed_messages_are_read();
+    laws::built_messages_can_be_signed();
+    laws::sides_add_by_attribute();
+    laws::sides_sign_with_room();
 }
 
 /// A request of an authenticated client whose nonce has run out is answered `StaleNonce`, unless the old nonce was drawn again.

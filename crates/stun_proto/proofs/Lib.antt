@@ -27,6 +27,7 @@ pub mod SignedRuns
 pub mod SigningLemmas
 pub mod Small
 pub mod SoonerLemmas
+pub mod Standing
 pub mod Strongest
 pub mod TurnLemmas
 pub mod Typed

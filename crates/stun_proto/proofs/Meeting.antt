@@ -227,13 +227,16 @@ module _ (say : NoncesAsk) (found : SignedIsRead) (m : Meeting) (who : NameAndPa
   from_success a chosen had before is =
       paged (λ o. Comes (succeeded m a (authenticating (challenge a)) before o)) (responded (success m.second.id) (sight before m.from))
       (λ reason refused. (λ fitting. subst IsOk refused (success_signed a had before is fitting), λ ok. cc))
-      (λ page signed. (λ fitting. refl, λ ok.
-      let reads = found.success m.second.id (seen (taken a)) (taken a) (record { name = who.username; algorithm = a }) (challenge a).key page refl refl
-      (key_found say users server.feature offering (challenge a) who (matched a had)) texts.realm (say.text users.algorithms server.feature m.first.words) (sym (ap (responded (success m.second.id)) is) ∙ signed) in
-      let last_is = sight-after_signing before m.from ∙ ap (λ (v : Sight). record v { place = option_map (with_offer v.registered.algorithms) v.place }) is in
-      subst (λ o. ComesTo m.from who o (confirmed a (after_signing before m.from true) (client_step m.settings (authenticating (challenge a)) (reading_of page.bytes)))) (sym chosen)
-      (subst (λ step. AgreesOn m.from who a (confirmed a (after_signing before m.from true) step)) (sym (success_step m.settings (challenge a) (reading_of page.bytes) a reads))
-      (agreed_on a had (after_signing before m.from true) last_is))))
+      (λ page signed. (
+        λ fitting. refl,
+        λ ok.
+            let reads = found.success m.second.id (seen (taken a)) (taken a) (record { name = who.username; algorithm = a }) (challenge a).key page refl refl
+            (key_found say users server.feature offering (challenge a) who (matched a had)) texts.realm (say.text users.algorithms server.feature m.first.words) (sym (ap (responded (success m.second.id)) is) ∙ signed) in
+            let last_is = sight-after_signing before m.from ∙ ap (λ (v : Sight). record v { place = option_map (with_offer v.registered.algorithms) v.place }) is in
+            subst (λ o. ComesTo m.from who o (confirmed a (after_signing before m.from true) (client_step m.settings (authenticating (challenge a)) (reading_of page.bytes)))) (sym chosen)
+            (subst (λ step. AgreesOn m.from who a (confirmed a (after_signing before m.from true) step)) (sym (success_step m.settings (challenge a) (reading_of page.bytes) a reads))
+            (agreed_on a had (after_signing before m.from true) last_is)),
+      ))
 
   -- the second request
   from_second : (a : IntegrityAlgorithm) → meant ≡ Some a → (before : ServerSeen) → sight before m.from ≡ seen offering
@@ -259,9 +262,12 @@ module _ (say : NoncesAsk) (found : SignedIsRead) (m : Meeting) (who : NameAndPa
 
   -- the client's answer to the challenge
   given_up : meant ≡ None → (before : ServerSeen) → Comes (challenge_read m before (after_challenge initial None (kept_if m.settings.feature who users.realm nonce (Some (listed users.algorithms)) (or_unsupported None))))
-  given_up none before = (λ fitting. refl, λ ok.
-      subst (λ o. ComesTo m.from who o (challenge_read m before (after_challenge initial None (kept_if m.settings.feature who users.realm nonce (Some (listed users.algorithms)) (or_unsupported None)))))
-      (sym none) (record { ending = refl; client = refl }))
+  given_up none before = (
+    λ fitting. refl,
+    λ ok.
+        subst (λ o. ComesTo m.from who o (challenge_read m before (after_challenge initial None (kept_if m.settings.feature who users.realm nonce (Some (listed users.algorithms)) (or_unsupported None)))))
+        (sym none) (record { ending = refl; client = refl }),
+  )
 
   from_step : (o : Option IntegrityAlgorithm) → meant ≡ o → (before : ServerSeen) → sight before m.from ≡ seen offering
       → Comes (challenge_read m before (after_challenge initial None (kept_if m.settings.feature who users.realm nonce (Some (listed users.algorithms)) (or_unsupported o))))

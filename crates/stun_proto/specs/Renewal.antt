@@ -33,10 +33,11 @@ pub record Arrival : Type 0 where
   pub now : ℕ
   pub words : List ℕ
 
--- what the client is set to, its address, its two requests, and the server's calls before the error and before the second one
+-- what the client is set to, its address, its two requests, and the server's calls before the first, the error and the second
 pub record Renewal : Type 0 where
   pub settings : ClientSettings
   pub from : SocketAddr
+  pub before_first : List ServerCall
   pub first : Arrival
   pub before_error : List ServerCall
   pub before_second : List ServerCall
@@ -53,9 +54,17 @@ end m server = moment_after m.first.now server.expiry
 abbrev pub answer_at : Renewal → Arrival → ServerSeen → Page → Answer
 answer_at m arrival server page = answer (sight server m.from) arrival.now arrival.words (reading_of page.bytes)
 
+-- the server behind a request
+abbrev pub after_request : Renewal → Arrival → ServerSeen → Page → ServerSeen
+after_request m arrival server page = after_message server m.from arrival.now arrival.words (reading_of page.bytes)
+
+-- the server that reads the first request
+abbrev pub at_first : Renewal → ServerSeen → ServerSeen
+at_first m server = after_calls server m.before_first
+
 -- the server that signs the error
 abbrev pub at_error : Renewal → ServerSeen → Page → ServerSeen
-at_error m server asking = after_calls (after_message server m.from m.first.now m.first.words (reading_of asking.bytes)) m.before_error
+at_error m server asking = after_calls (after_request m m.first (at_first m server) asking) m.before_error
 
 -- the client that has read it
 abbrev pub told : Renewal → ClientState → Page → ClientState
@@ -95,27 +104,34 @@ leaves_nonce a end (Call.SetAnonymous feature) = false
 leaves_nonce a end (Call.RemoveClient address) = true
 leaves_nonce a end (Call.SetExpiry expiry) = false
 
-abbrev pub LeaveNonce : Renewal → ServerSeen → List ServerCall → Type 0
-LeaveNonce m server calls = All (λ call. leaves_nonce m.from (end m server) call ≡ true) calls
+abbrev pub LeaveNonce : SocketAddr → ℕ → List ServerCall → Type 0
+LeaveNonce a end calls = All (λ call. leaves_nonce a end call ≡ true) calls
 
--- the nonce of an authenticated client has run out at its first request, and the new one stands at its second
+-- a client is authenticated, its nonce has run out at its first request, and the new one stands at its second
 pub record HasRunOut (m : Renewal) (who : NameAndPassword) (server : ServerSeen) (p : PlaceSeen) (c : Challenge) : Type 0 where
   pub joined : AreJoined (sight server m.from) p c who
+  pub calls_before_first : LeaveNonce m.from p.expires m.before_first
   pub expired : p.expires < m.first.now
-  pub calls_before_error : LeaveNonce m server m.before_error
-  pub calls_before_second : LeaveNonce m server m.before_second
+  pub calls_before_error : LeaveNonce m.from (end m server) m.before_error
+  pub calls_before_second : LeaveNonce m.from (end m server) m.before_second
   pub in_time : m.second.now ≤ end m server
 
-pub record IsRenewed (m : Renewal) (server : ServerSeen) (p : PlaceSeen) (c : Challenge) : Type 0 where
+-- a request is accepted, and server and client are joined behind it
+pub record IsAcceptedAnew (m : Renewal) (who : NameAndPassword) (c : Challenge) (server : ServerSeen) (telling again : Page) : Type 0 where
+  pub accepted : answer_at m m.second server again ≡ Ok (Validated c.algorithm)
+  pub joined : (d : Challenge) × (q : PlaceSeen) × (told m (authenticated c) telling ≡ authenticated d)
+      × AreJoined (sight (after_request m m.second server again) m.from) q d who
+
+pub record IsRenewed (m : Renewal) (who : NameAndPassword) (server : ServerSeen) (p : PlaceSeen) (c : Challenge) : Type 0 where
   -- the request is stale, unless the old nonce is drawn again
   pub first : (asking : Page) → IsAsked (authenticated c) asking
-      → answer_at m m.first server asking ≡ (if bytes_eq p.nonce (drawn m server) then Ok (Validated c.algorithm) else Err StaleNonce)
+      → answer_at m m.first (at_first m server) asking ≡ (if bytes_eq p.nonce (drawn m server) then Ok (Validated c.algorithm) else Err StaleNonce)
   -- once the client has read the error, its request is accepted
   pub second : (asking telling again : Page) → bytes_eq p.nonce (drawn m server) ≡ false → IsAsked (authenticated c) asking
       → IsTold (sight (at_error m server asking) m.from) telling → IsAsked (told m (authenticated c) telling) again
-      → answer_at m m.second (at_second m server asking) again ≡ Ok (Validated c.algorithm)
+      → IsAcceptedAnew m who c (at_second m server asking) telling again
 
 -- a client that was authenticated stays so: one error of code 438 brings the nonce under which it is accepted again
 abbrev pub NonceIsRenewed : Type 0
 NonceIsRenewed = (m : Renewal) (who : NameAndPassword) (server : ServerSeen) (p : PlaceSeen) (c : Challenge)
-    → AreTexts server.registered.realm who.username → HasRunOut m who server p c → IsRenewed m server p c
+    → AreTexts server.registered.realm who.username → HasRunOut m who server p c → IsRenewed m who server p c

@@ -1,4 +1,4 @@
--- An honest client and its server come to the strongest algorithm of both.
+-- An honest client and its server come to the strongest algorithm of both, and short names are signed.
 use Rattle.std.proofs.Common.{◌≡◌, ℕ, ◌≤◌, List, length, Option, Some, None, Bool, true, false, refl, sym, ◌∙◌, ap, subst, Ok, Err, arith}
 use Rattle.std.specs.Prelude.{cond, ◌&&◌, IsOk}
 use Rattle.std.specs.Option.{option_map, option_and_then}

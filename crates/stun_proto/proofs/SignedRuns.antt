@@ -1,4 +1,4 @@
--- What is read of each message of a run, by the laws on what signing adds.
+-- What is read of each message of a run, and that it can be signed, by the laws on what signing adds.
 use Rattle.std.proofs.Common.{◌≡◌, ℕ, zero, suc, ◌+◌, ◌-◌, ◌<◌, ◌≤◌, ◌^◌, List, [], ◌∷◌, length, Bool, true, false, Option, Some, None, refl, sym, ◌∙◌, ap, subst, Ok, Err, arith}
 use Rattle.std.specs.Prelude.{cond, codes, IsOk, IsUtf8, nat_lt, ◌||◌, ◌&&◌, if◌then◌else◌}
 use Rattle.std.specs.Option.{IsSome, option_map}

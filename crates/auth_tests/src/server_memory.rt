@@ -1,7 +1,7 @@
 //! Each allocation that a server asks for refused in turn: it is then as before, and the call succeeds when it is made again.
-use crate::messages::{FULL_NONCE, Part, begin, message};
+use crate::messages::{BOTH, FULL_NONCE, MD5_KEY, Part, begin, message};
 use crate::server_steps::{
-    Answer, BAD_REQUEST, FAILED, FULL_REQUEST, ONES, OUT_OF_MEMORY, SHA256, STALE_NONCE,
+    Answer, BAD_REQUEST, FAILED, FULL_REQUEST, ONES, OUT_OF_MEMORY, SHA1, SHA256, STALE_NONCE,
     UNAUTHORIZED, ZEROS, address, asked, expect_answer, expect_nonce, expect_sizes, full_server,
     knocked, offering_server, signed_challenge, signed_for, user,
 };
@@ -10,6 +10,7 @@ use std::alloc::Global;
 use std::process::Abort;
 use std::test::Fail;
 use stun_auth::auth::{Feature, LongTermServerAuth};
+use stun_types::attribute::PasswordAlgorithmValue;
 use stun_types::message::{
     IntegrityAlgorithm, MessageClass, MessageWriteMutSlice, MessageWriteVec, StunWriteError,
 };
@@ -17,6 +18,16 @@ use stun_types::prelude::*;
 
 /// Below this many allocations each run here has met its last one.
 const MOST_ALLOCATIONS: u64 = 100;
+
+/// A request that the offering server validates by HMAC-SHA1.
+const WEAK_REQUEST: [Part<'static>; 6] = [
+    Part::Nonce(FULL_NONCE),
+    Part::Realm("realm"),
+    Part::Username("user"),
+    Part::List(BOTH),
+    Part::Choice(PasswordAlgorithmValue::MD5),
+    Part::Sha1(&MD5_KEY),
+];
 
 type Heap = RefusingAllocator<Global>;
 
@@ -326,6 +337,25 @@ fn refusals_take_no_memory(rt: HostRuntime) -> Result<(), Fail> {
         UNAUTHORIZED,
     )?;
     assert!(rt; heap.is_waiting());
+    Ok(())
+}
+
+/// A client who is kept already takes no memory. The same user with another algorithm does, and is another client.
+#[test]
+fn a_kept_client_takes_no_memory(rt: HostRuntime) -> Result<(), Fail> {
+    let alloc = rt.alloc();
+    let heap = RefusingAllocator::new(alloc);
+    let mut server = offering_server(alloc, &heap)?;
+    expect_answer(&rt, alloc, &mut server, &FULL_REQUEST, SHA256)?;
+    heap.refuse(1);
+    expect_answer(&rt, alloc, &mut server, &FULL_REQUEST, SHA256)?;
+    expect_answer(&rt, alloc, &mut server, &FULL_REQUEST, SHA256)?;
+    assert!(rt; heap.is_waiting());
+    expect_answer(&rt, alloc, &mut server, &WEAK_REQUEST, OUT_OF_MEMORY)?;
+    assert!(rt; !heap.is_waiting());
+    expect_sizes(&rt, &server, (44, 92));
+    expect_answer(&rt, alloc, &mut server, &WEAK_REQUEST, SHA1)?;
+    expect_sizes(&rt, &server, (24, 72));
     Ok(())
 }
 

@@ -36,4 +36,6 @@ mod spelled;
 #[cfg(test)]
 mod texts;
 #[cfg(test)]
+mod unchecked;
+#[cfg(test)]
 mod words;

@@ -10,6 +10,20 @@ use stun_base::transport::TransportType;
 use stun_types::message::{Message, StunParseError};
 
 #[test]
+fn an_agent_tells_how_it_was_built(rt: HostRuntime) {
+    let builder = StunAgent::builder(rt.alloc(), TransportType::Tcp, local());
+    let agent = builder.remote_addr(peer()).build();
+    assert_eq!(rt; agent.transport(), TransportType::Tcp);
+    assert_eq!(rt;
+        (agent.local_addr(), agent.remote_addr()),
+        (local(), Some(peer()))
+    );
+    let agent = StunAgent::builder(rt.alloc(), TransportType::Udp, peer()).build();
+    assert_eq!(rt; agent.transport(), TransportType::Udp);
+    assert_eq!(rt; (agent.local_addr(), agent.remote_addr()), (peer(), None));
+}
+
+#[test]
 fn a_default_request_is_sent_seven_times(rt: HostRuntime) -> Result<(), Fail> {
     let mut agent = StunAgent::builder(rt.alloc(), TransportType::Udp, local()).build();
     let sent = agent.send_request(message(REQUEST, 1), peer(), at(0))?;

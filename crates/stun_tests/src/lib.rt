@@ -20,6 +20,10 @@ mod attributes;
 #[cfg(test)]
 mod authenticator_first;
 #[cfg(test)]
+mod client_loop;
+#[cfg(test)]
+mod dialogue;
+#[cfg(test)]
 mod digests;
 #[cfg(test)]
 mod drive;
@@ -38,9 +42,15 @@ mod rfc5769;
 #[cfg(test)]
 mod serve;
 #[cfg(test)]
+mod server_loop;
+#[cfg(test)]
 mod spelled;
 #[cfg(test)]
 mod stats;
+#[cfg(test)]
+mod transmit;
+#[cfg(test)]
+mod values;
 #[cfg(test)]
 mod writers;
 #[cfg(test)]

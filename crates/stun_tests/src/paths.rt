@@ -1,29 +1,36 @@
-//! Each public name is reached by its path.
+//! Each public name of `stun_proto` but those of runs is reached by its path there, the door that users have.
 ghost use Rattle.std.specs.Prelude.{◌≡◌, []};
 
 use std::alloc::Global;
 use std::net::{IpAddr, Ipv4Addr, SocketAddr};
 use std::test::Fail;
-use stun_agent::agent::{
+use stun_proto::agent::{
     RequestRto, StunAgent, StunAgentBuilder, StunAgentPollRet, StunError, StunRequest,
     StunRequestMut, Transmit,
 };
-use stun_agent::stats::StunAgentStats;
-use stun_base::instant::Instant;
-use stun_types::TransportType;
-use stun_types::attribute::{
+use stun_proto::auth::{
+    Feature, LONG_TERM_RFC8489_NONCE_COOKIE, LongTermClientAuth, LongTermClientAuthError,
+    LongTermClientAuthErrorReason, LongTermClientValidation, LongTermServerAuth,
+    LongTermServerAuthError, LongTermServerAuthErrorReason, LongTermServerValidation,
+    NonceSecurityBits, ShortTermAuth, minimum_nonce_expiry_duration,
+};
+use stun_proto::prelude::*;
+use stun_proto::replay::WordSource;
+use stun_proto::stats::StunAgentStats;
+use stun_proto::types::TransportType;
+use stun_proto::types::attribute::{
     AttributeType, ErrorCode, ErrorCodeBuilder, MessageIntegrity, MessageIntegritySha256, Nonce,
     PasswordAlgorithm, PasswordAlgorithmValue, PasswordAlgorithms, RawAttribute, Realm, Userhash,
     Username, XorMappedAddress,
 };
-use stun_types::data::{Data, OwnedBytes};
-use stun_types::message::{
+use stun_proto::types::data::{Data, OwnedBytes};
+use stun_proto::types::message::{
     BINDING, IntegrityAlgorithm, IntegrityKey, LongTermCredentials, LongTermKeyCredentials,
     Message, MessageAttributesIter, MessageClass, MessageHeader, MessageIntegrityCredentials,
     MessageType, MessageWriteMutSlice, MessageWriteVec, Method, ShortTermCredentials,
     StunParseError, StunWriteError, TransactionId, ValidateError, hmac_sha1, hmac_sha256,
 };
-use stun_types::prelude::*;
+use stun_proto::{Instant, laws};
 
 /// A Binding request with id 1 and USERNAME `a`.
 const REQUEST: [u8; 28] = [
@@ -157,4 +164,43 @@ fn agents(rt: HostRuntime) -> Result<(), Fail> {
     let settings: RequestRto = RequestRto::default();
     assert_eq!(rt; settings.slots(TransportType::Tcp), 0);
     Ok(())
+}
+
+#[test]
+fn authenticators(rt: HostRuntime) -> Result<(), Fail> {
+    let alloc = rt.alloc();
+    let message = Message::from_bytes(&REQUEST)?;
+    let mut client: LongTermClientAuth = LongTermClientAuth::new(alloc);
+    let told: Result<LongTermClientValidation, LongTermClientAuthError> =
+        client.validate_incoming_message(&message);
+    let reason: Option<LongTermClientAuthErrorReason> = told.err().map(|error| error.reason());
+    assert_eq!(rt;
+        reason,
+        Some(LongTermClientAuthErrorReason::IntegrityFailed)
+    );
+    let mut server: LongTermServerAuth = LongTermServerAuth::new(
+        alloc,
+        String::from_str(alloc, "realm")?,
+    );
+    server.set_nonce_expiry_duration(minimum_nonce_expiry_duration());
+    let here = SocketAddr::new(IpAddr::V4(Ipv4Addr::new(10, 0, 0, 1)), 12345);
+    let mut rng = WordSource::new([0; 16]);
+    let judged: Result<LongTermServerValidation, LongTermServerAuthError> =
+        server.validate_incoming_message(&message, here, Instant::ZERO, &mut rng);
+    let reason: Option<LongTermServerAuthErrorReason> = judged.err().map(|error| error.reason());
+    assert_eq!(rt; reason, Some(LongTermServerAuthErrorReason::Unauthorized));
+    let nonce = server.nonce_for_client(here).ok_or("a nonce was made")?;
+    assert!(rt; nonce.starts_with(LONG_TERM_RFC8489_NONCE_COOKIE));
+    let bits: NonceSecurityBits = NonceSecurityBits::from_nonce(nonce).ok_or("it has bits")?;
+    assert!(rt; bits.username_anonymity());
+    assert_eq!(rt; server.anonymous_username(), Feature::Auto);
+    let mut short: ShortTermAuth = ShortTermAuth::new(alloc);
+    assert_eq!(rt; short.validate_incoming_message(&message), Ok(None));
+    Ok(())
+}
+
+#[test]
+fn laws_of_runs() {
+    laws::runs_are_determined();
+    laws::best_is_strongest();
 }

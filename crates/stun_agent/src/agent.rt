@@ -1,14 +1,23 @@
 //! The agent: requests, their retransmissions and their ends, and the addresses that messages came from.
 //!
-//! A whole loop around an agent, from a request to its response:
+//! A whole loop around an agent and a long-term authenticator, from a request to its response:
 //!
 //! ```text
 //! let mut agent = StunAgent::builder(alloc, TransportType::Udp, local_addr).build();
-//! socket.send(agent.send_request(request, server, clock.now())?);
+//! let mut is_to_ask = true;
 //! loop {
-//!     // Retransmit what is due.
-//!     while let Some(again) = agent.poll_transmit(clock.now()) {
+//!     // Ask, under a new id, signed by what the authenticator knows by now.
+//!     if is_to_ask {
+//!         let id = TransactionId::generate(&mut rng);
+//!         let request = Message::builder_request(BINDING, id, MessageWriteVec::new(alloc))?;
+//!         let request = authenticator.sign_outgoing_message(request)?.finish();
+//!         socket.send(agent.send_request(request, server, clock.now())?);
+//!         is_to_ask = false;
+//!     }
+//!     // Send again what is due, one at a time.
+//!     if let Some(again) = agent.poll_transmit(clock.now()) {
 //!         socket.send(again);
+//!         continue;
 //!     }
 //!     // Learn what has ended, or until when to wait.
 //!     let until = match agent.poll(clock.now()) {
@@ -16,20 +25,30 @@
 //!         StunAgentPollRet::TransactionTimedOut(id) => return Err(no_response(id)),
 //!         StunAgentPollRet::TransactionCancelled(id) => return Err(cancelled(id)),
 //!     };
-//!     // Receive, until then: the authenticator is asked first, and then the agent.
-//!     if let Some((bytes, from)) = socket.receive(until) {
-//!         let message = Message::from_bytes(&bytes)?;
-//!         if authenticator.validate_incoming_message(&message).is_ok()
-//!             && agent.handle_stun_message_with_time(&message, from, clock.now())?
-//!         {
-//!             return Ok(message);
-//!         }
+//!     let Some((bytes, from)) = socket.receive(until) else { continue };
+//!     // Drop what is no message, and what answers no outstanding request.
+//!     let Ok(message) = Message::from_bytes(&bytes) else { continue };
+//!     let id = message.transaction_id();
+//!     if !message.is_response() || agent.request_transaction(id).is_none() { continue }
+//!     // Then the authenticator is asked, and what is forged dropped.
+//!     let verdict = match authenticator.validate_incoming_message(&message) {
+//!         Ok(verdict) => verdict,
+//!         Err(error) if error.reason() == LongTermClientAuthErrorReason::IntegrityFailed => continue,
+//!         Err(error) => return Err(refused(error)),
+//!     };
+//!     // And only then the agent.
+//!     agent.handle_stun_message_with_time(&message, from, clock.now())?;
+//!     match verdict {
+//!         // A challenge: another request answers it.
+//!         LongTermClientValidation::ResendRequest(_) => is_to_ask = true,
+//!         // The server's word, a success or an error.
+//!         LongTermClientValidation::Validated(_) => return Ok(message),
 //!     }
 //! }
 //! ```
 //!
-//! Socket and clock are the caller's. After each call but the getters ask both polls again: `poll_transmit` until
-//! it answers `None`, then `poll`. A test of this repository runs such a loop.
+//! Socket, clock and the source of random words are the caller's. After each call but the getters ask both polls again:
+//! `poll_transmit` until it answers `None`, then `poll`. The test `client_loop` of the crate `stun_tests` runs this loop.
 ghost use Rattle.std.specs.Prelude.{◌≡◌};
 ghost use Rattle.std.specs.Borrow.{sem};
 ghost use Rattle.std.specs.Option.{option_copied, option_copied_mut};

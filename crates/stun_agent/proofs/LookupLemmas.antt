@@ -23,7 +23,7 @@ lookup-map {X} g k (e ∷ es) = by (is_at (nat_cmp k) e.0) refl (lookup-map g k 
     by true is rest = let key : e.0 ≡ k = same_key k e.0 is in ap Some (λ i. g (key i, e.1))
     by false is rest = rest
 
-none_above : {X : Type 0} (k : ℕ) (es : List (ℕ × X)) → AllByRecursion (λ y. nat_cmp k y ≡ Less) (keys_of es) → lookup (is_at (nat_cmp k)) es ≡ None
+pub none_above : {X : Type 0} (k : ℕ) (es : List (ℕ × X)) → AllByRecursion (λ y. nat_cmp k y ≡ Less) (keys_of es) → lookup (is_at (nat_cmp k)) es ≡ None
 none_above k [] a = refl
 none_above {X} k (e ∷ es) a = by (is_at (nat_cmp k) e.0) refl (none_above k es a.1)
   where

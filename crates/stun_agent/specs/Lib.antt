@@ -1,6 +1,7 @@
 pub mod Agent
 pub mod AgentLends
 pub mod Datagrams
+pub mod Deadlines
 pub mod Integrity
 pub mod Laws
 pub mod Peers

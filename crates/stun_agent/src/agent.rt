@@ -55,6 +55,7 @@ ghost use Rattle.std.specs.Option.{option_copied, option_copied_mut};
 ghost use Rattle.stun_agent.specs.Agent.{Agent};
 
 pub use crate::builder::StunAgentBuilder;
+pub use crate::deadlines::Reads;
 pub use crate::error::StunError;
 use crate::outstanding::Outstanding;
 pub use crate::request::{StunRequest, StunRequestMut};

@@ -4,6 +4,8 @@
 pub mod agent;
 mod builder;
 mod counting;
+mod deadlines;
+mod ending;
 mod error;
 mod integrity;
 pub mod laws;

@@ -1,36 +1,46 @@
 //! The requests that wait for their responses.
-ghost use Rattle.std.specs.Prelude.{◌≡◌, [], length, Some, IfSome, OnOk, OnErr};
+ghost use Rattle.std.specs.Prelude.{◌≡◌, ◌+◌, ◌≤◌, [], length, Some, None, IfSome, OnOk, OnErr};
 ghost use Rattle.std.specs.Option.{option_map, option_copied, is_some};
+ghost use Rattle.stun_agent.specs.Deadlines.{is_later, early_requests};
 ghost use Rattle.stun_agent.specs.Timing.{settings_of};
 ghost use Rattle.stun_agent.specs.Transactions.{repeats, contents, AreKept, at, with, without, changed, silenced, cancelled, configured, first_over, wake_up, next_awaited, next_sent, after_slots, IsNamed};
 
+use crate::deadlines::{DeadlineIndex, Reads};
+use crate::ending;
 use crate::rto::RequestRto;
 use crate::transaction::Transaction;
 use crate::transactions::{self, Transactions};
 use std::alloc::{AllocError, Allocator, Global};
 use std::collections::BTreeMap;
 use std::marker::Model;
+use std::sync::ledger::Ledger;
+use std::time::Duration;
 use stun_base::instant::Instant;
 use stun_base::transaction_id::TransactionId;
 use stun_base::transport::TransportType;
 
-/// The requests that wait for their responses, by their ids, and the transport that carries them.
+/// An agent asks to be polled at least so often.
+const LONGEST_WAIT_SECONDS: u64 = 3600;
+
+/// The requests that wait for their responses, by their ids, the transport that carries them, and what they await,
+/// by the moments. A contract sees the requests and the transport.
 #[derive(Drop)]
 #[derive_where(Debug)]
 pub(crate) struct Outstanding<A: Allocator = Global> {
     transport: TransportType,
     requests: Transactions<A>,
+    deadlines: DeadlineIndex<A>,
 }
 
 impl<A: Allocator> Model for Outstanding<A> {
-    ghost use Rattle.std.specs.List.{AllByRecursion};
-    ghost use Rattle.stun_agent.specs.Transactions.{Outstanding, IsNamed};
+    ghost use Rattle.stun_agent.specs.Deadlines.{AreIndexed};
+    ghost use Rattle.stun_agent.specs.Transactions.{Outstanding};
 
     ghost Value = { Outstanding };
 
     ghost view = { λ o. record { transport = o.transport; requests = o.requests.entries } };
 
-    ghost invariant = { λ o. AllByRecursion IsNamed o.requests.entries };
+    ghost invariant = { λ o. AreIndexed o.transport o.requests.entries o.deadlines };
 }
 
 impl<A: Allocator + Copy> Outstanding<A> {
@@ -40,6 +50,7 @@ impl<A: Allocator + Copy> Outstanding<A> {
         Outstanding {
             transport,
             requests: BTreeMap::new(alloc),
+            deadlines: DeadlineIndex::new(alloc),
         }
     }
 
@@ -61,13 +72,20 @@ impl<A: Allocator + Copy> Outstanding<A> {
         id: TransactionId,
         request: Transaction<A>,
     ) -> Result<(), AllocError>
-        requires { IsNamed (id, request) }
+        requires named { IsNamed (id, request) }
+        requires absent { at id self.old.requests ≡ None }
         ensures ok { OnOk result (self.new ≡ record self.old { requests = with id request self.old.requests }) }
         ensures there { OnOk result (at id self.new.requests ≡ Some request) }
         ensures err { OnErr result (self.new ≡ self.old) }
     {
-        self.requests.insert(id, request)?;
-        Ok(())
+        self.deadlines.insert(request.deadline(id, self.transport))?;
+        match self.requests.insert(id, request) {
+            Ok(_absent) => Ok(()),
+            Err(_refused) => {
+                self.deadlines.remove(id);
+                Err(AllocError)
+            }
+        }
     }
 
     /// Takes a request out.
@@ -75,21 +93,34 @@ impl<A: Allocator + Copy> Outstanding<A> {
         ensures answer { result ≡ at id self.old.requests }
         ensures after { self.new ≡ record self.old { requests = without id self.old.requests } }
     {
+        let _count = self.requests.len();
+        self.deadlines.remove(id);
         self.requests.remove(&id)
     }
 
-    /// The id of the request that is to end, and whether it was still sent again.
-    pub(crate) fn first_over(&self, now: Instant) -> Option<(TransactionId, bool)>
-        ensures { result ≡ option_map (λ e. (e.0, repeats e.1.sending)) (first_over self.now.transport now self.now.requests) }
+    /// The id of the request that is to end, and whether it was still sent again. The deadlines alone decide, and
+    /// those that are read are counted.
+    pub(crate) fn first_over<L: Ledger>(
+        &self,
+        now: Instant,
+        reads: &mut Reads<L>,
+    ) -> Option<(TransactionId, bool)>
+        ensures answer { result ≡ option_map (λ e. (e.0, repeats e.1.sending)) (first_over self.now.transport now self.now.requests) }
+        ensures work { reads.new ≤ reads.old + early_requests self.now.transport now self.now.requests + 1 }
     {
-        transactions::first_over(&self.requests, self.transport, now)
+        let _count = self.requests.len();
+        let ended = ending::least_ended(&self.deadlines, now, reads);
+        transactions::with_repeats(&self.requests, ended)
     }
 
     /// When to poll again, where nothing is over.
     pub(crate) fn wake_up(&self, now: Instant) -> Instant
+        requires { first_over self.now.transport now self.now.requests ≡ None }
         ensures { result ≡ wake_up self.now.transport now self.now.requests }
     {
-        transactions::wake_up(&self.requests, self.transport, now)
+        let _count = self.requests.len();
+        let longest = now + Duration::from_secs(LONGEST_WAIT_SECONDS);
+        now.max(transactions::sooner(self.deadlines.earliest(), longest))
     }
 
     /// The least moment that a request which is not cancelled awaits.
@@ -108,7 +139,11 @@ impl<A: Allocator + Copy> Outstanding<A> {
         ensures request { IfSome (next_sent self.old.transport now self.old.requests) IsNamed }
         ensures kept { IfSome result (λ s. option_map contents (at s.0 self.new.requests) ≡ option_map (λ e. contents e.1) (next_sent self.old.transport now self.old.requests)) }
     {
-        transactions::pass_due_slots(&mut self.requests, self.transport, now)
+        let _count = self.requests.len();
+        if is_later(self.deadlines.earliest(), now) {
+            return None;
+        }
+        transactions::pass_due_slots(&mut self.requests, &mut self.deadlines, self.transport, now)
     }
 
     /// Stops the retransmissions of a request, where it is there.
@@ -116,6 +151,7 @@ impl<A: Allocator + Copy> Outstanding<A> {
         ensures { self.new ≡ record self.old { requests = changed silenced id self.old.requests } }
     {
         transactions::cancel_retransmissions(&mut self.requests, id);
+        transactions::renew(&mut self.deadlines, &self.requests, self.transport, id);
     }
 
     /// Lets a request end at the next poll that reaches it, where it is there.
@@ -123,6 +159,7 @@ impl<A: Allocator + Copy> Outstanding<A> {
         ensures { self.new ≡ record self.old { requests = changed cancelled id self.old.requests } }
     {
         transactions::cancel(&mut self.requests, id);
+        transactions::renew(&mut self.deadlines, &self.requests, self.transport, id);
     }
 
     /// Replaces the timeouts of a request, where it is there.
@@ -130,5 +167,16 @@ impl<A: Allocator + Copy> Outstanding<A> {
         ensures { self.new ≡ record self.old { requests = changed (configured (settings_of settings)) id self.old.requests } }
     {
         transactions::configure(&mut self.requests, id, settings);
+        transactions::renew(&mut self.deadlines, &self.requests, self.transport, id);
+    }
+}
+
+// Whether no moment is at most `now`.
+fn is_later(first: Option<Instant>, now: Instant) -> bool
+    ensures { result ≡ is_later first now }
+{
+    match first {
+        Some(moment) => now < moment,
+        None => true,
     }
 }

@@ -1,15 +1,19 @@
 //! Ends and retransmissions.
-ghost use Rattle.std.specs.Prelude.{◌≡◌, IfSome};
+ghost use Rattle.std.specs.Prelude.{◌≡◌, ◌+◌, ◌≤◌, ◌<◌, IfSome};
 ghost use Rattle.std.specs.Borrow.{sem};
 ghost use Rattle.std.specs.Option.{option_map};
 ghost use Rattle.stun_agent.specs.Agent.{poll_answer, after_poll, sent_by_poll, after_poll_transmit, datagram_of};
 ghost use Rattle.stun_agent.specs.Datagrams.{lent_datagram};
+ghost use Rattle.stun_agent.specs.Deadlines.{early_requests};
 ghost use Rattle.stun_agent.specs.Transactions.{IsNamed, AreKept, next_awaited, contents, at};
 
 use crate::agent::{StunAgent, StunAgentPollRet};
 use crate::counting;
+use crate::deadlines::Reads;
 use crate::transmit::Transmit;
 use std::alloc::Allocator;
+use std::marker::Brand;
+use std::sync::ledger::{Blank, Ledger};
 use stun_base::instant::Instant;
 use stun_base::transaction_id::TransactionId;
 
@@ -23,7 +27,21 @@ impl<A: Allocator + Copy> StunAgent<A> {
         ensures answer { result ≡ poll_answer now self.old }
         ensures after { self.new ≡ after_poll now self.old }
     {
-        match self.outstanding.first_over(now) {
+        self.poll_from::<Brand>(now, Blank::new(1))
+    }
+
+    /// As `poll`, and counts the deadlines that are read to find what ends: at most one more than there are requests
+    /// that are cancelled or await at most `now`. The count takes no bytes, and contracts alone see it.
+    pub fn poll_counted<L: Ledger>(
+        &mut self,
+        now: Instant,
+        reads: &mut Reads<L>,
+    ) -> StunAgentPollRet
+        ensures answer { result ≡ poll_answer now self.old }
+        ensures after { self.new ≡ after_poll now self.old }
+        ensures work { reads.new ≤ reads.old + early_requests self.old.transport now self.old.transactions + 1 }
+    {
+        match self.outstanding.first_over(now, reads) {
             Some((id, repeats)) => {
                 let _ended = self.outstanding.remove(id);
                 counting::count_end(&mut self.stats, repeats);
@@ -35,6 +53,18 @@ impl<A: Allocator + Copy> StunAgent<A> {
             }
             None => StunAgentPollRet::WaitUntil(self.outstanding.wake_up(now)),
         }
+    }
+
+    // As `poll_counted`, with a count of its own.
+    fn poll_from<L: Ledger>(&mut self, now: Instant, blank: Blank) -> StunAgentPollRet
+        requires name { blank.name ≡ L.name }
+        requires parts { blank.parts ≡ L.parts }
+        requires some { 0 < blank.parts }
+        ensures answer { result ≡ poll_answer now self.old }
+        ensures after { self.new ≡ after_poll now self.old }
+    {
+        let mut reads = Reads::<L>::new(blank);
+        self.poll_counted(now, &mut reads)
     }
 
     /// The least moment that a request which is not cancelled awaits, to be sent again or to end, if there is any.

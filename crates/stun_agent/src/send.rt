@@ -106,6 +106,7 @@ impl<A: Allocator + Copy> StunAgent<A> {
     fn id_to_ask(&self, bytes: &[u8]) -> Result<TransactionId, StunError>
         ensures answer { MatchOption (request_refusal self.now bytes.now) (result ≡ Ok (transaction_id_field bytes.now)) (λ error. result ≡ Err error) }
         ensures request { IfOk result (λ id. IsRequestOf id bytes.now) }
+        ensures absent { IfOk result (λ id. at id self.now.transactions ≡ None) }
     {
         let header = MessageHeader::from_bytes(bytes)?;
         if header.get_type().class() != MessageClass::Request {

@@ -1,8 +1,10 @@
 //! A request that waits for its response.
 ghost use Rattle.std.specs.Prelude.{◌≡◌, IsTrue};
+ghost use Rattle.stun_agent.specs.Deadlines.{deadline_of};
 ghost use Rattle.stun_agent.specs.Timing.{settings_of};
 ghost use Rattle.stun_agent.specs.Transactions.{repeats, is_cancelled, after_silence, new_transaction, silenced, cancelled, configured, has_slots, awaited, is_due, is_over, is_reached, after_slot, slot_passed, round_trip};
 
+use crate::deadlines::{Deadline, DeadlineKind};
 use crate::rto::RequestRto;
 use std::alloc::{Allocator, Global};
 use std::marker::Model;
@@ -182,6 +184,57 @@ impl<A: Allocator> Transaction<A> {
         self.is_cancelled() || !self.has_slots(transport) && self.awaited(transport) <= now
     }
 
+    /// What it awaits, under its id.
+    pub(crate) fn deadline(&self, id: TransactionId, transport: TransportType) -> Deadline
+        ensures { result ≡ deadline_of transport (id, self.now) }
+    {
+        if self.is_cancelled() {
+            return Deadline {
+                moment: Instant::ZERO,
+                id,
+                kind: DeadlineKind::Cancelled,
+            };
+        }
+        let kind = if self.has_slots(transport) {
+            DeadlineKind::Slot
+        } else {
+            DeadlineKind::End
+        };
+        Deadline {
+            moment: self.awaited(transport),
+            id,
+            kind,
+        }
+    }
+
+    /// What it awaits once it has taken the slot that is due.
+    pub(crate) fn deadline_after_slot(
+        &self,
+        id: TransactionId,
+        transport: TransportType,
+        now: Instant,
+    ) -> Deadline
+        requires { IsTrue (is_due transport now self.now) }
+        ensures { result ≡ deadline_of transport (id, after_slot now self.now) }
+    {
+        let slots = self.settings.slots(transport);
+        prove!(self.slot < slots);
+        let slot = self.slot + 1;
+        if slot < slots {
+            Deadline {
+                moment: now + self.settings.timeout(slot),
+                id,
+                kind: DeadlineKind::Slot,
+            }
+        } else {
+            Deadline {
+                moment: now + self.settings.final_wait(transport),
+                id,
+                kind: DeadlineKind::End,
+            }
+        }
+    }
+
     /// Takes its slot, where it is due and its id is not past the one that is sent.
     pub(crate) fn pass_slot(
         &mut self,
@@ -208,7 +261,8 @@ impl<A: Allocator> Transaction<A> {
     }
 }
 
-fn is_reached(sent: Option<TransactionId>, id: TransactionId) -> bool
+/// Whether an id is up to the one that is sent, as any id is where none is.
+pub(crate) fn is_reached(sent: Option<TransactionId>, id: TransactionId) -> bool
     ensures { result ≡ is_reached sent id }
 {
     match sent {

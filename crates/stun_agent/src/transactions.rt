@@ -1,54 +1,38 @@
-//! Walks over the outstanding requests, by ascending id.
-ghost use Rattle.std.specs.Prelude.{◌≡◌, length, Some, IfSome};
+//! Walks over the outstanding requests, by ascending id, and what becomes of their deadlines.
+ghost use Rattle.std.specs.Prelude.{◌≡◌, length, Some, None, IfSome, MatchOption};
 ghost use Rattle.std.specs.Ordering.{nat_cmp};
 ghost use Rattle.std.specs.BTreeMap.{get, IsOrdered};
 ghost use Rattle.std.specs.Option.{option_map};
+ghost use Rattle.std.specs.List.Sorted.{IsNonDecreasingBy};
+ghost use Rattle.stun_agent.specs.Deadlines.{IsIndexOf, IsMoved, IsRenewed};
 ghost use Rattle.stun_agent.specs.Timing.{settings_of};
-ghost use Rattle.stun_agent.specs.Transactions.{repeats, first_over, wake_up, sooner, next_awaited, next_sent, after_slots, contents, changed, silenced, cancelled, configured};
+ghost use Rattle.stun_agent.specs.Transactions.{repeats, at, sooner, next_awaited, next_sent, after_slots, contents, changed, silenced, cancelled, configured};
 
+use crate::deadlines::DeadlineIndex;
 use crate::rto::RequestRto;
-use crate::transaction::Transaction;
+use crate::transaction::{Transaction, is_reached};
 use std::alloc::Allocator;
 use std::collections::BTreeMap;
-use std::time::Duration;
 use stun_base::instant::Instant;
 use stun_base::transaction_id::TransactionId;
 use stun_base::transport::TransportType;
 
-/// An agent asks to be polled at least so often.
-const LONGEST_WAIT_SECONDS: u64 = 3600;
-
 pub(crate) type Transactions<A> = BTreeMap<TransactionId, Transaction<A>, A>;
 
-/// The id of the transaction that is to end, and whether it was still sent again.
-pub(crate) fn first_over<A: Allocator>(
+/// The transaction of an id that is told, with whether it is still sent again.
+pub(crate) fn with_repeats<A: Allocator>(
     all: &Transactions<A>,
-    transport: TransportType,
-    now: Instant,
+    told: Option<TransactionId>,
 ) -> Option<(TransactionId, bool)>
-    ensures { result ≡ option_map (λ e. (e.0, repeats e.1.sending)) (first_over transport now all.now.entries) }
+    ensures { MatchOption told (result ≡ None) (λ id. result ≡ option_map (λ t. (id, repeats t.sending)) (at id all.now.entries)) }
 {
-    for (id, transaction) in all {
-        if transaction.is_over(transport, now) {
-            return Some((*id, transaction.sending().repeats()));
+    match told {
+        Some(id) => {
+            let transaction = all.get(&id)?;
+            Some((id, transaction.sending().repeats()))
         }
+        None => None,
     }
-    None
-}
-
-/// When to poll again, where nothing is over.
-pub(crate) fn wake_up<A: Allocator>(
-    all: &Transactions<A>,
-    transport: TransportType,
-    now: Instant,
-) -> Instant
-    ensures { result ≡ wake_up transport now all.now.entries }
-{
-    let mut least = now + Duration::from_secs(LONGEST_WAIT_SECONDS);
-    for (_, transaction) in all {
-        least = least.min(transaction.awaited(transport));
-    }
-    now.max(least)
 }
 
 /// The least moment that a transaction which is not cancelled awaits.
@@ -67,7 +51,8 @@ pub(crate) fn next_awaited<A: Allocator>(
     least
 }
 
-fn sooner(least: Option<Instant>, moment: Instant) -> Instant
+/// The lesser of a moment that may be there and another one.
+pub(crate) fn sooner(least: Option<Instant>, moment: Instant) -> Instant
     ensures { Some result ≡ sooner least moment }
 {
     match least {
@@ -80,22 +65,61 @@ fn sooner(least: Option<Instant>, moment: Instant) -> Instant
 /// it has.
 pub(crate) fn pass_due_slots<A: Allocator>(
     all: &mut Transactions<A>,
+    deadlines: &mut DeadlineIndex<A>,
     transport: TransportType,
     now: Instant,
 ) -> Option<(TransactionId, usize)>
+    requires { IsIndexOf transport all.old.entries deadlines.old }
     ensures sent { result ≡ option_map (λ e. (e.0, length e.1.bytes)) (next_sent transport now all.old.entries) }
     ensures after { all.new.entries ≡ after_slots transport now (option_map (λ s. s.0) result) all.old.entries }
     ensures kept { IfSome result (λ s. option_map contents (get nat_cmp all.new s.0) ≡ option_map (λ e. contents e.1) (next_sent transport now all.old.entries)) }
+    ensures index { IsIndexOf transport all.new.entries deadlines.new }
 {
     match next_sent(all, transport, now) {
         Some((id, length)) => {
+            move_deadlines(deadlines, all, transport, now, &Some(id));
             pass_slots(all, transport, now, Some(id));
             Some((id, length))
         }
         None => {
+            move_deadlines(deadlines, all, transport, now, &None);
             pass_slots(all, transport, now, None);
             None
         }
+    }
+}
+
+// The deadlines that stand once `pass_slots` is done.
+fn move_deadlines<A: Allocator>(
+    deadlines: &mut DeadlineIndex<A>,
+    all: &Transactions<A>,
+    transport: TransportType,
+    now: Instant,
+    sent: &Option<TransactionId>,
+)
+    requires { IsIndexOf transport all.now.entries deadlines.old }
+    ensures { IsIndexOf transport (after_slots transport now sent.now all.now.entries) deadlines.new }
+{
+    let _count = all.len();
+    for (id, transaction) in all {
+        move_deadline(deadlines, *id, transaction, transport, now, sent);
+    }
+}
+
+// The deadline of one that takes its slot.
+fn move_deadline<A: Allocator>(
+    deadlines: &mut DeadlineIndex<A>,
+    id: TransactionId,
+    transaction: &Transaction<A>,
+    transport: TransportType,
+    now: Instant,
+    sent: &Option<TransactionId>,
+)
+    requires { IsNonDecreasingBy (λ d. d.moment) deadlines.old }
+    ensures { IsMoved transport now sent.now (id, transaction.now) deadlines.old deadlines.new }
+{
+    if is_reached(*sent, id) && transaction.is_due(transport, now) {
+        deadlines.replace(transaction.deadline_after_slot(id, transport, now));
     }
 }
 
@@ -158,5 +182,20 @@ pub(crate) fn configure<A: Allocator>(
 {
     if let Some(transaction) = all.get_mut(&id) {
         transaction.configure(settings);
+    }
+}
+
+/// Puts what the transaction at an id awaits now in place of what it awaited, where there is one.
+pub(crate) fn renew<A: Allocator>(
+    deadlines: &mut DeadlineIndex<A>,
+    all: &Transactions<A>,
+    transport: TransportType,
+    id: TransactionId,
+)
+    requires { IsNonDecreasingBy (λ d. d.moment) deadlines.old }
+    ensures { IsRenewed transport id all.now.entries deadlines.old deadlines.new }
+{
+    if let Some(transaction) = all.get(&id) {
+        deadlines.replace(transaction.deadline(id, transport));
     }
 }

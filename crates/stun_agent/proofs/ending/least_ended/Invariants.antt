@@ -1,0 +1,12 @@
+use Rattle.std.proofs.Common.{◌≡◌, ◌+◌, ◌≤◌, drop}
+use Rattle.std.specs.Prelude.{fold, map, filter}
+use Rattle.stun_agent.specs.Deadlines.{least_ended, has_ended, early}
+use Rattle.stun_agent.specs.Transactions.{sooner}
+use Rattle.stun_agent.proofs.ending.least_ended.Given as goal
+
+-- `least` is the least so far, and each entry that was read awaits at most `now`
+abbrev pub invariant-loop-i : goal.invariant-loop-i
+invariant-loop-i g l = record {
+  answer : least_ended l.now l.index ≡ fold sooner l.least (map (λ d. d.id) (filter (has_ended l.now) (drop l.i l.index)));
+  work : l.reads + early l.now (drop l.i l.index) ≤ l.initial.reads + early l.now l.index;
+}

@@ -1,0 +1,171 @@
+//! What outstanding requests await, in the order of the moments.
+ghost use Rattle.std.specs.Prelude.{◌≡◌, [], ◌+◌, ◌<◌, length, slice_get, Some, OnOk, OnErr};
+ghost use Rattle.std.specs.List.Sorted.{IsNonDecreasingBy};
+ghost use Rattle.stun_agent.specs.Deadlines.{earliest, without_entry, IsPlace, IsPlaced, IsReplaced};
+
+use std::alloc::{AllocError, Allocator, Global};
+use std::marker::Model;
+use std::sync::ledger::{Blank, Book, Ledger, Share};
+use stun_base::instant::Instant;
+use stun_base::transaction_id::TransactionId;
+
+/// How many entries of an index were read. It takes no bytes, and only `DeadlineIndex::entry` changes it.
+#[derive(Drop)]
+pub struct Reads<L: Ledger> {
+    book: Book<L>,
+    share: Share<L>,
+}
+
+impl<L: Ledger> Model for Reads<L> {
+    ghost use Rattle.std.specs.Prelude.{ℕ, ◌<◌};
+
+    ghost Value = { ℕ };
+
+    ghost view = { λ s. s.book.total };
+
+    ghost invariant = { λ s. 0 < s.share.parts };
+}
+
+impl<L: Ledger> Reads<L> {
+    /// A count of a ledger that nobody has used.
+    pub fn new(blank: Blank) -> Self
+        requires name { blank.name ≡ L.name }
+        requires parts { blank.parts ≡ L.parts }
+        requires some { 0 < blank.parts }
+        ensures { result ≡ 0 }
+    {
+        let (book, share) = blank.open();
+        Reads { book, share }
+    }
+
+    fn tick(&mut self)
+        ensures { self.new ≡ self.old + 1 }
+    {
+        self.book.add(&mut self.share, 1);
+    }
+}
+
+/// What a request awaits.
+#[derive(Clone, Copy, Debug, PartialEq, Eq)]
+pub(crate) enum DeadlineKind {
+    /// It is to be sent again, or would be if it were not silent.
+    Slot,
+    /// Its last wait ends.
+    End,
+    /// It is cancelled, and ends at the next poll that reaches it.
+    Cancelled,
+}
+
+/// The moment that a request awaits. A cancelled one awaits moment zero.
+#[derive(Clone, Copy, Debug, PartialEq, Eq)]
+pub(crate) struct Deadline {
+    pub(crate) moment: Instant,
+    pub(crate) id: TransactionId,
+    pub(crate) kind: DeadlineKind,
+}
+
+/// Deadlines by ascending moments.
+#[derive(Drop)]
+#[derive_where(Debug)]
+pub(crate) struct DeadlineIndex<A: Allocator = Global> {
+    entries: Vec<Deadline, A>,
+}
+
+impl<A: Allocator> Model for DeadlineIndex<A> {
+    ghost use Rattle.std.specs.Prelude.{List};
+    ghost use Rattle.stun_agent.specs.declared.deadlines.Deadline.{Deadline};
+
+    ghost Value = { List Deadline };
+
+    ghost view = { λ index. index.entries.items };
+}
+
+impl<A: Allocator> DeadlineIndex<A> {
+    pub(crate) fn new(alloc: A) -> Self
+        ensures { result ≡ [] }
+    {
+        DeadlineIndex {
+            entries: Vec::new(alloc),
+        }
+    }
+
+    pub(crate) fn len(&self) -> usize
+        ensures { result ≡ length self.now }
+    {
+        self.entries.len()
+    }
+
+    /// The only way to an entry, and it is counted.
+    pub(crate) fn entry<L: Ledger>(&self, i: usize, reads: &mut Reads<L>) -> Deadline
+        requires { i < length self.now }
+        ensures value { slice_get self.now i ≡ Some result }
+        ensures count { reads.new ≡ reads.old + 1 }
+    {
+        reads.tick();
+        self.entries[i]
+    }
+
+    /// The first moment, and nothing of whose it is. It is not counted.
+    pub(crate) fn earliest(&self) -> Option<Instant>
+        ensures { result ≡ earliest self.now }
+    {
+        if self.entries.is_empty() {
+            None
+        } else {
+            Some(self.entries[0].moment)
+        }
+    }
+
+    /// Puts a deadline at its place. Where memory is refused, nothing changes.
+    pub(crate) fn insert(&mut self, deadline: Deadline) -> Result<(), AllocError>
+        requires { IsNonDecreasingBy (λ d. d.moment) self.old }
+        ensures ok { OnOk result (IsPlaced deadline self.old self.new) }
+        ensures err { OnErr result (self.new ≡ self.old) }
+    {
+        let place = place(&self.entries, deadline.moment);
+        match self.entries.insert(place, deadline) {
+            Ok(()) => Ok(()),
+            Err(_refused) => Err(AllocError),
+        }
+    }
+
+    /// Takes out the deadline of a request.
+    pub(crate) fn remove(&mut self, id: TransactionId)
+        ensures { self.new ≡ without_entry id self.old }
+    {
+        self.entries.retain(|deadline| deadline.id != id);
+    }
+
+    /// Puts another deadline of a request in place of the one that it has. Takes no memory.
+    pub(crate) fn replace(&mut self, deadline: Deadline)
+        requires { IsNonDecreasingBy (λ d. d.moment) self.old }
+        ensures { IsReplaced deadline self.old self.new }
+    {
+        replace(&mut self.entries, deadline);
+    }
+}
+
+// Behind all that are not later.
+fn place(entries: &[Deadline], moment: Instant) -> usize
+    requires { IsNonDecreasingBy (λ d. d.moment) entries.now }
+    ensures { IsPlace moment entries.now result }
+{
+    entries.partition_point(|deadline| deadline.moment <= moment)
+}
+
+// What is taken out leaves the room for what is put in.
+fn replace<A: Allocator>(entries: &mut Vec<Deadline, A>, deadline: Deadline)
+    requires { IsNonDecreasingBy (λ d. d.moment) entries.old.items }
+    ensures { IsReplaced deadline entries.old.items entries.new.items }
+{
+    let id = deadline.id;
+    let count = entries.len();
+    entries.retain(|entry| entry.id != id);
+    if entries.len() < count {
+        let place = place(entries, deadline.moment);
+        match entries.insert(place, deadline) {
+            Ok(()) => {}
+            Err(_refused) => unreachable!(),
+        }
+    }
+}

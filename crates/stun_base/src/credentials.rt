@@ -3,7 +3,7 @@
 ghost use Rattle.std.specs.Prelude.{◌≡◌, ◌≤◌, length, IfOk, IsOk, Some, codes, string_bytes};
 ghost use Rattle.std.specs.Cmp.{partial_equiv_from_equiv};
 ghost use Rattle.stun_base.specs.Credentials.{same_text, same_user, same_text_equivalence, same_user_equivalence};
-ghost use Rattle.stun_base.specs.Keys.{short_term_key, long_term_key_of};
+ghost use Rattle.stun_base.specs.Keys.{long_term_key_of};
 
 use crate::algorithm::IntegrityAlgorithm;
 use crate::key::{self, IntegrityKey};

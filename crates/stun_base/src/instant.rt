@@ -2,7 +2,7 @@
 
 ghost use Rattle.std.specs.Prelude.{◌≡◌, ◌-◌};
 ghost use Rattle.std.specs.Duration.{as_nanos};
-ghost use Rattle.stun_base.specs.Moments.{last_moment, moment_after};
+ghost use Rattle.stun_base.specs.Moments.{moment_after};
 
 use std::marker::Model;
 use std::ops::{Add, Sub};

@@ -15,7 +15,7 @@ pub enum Refusal {
     NotStun,
     /// -3: bytes stand behind the end of the message.
     TooLarge,
-    /// -4: the message has no integrity attribute that counts.
+    /// -4: the message has no visible integrity attribute.
     NoIntegrity,
     /// -5: the integrity attribute that decides has a wrong length.
     MalformedIntegrity,

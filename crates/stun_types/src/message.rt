@@ -1,5 +1,5 @@
 //! Messages: read from bytes, and begun in a writer.
-ghost use Rattle.std.specs.Prelude.{◌≡◌, ◌+◌, ◌^◌, ◌<◌, ◌↔◌, ◌≤◌, length, [], IsTrue, IsOk, IfOk, OnOk, IfErr, IfSome, IsErrOf, IsOkUnless, MatchOption, Some, None, ⊤};
+ghost use Rattle.std.specs.Prelude.{◌≡◌, ◌+◌, ◌^◌, ◌<◌, ◌↔◌, ◌≤◌, length, [], IsTrue, IsOk, IfOk, OnOk, IfErr, IsErrOf, IsOkUnless, MatchOption, Some, None, ⊤};
 ghost use Rattle.std.specs.Cmp.{partial_equiv_from_equiv};
 ghost use Rattle.stun_base.specs.Credentials.{same_text, same_text_equivalence};
 ghost use Rattle.stun_base.specs.Header.{HEADER_LENGTH as header_length, type_field, transaction_id_field};

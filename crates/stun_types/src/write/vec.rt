@@ -1,6 +1,6 @@
 //! Messages in memory that grows.
 
-ghost use Rattle.std.specs.Prelude.{◌≡◌, [], IfOk};
+ghost use Rattle.std.specs.Prelude.{◌≡◌, []};
 ghost use Rattle.stun_types.specs.WriteVec.{Written};
 
 use crate::write::{MAX_DATA_LENGTH, MessageWrite};

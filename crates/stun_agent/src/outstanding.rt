@@ -93,6 +93,7 @@ impl<A: Allocator + Copy> Outstanding<A> {
         ensures answer { result ≡ at id self.old.requests }
         ensures after { self.new ≡ record self.old { requests = without id self.old.requests } }
     {
+        // For the proof: a map that is asked tells that it is ordered.
         let _count = self.requests.len();
         self.deadlines.remove(id);
         self.requests.remove(&id)
@@ -108,6 +109,7 @@ impl<A: Allocator + Copy> Outstanding<A> {
         ensures answer { result ≡ option_map (λ e. (e.0, repeats e.1.sending)) (first_over self.now.transport now self.now.requests) }
         ensures work { reads.new ≤ reads.old + early_requests self.now.transport now self.now.requests + 1 }
     {
+        // For the proof: a map that is asked tells that it is ordered.
         let _count = self.requests.len();
         let ended = ending::least_ended(&self.deadlines, now, reads);
         transactions::with_repeats(&self.requests, ended)
@@ -118,6 +120,7 @@ impl<A: Allocator + Copy> Outstanding<A> {
         requires { first_over self.now.transport now self.now.requests ≡ None }
         ensures { result ≡ wake_up self.now.transport now self.now.requests }
     {
+        // For the proof: a map that is asked tells that it is ordered.
         let _count = self.requests.len();
         let longest = now + Duration::from_secs(LONGEST_WAIT_SECONDS);
         now.max(transactions::sooner(self.deadlines.earliest(), longest))
@@ -128,6 +131,7 @@ impl<A: Allocator + Copy> Outstanding<A> {
         ensures least { result ≡ next_awaited self.now.transport self.now.requests }
         ensures kept { AreKept self.now.requests }
     {
+        // For the proof: a map that is asked tells that it is ordered.
         let _count = self.requests.len();
         transactions::next_awaited(&self.requests, self.transport)
     }
@@ -139,6 +143,7 @@ impl<A: Allocator + Copy> Outstanding<A> {
         ensures request { IfSome (next_sent self.old.transport now self.old.requests) IsNamed }
         ensures kept { IfSome result (λ s. option_map contents (at s.0 self.new.requests) ≡ option_map (λ e. contents e.1) (next_sent self.old.transport now self.old.requests)) }
     {
+        // For the proof: a map that is asked tells that it is ordered.
         let _count = self.requests.len();
         if is_later(self.deadlines.earliest(), now) {
             return None;

@@ -100,6 +100,7 @@ fn move_deadlines<A: Allocator>(
     requires { IsIndexOf transport all.now.entries deadlines.old }
     ensures { IsIndexOf transport (after_slots transport now sent.now all.now.entries) deadlines.new }
 {
+    // For the proof: a map that is asked tells that it is ordered.
     let _count = all.len();
     for (id, transaction) in all {
         move_deadline(deadlines, *id, transaction, transport, now, sent);

@@ -199,8 +199,8 @@ impl<A: Allocator> LongTermClientAuth<A> {
     }
 
     /// Signs a message of which the caller knows that nothing but want of memory refuses it: it has no integrity attribute
-    /// and none that signing adds, names and realm are within their limits, and writer and length field have room for
-    /// what is added. The message is the one that `sign_outgoing_message` gives.
+    /// and none that signing adds, name, realm and nonce are within their limits (a nonce that was read is), and writer and
+    /// length field have room for what is added. The message is the one that `sign_outgoing_message` gives.
     pub fn sign_outgoing_message_unchecked<W: MessageWrite>(
         &mut self,
         writer: W,

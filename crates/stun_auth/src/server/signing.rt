@@ -84,8 +84,9 @@ impl<A: Allocator + Copy> LongTermServerAuth<A> {
     }
 
     /// Signs a message of which the caller knows that nothing but want of memory refuses it: it has no integrity attribute
-    /// and none that signing adds, the realm is within its limit, writer and length field have room for what is added, and
-    /// the client's user and key are still there. The message is the one that `sign_outgoing_message` gives.
+    /// and none that signing adds, realm and nonce are within their limits of 763 bytes (the server's own nonces are), writer
+    /// and length field have room for what is added, and the client's user and key are still there. The message is the one
+    /// that `sign_outgoing_message` gives.
     pub fn sign_outgoing_message_unchecked<W: MessageWrite>(
         &mut self,
         writer: W,

@@ -40,6 +40,7 @@ pub fn drive<A: Allocator + Copy>(
     ensures plans { IfOk result (λ steps. KeepPlans until agent.old events.now (steps_of steps.items)) }
     ensures stopped { IfErr result (λ stopped. HasBegun until stopped.done agent.old events.now agent.new) }
 {
+    // For the proof: its clause `kept` says that ids ascend, and each request stands under its own.
     let _awaited = agent.next_awaited();
     let mut steps = Vec::new(alloc);
     if events.is_empty() {

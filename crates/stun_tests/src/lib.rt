@@ -22,6 +22,8 @@ mod authenticator_first;
 #[cfg(test)]
 mod client_loop;
 #[cfg(test)]
+mod counted_polls;
+#[cfg(test)]
 mod dialogue;
 #[cfg(test)]
 mod digests;

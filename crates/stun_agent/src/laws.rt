@@ -1,9 +1,13 @@
 //! What holds of an agent whatever is done to it. Moments may go back, and calls may come in any order.
-ghost use Rattle.std.specs.Prelude.{◌≡◌, ◌||◌, true};
+ghost use Rattle.std.specs.Prelude.{◌≡◌, ◌||◌, ◌↔◌, IsTrue, true};
 ghost use Rattle.std.specs.declared.net.socket_addr.SocketAddr.{SocketAddr};
 ghost use Rattle.stun_base.specs.Address.{same_address};
 ghost use Rattle.stun_agent.specs.Laws.{IsNeverEarly, WaitsAsTold, IgnoresUnknown, EndsAlike, EndsOnce, IsTransmittedAtMost, KeepsCount};
 ghost use Rattle.stun_agent.specs.Peers.{Peers, is_peer, with_peer};
+
+use crate::agent::StunAgentPollRet;
+use crate::error::StunError;
+use crate::rto::RequestRto;
 
 /// A request is sent again only once its timeout has passed since the moment before: since it was sent, or since
 /// its last timeout passed (RFC 8489, section 6.2.1).
@@ -52,3 +56,24 @@ pub fn validating_adds_one_peer()
     ensures added { (address other : SocketAddr) (peers : Peers) → is_peer other (with_peer address peers) ≡ (same_address other address || is_peer other peers) }
     ensures exact { (address other : SocketAddr) → same_address address other ≡ true → address ≡ other }
 {}
+
+/// Settings of retransmissions are equal field by field.
+pub fn are_same_settings(one: RequestRto, other: RequestRto) -> bool
+    ensures { IsTrue result ↔ (one ≡ other) }
+{
+    one == other
+}
+
+/// What polls answer is equal as values.
+pub fn is_same_poll(one: StunAgentPollRet, other: StunAgentPollRet) -> bool
+    ensures { IsTrue result ↔ (one ≡ other) }
+{
+    one == other
+}
+
+/// An agent's errors are equal as values.
+pub fn is_same_error(one: StunError, other: StunError) -> bool
+    ensures { IsTrue result ↔ (one ≡ other) }
+{
+    one == other
+}

@@ -1,5 +1,5 @@
 //! Laws over the definitions that the contracts of this crate cite.
-ghost use Rattle.std.specs.Prelude.{◌≡◌, ◌<◌, ◌≤◌, ◌^◌, ◌||◌, ℕ, ◌+◌, Bool, true, false, List, [], ◌∷◌, ◌++◌, length, Ok, Err, Option, Some, None, if◌then◌else◌, IsOk, IsUtf8};
+ghost use Rattle.std.specs.Prelude.{◌≡◌, ◌<◌, ◌≤◌, ◌^◌, ◌||◌, ℕ, ◌+◌, Bool, true, false, List, [], ◌∷◌, ◌++◌, length, Ok, Err, Option, Some, None, if◌then◌else◌, IsOk, IsTrue, IsUtf8, ◌↔◌};
 ghost use Rattle.std.specs.List.{AllByRecursion};
 ghost use Rattle.std.specs.Option.{IsSome, is_some};
 ghost use Rattle.stun_base.specs.MessageType.{class_of};
@@ -25,6 +25,11 @@ ghost use Rattle.stun_auth.specs.Server.{Sight, stands_at};
 ghost use Rattle.stun_auth.specs.ServerSigning.{server_signed};
 ghost use Rattle.stun_auth.specs.Signed.{Added, ClientMaySign, HasRoomFor, IsBuilt, IsSignable, IsSmall, IsText, IsUnsigned, IsWithinLimits, IsWritable, ReadsAs, ServerMaySign, added_by_client, added_by_server, additions_of, error_attribute};
 ghost use Rattle.stun_auth.specs.Validation.{ChangesNothing, ValidatesAccepted, answer, needs_nonce, verdict_at};
+
+use crate::client_answer::{LongTermClientAuthErrorReason, LongTermClientValidation};
+use crate::feature::Feature;
+use crate::nonce::NonceSecurityBits;
+use crate::server_reason::{LongTermServerAuthErrorReason, LongTermServerValidation};
 
 /// What was added is what is read: after successful additions to an open message, its own attributes count as before and
 /// then the added ones, and the digest that was added last stands under its key.
@@ -171,4 +176,58 @@ pub fn server_messages_are_read()
 {
     signed_messages_are_read();
     sides_add_by_attribute();
+}
+
+/// Features are equal as values.
+pub fn is_same_feature(one: Feature, other: Feature) -> bool
+    ensures { IsTrue result ↔ (one ≡ other) }
+{
+    one == other
+}
+
+/// Security bits are equal as bytes.
+pub fn are_same_security_bits(one: NonceSecurityBits, other: NonceSecurityBits) -> bool
+    ensures { IsTrue result ↔ (one ≡ other) }
+{
+    one == other
+}
+
+/// A server's validations are equal as values.
+pub fn is_same_server_validation(
+    one: LongTermServerValidation,
+    other: LongTermServerValidation,
+) -> bool
+    ensures { IsTrue result ↔ (one ≡ other) }
+{
+    one == other
+}
+
+/// A client's validations are equal as values.
+pub fn is_same_client_validation(
+    one: LongTermClientValidation,
+    other: LongTermClientValidation,
+) -> bool
+    ensures { IsTrue result ↔ (one ≡ other) }
+{
+    one == other
+}
+
+/// A server's reasons are equal as values.
+pub fn is_same_server_reason(
+    one: LongTermServerAuthErrorReason,
+    other: LongTermServerAuthErrorReason,
+) -> bool
+    ensures { IsTrue result ↔ (one ≡ other) }
+{
+    one == other
+}
+
+/// A client's reasons are equal as values.
+pub fn is_same_client_reason(
+    one: LongTermClientAuthErrorReason,
+    other: LongTermClientAuthErrorReason,
+) -> bool
+    ensures { IsTrue result ↔ (one ≡ other) }
+{
+    one == other
 }

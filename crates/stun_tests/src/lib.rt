@@ -30,6 +30,8 @@ mod digests;
 #[cfg(test)]
 mod drive;
 #[cfg(test)]
+mod error_texts;
+#[cfg(test)]
 mod headers;
 #[cfg(test)]
 mod hostile;

@@ -76,18 +76,6 @@ paged : {A : Type 0} (P : Result A StunWriteError → Type 0) (o : Result A Stun
 paged P (Ok page) refused signed = signed page refl
 paged P (Err reason) refused signed = refused reason refl
 
--- an honest client is ready
-pub honest-ready : (m : Meeting) (who : NameAndPassword) (server : ServerSeen) → IsHonest m who server → IsReady m who server
-honest-ready m who server honest = record {
-  credentials = honest.credentials;
-  present = honest.present;
-  hashes = honest.hashes;
-  new_address = honest.new_address;
-  others_first = honest.others_first;
-  others_second = honest.others_second;
-  in_time = honest.in_time;
-}
-
 module _ (say : NoncesAsk) (found : SignedIsRead) (m : Meeting) (who : NameAndPassword) (server : ServerSeen) (texts : AreTexts server.registered.realm who.username) (ready : IsReady m who server) where
   abbrev users : Registered
   users = server.registered
@@ -299,13 +287,4 @@ module _ (say : NoncesAsk) (found : SignedIsRead) (m : Meeting) (who : NameAndPa
   comes_to = from_first.1
 
   pub all_signed : IsFitting → IsHonest m who server
-  all_signed fitting = record {
-    credentials = ready.credentials;
-    present = ready.present;
-    hashes = ready.hashes;
-    new_address = ready.new_address;
-    others_first = ready.others_first;
-    others_second = ready.others_second;
-    in_time = ready.in_time;
-    signed = from_first.0 fitting;
-  }
+  all_signed fitting = record { ready = ready; signed = from_first.0 fitting }

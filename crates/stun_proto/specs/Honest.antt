@@ -24,8 +24,8 @@ abbrev pub HaveOwnHashes : Registered → Type 0
 HaveOwnHashes users = (a b : List ℕ) → is_some (map.get users.passwords a) ≡ true → is_some (map.get users.passwords b) ≡ true
     → userhash a users.realm ≡ userhash b users.realm → a ≡ b
 
--- a new client is honest: it has a present user's credentials, comes from an address without a place, and is in time
-pub record IsHonest (m : Meeting) (who : NameAndPassword) (server : ServerSeen) : Type 0 where
+-- a new client is ready: it has a present user's credentials, comes from an address without a place, and is in time
+pub record IsReady (m : Meeting) (who : NameAndPassword) (server : ServerSeen) : Type 0 where
   pub credentials : m.settings.credentials ≡ Some who
   pub present : map.get server.registered.passwords who.username ≡ Some who.password
   pub hashes : HaveOwnHashes server.registered
@@ -35,7 +35,10 @@ pub record IsHonest (m : Meeting) (who : NameAndPassword) (server : ServerSeen) 
   pub others_second : AreOfOthers m.from m.second.before
   -- the second request is read while the nonce stands
   pub in_time : m.second.now ≤ moment_after m.first.now server.expiry
-  -- no signing is refused
+
+-- it is honest where no signing is refused either
+pub record IsHonest (m : Meeting) (who : NameAndPassword) (server : ServerSeen) : Type 0 where
+  pub ready : IsReady m who server
   pub signed : IsOk (negotiated m initial server).ending
 
 -- the client that a server knows at an address
@@ -68,16 +71,6 @@ StrongestIsAgreed = (m : Meeting) (who : NameAndPassword) (server : ServerSeen)
     → ComesTo m.from who (strongest m server) (negotiated m initial server)
 
 -- ---- signings that succeed
-
--- what makes a client honest, but that its signings succeed
-pub record IsReady (m : Meeting) (who : NameAndPassword) (server : ServerSeen) : Type 0 where
-  pub credentials : m.settings.credentials ≡ Some who
-  pub present : map.get server.registered.passwords who.username ≡ Some who.password
-  pub hashes : HaveOwnHashes server.registered
-  pub new_address : map.get server.places m.from ≡ None
-  pub others_first : AreOfOthers m.from m.first.before
-  pub others_second : AreOfOthers m.from m.second.before
-  pub in_time : m.second.now ≤ moment_after m.first.now server.expiry
 
 -- realm and user name fit their attributes (sections 14.3 and 14.9), and a nonce is made of sixteen random words
 pub record AreShort (its_realm its_name its_words : List ℕ) : Type 0 where

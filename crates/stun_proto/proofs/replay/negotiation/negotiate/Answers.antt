@@ -43,7 +43,7 @@ returns-clause-strongest g c = λ new who honest.
     let k = c.args.client.now in
     let s = c.args.server.now in
     let m = meeting k.settings c.args.from c.args.ids c.args.moments c.args.words (lists c.args.between) in
-    let name = subst (λ (o : Option NameAndPassword). IfSome o (λ user. IsUtf8 user.username)) honest.credentials c.name_is_text.ensures in
+    let name = subst (λ (o : Option NameAndPassword). IfSome o (λ user. IsUtf8 user.username)) honest.ready.credentials c.name_is_text.ensures in
     let texts : AreTexts s.registered.realm who.username = record { realm = c.realm_is_text.ensures; username = name } in
     let law = subst (λ (state : ClientState). ComesTo c.args.from who (strongest m s) (negotiated m state s)) (sym new) (c.strongest_is_agreed.ensures m who s texts honest) in
     if_some_map (met_by c.meet.result c.meet.new.client.state c.meet.new.server) (λ met is. subst (ComesTo c.args.from who (strongest m s)) (sym is) law) (whole g c).steps

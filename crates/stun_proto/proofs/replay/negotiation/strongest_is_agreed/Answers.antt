@@ -1,4 +1,4 @@
-use Rattle.stun_proto.proofs.Meeting.{comes_to, honest-ready}
+use Rattle.stun_proto.proofs.Meeting.{comes_to}
 use Rattle.stun_proto.proofs.Signed.{NoncesAsk}
 use Rattle.stun_proto.proofs.SignedRuns.{SigningLaws, signed_is_read}
 use Rattle.stun_proto.proofs.replay.negotiation.strongest_is_agreed.Goals as goal
@@ -19,4 +19,4 @@ signing c = record {
 }
 
 pub returns : goal.returns
-returns c m who server texts honest = comes_to (nonces c) (signed_is_read (signing c)) m who server texts (honest-ready m who server honest) honest.signed
+returns c m who server texts honest = comes_to (nonces c) (signed_is_read (signing c)) m who server texts honest.ready honest.signed

@@ -34,7 +34,7 @@ is_equal Equal h = refl
 is_equal Greater h = cc
 
 -- addresses that pass the test are one
-one_address : (a b : SocketAddr) → same_address a b ≡ true → a ≡ b
+pub one_address : (a b : SocketAddr) → same_address a b ≡ true → a ≡ b
 one_address a b h = address_exact a b (is_equal (address_cmp a b) h)
 
 swapped : (a b : SocketAddr) → same_address a b ≡ same_address b a

@@ -14,9 +14,12 @@ pub mod IsolationLemmas
 pub mod Matched
 pub mod Meeting
 pub mod NextLemmas
+pub mod Once
+pub mod Outcomes
 pub mod OneTransaction
 pub mod Refusals
 pub mod Renewed
+pub mod RepliesLemmas
 pub mod RunLemmas
 pub mod Runs
 pub mod ScheduleLaw

@@ -62,7 +62,7 @@ class_ascends Indication now bs from a s = s
 class_ascends Success now bs from a s = response_ascends now bs from a s
 class_ascends Error now bs from a s = response_ascends now bs from a s
 
-event_ascends : (now : ℕ) (e : AgentEvent) (a : Agent) → IsAscending a.transactions → IsAscending (after_event now e a).transactions
+pub event_ascends : (now : ℕ) (e : AgentEvent) (a : Agent) → IsAscending a.transactions → IsAscending (after_event now e a).transactions
 event_ascends now (Send bs target) a s = by (sending_refusal bs.items)
   where
     by : (o : Option StunError) → IsAscending (option_map_or (λ _. a) o (after_send bs.items a)).transactions
@@ -123,7 +123,7 @@ comes_to start e {from = from} {a = a} {steps = steps} (x ∷ xs) later (event {
       goes_on = r.goes_on;
     }
 
-in_order_then : (until from : ℕ) (earlier later : List (ℕ × AgentEvent)) (e : ℕ × AgentEvent) → AreInOrder until from (earlier ++ e ∷ later) → (e.0 ≤ until) × AreInOrder until e.0 later
+pub in_order_then : (until from : ℕ) (earlier later : List (ℕ × AgentEvent)) (e : ℕ × AgentEvent) → AreInOrder until from (earlier ++ e ∷ later) → (e.0 ≤ until) × AreInOrder until e.0 later
 in_order_then until from [] later e order = (order.1, order.2)
 in_order_then until from (x ∷ xs) later e order = in_order_then until x.0 xs later e order.2
 

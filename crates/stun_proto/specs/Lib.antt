@@ -3,6 +3,7 @@ pub mod Begun
 pub mod Best
 pub mod Calls
 pub mod FirstAnswers
+pub mod Headline
 pub mod Honest
 pub mod Isolation
 pub mod Matching
@@ -11,6 +12,7 @@ pub mod Negotiating
 pub mod Negotiation
 pub mod Plan
 pub mod Renewal
+pub mod Replies
 pub mod Run
 pub mod Schedule
 pub mod Serving

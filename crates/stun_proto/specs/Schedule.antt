@@ -14,6 +14,16 @@ use Rattle.stun_proto.specs.Run.{Run, IsDriven}
 use Rattle.stun_proto.specs.Steps.{Step, own}
 use Rattle.std.specs.Global.{Vec}
 
+-- the event asks the agent to send a request of this id
+abbrev pub Asks : ℕ → AgentEvent → Type 0
+Asks id (Send bytes to) = ⊥
+Asks id (SendRequest bytes to) = transaction_id_field bytes.items ≡ id
+Asks id (Receive bytes from) = ⊥
+Asks id (Cancel other) = ⊥
+Asks id (CancelRetransmissions other) = ⊥
+Asks id (Configure other initial retransmits last max) = ⊥
+Asks id (ValidatePeer address) = ⊥
+
 -- the event takes, cancels or changes the request of this id: a response with its id, or a call that names it
 abbrev pub IsAimedAt : ℕ → AgentEvent → Type 0
 IsAimedAt id (Send bytes to) = ⊥

@@ -1,7 +1,17 @@
 //! Laws of runs: what holds of the definitions alone, and what equalities are.
-ghost use Rattle.std.specs.Prelude.{◌≡◌, ◌↔◌, IsTrue};
+ghost use Rattle.std.specs.Prelude.{◌≡◌, ◌≤◌, ◌↔◌, IsTrue, List, ℕ};
+ghost use Rattle.stun_base.specs.Moments.{last_moment};
+ghost use Rattle.stun_agent.specs.Agent.{Agent};
+ghost use Rattle.stun_agent.specs.Transactions.{IsAscending};
+ghost use Rattle.stun_auth.specs.Reading.{Reading};
+ghost use Rattle.stun_auth.specs.Server.{Sight};
+ghost use Rattle.stun_auth.specs.Validation.{answer};
 ghost use Rattle.stun_proto.specs.Best.{BestIsStrongest};
-ghost use Rattle.stun_proto.specs.Schedule.{IsDetermined};
+ghost use Rattle.stun_proto.specs.Headline.{SendsByPlan, ValidatesOneCall};
+ghost use Rattle.stun_proto.specs.Run.{IsDriven};
+ghost use Rattle.stun_proto.specs.Schedule.{AreInOrder, IsDetermined};
+ghost use Rattle.stun_proto.specs.Steps.{Step};
+ghost use Rattle.stun_proto.specs.declared.replay.event.AgentEvent.{AgentEvent as TheEvent};
 
 use crate::replay::{NegotiateError, Outcome, Stopped, WordSource};
 
@@ -9,6 +19,20 @@ use crate::replay::{NegotiateError, Outcome, Stopped, WordSource};
 pub fn runs_are_determined()
     ensures { IsDetermined }
 {}
+
+/// Whoever drives an agent in this way, a request that is asked once and is undisturbed is sent by its plan, and times out once.
+pub fn runs_send_by_plan()
+    ensures { (until : ℕ) (a b : Agent) (events : List (ℕ × TheEvent)) (steps : List Step)
+        → until ≤ last_moment → IsAscending a.transactions → AreInOrder until 0 events
+        → IsDriven until a events steps b → SendsByPlan until a events steps }
+{}
+
+/// The answer to one request or indication is `Validated` if and only if the message is accepted (RFC 8489, section 9.2.4).
+pub fn one_call_validates()
+    ensures { (s : Sight) (now : ℕ) (words : List ℕ) (r : Reading) → ValidatesOneCall s now words r (answer s now words r) }
+{
+    stun_auth::laws::accepted_messages_are_validated();
+}
 
 /// What a client and a server can agree on is the strongest algorithm that both support. There is none exactly where they share
 /// none, or where the client must send a hash of its name and the server takes none.

@@ -2,6 +2,7 @@
 ghost use Rattle.std.specs.Prelude.{◌≡◌, ◌+◌, IfOk, IfErr, OnOk, OnErr};
 ghost use Rattle.stun_proto.specs.Begun.{TurnsBegin, EventBegins, HasBegun};
 ghost use Rattle.stun_proto.specs.Calls.{HasPassed, TakesTurns, TakesWhole};
+ghost use Rattle.stun_proto.specs.Headline.{SendsByPlan};
 ghost use Rattle.stun_proto.specs.Run.{IsDriven};
 ghost use Rattle.stun_proto.specs.Schedule.{AreInOrder, KeepPlans};
 ghost use Rattle.stun_proto.specs.Steps.{steps_of};
@@ -37,6 +38,7 @@ pub fn drive<A: Allocator + Copy>(
 ) -> Result<Vec<AgentStep<A>, A>, Stopped>
     requires { AreInOrder until 0 events.now }
     ensures run { IfOk result (λ steps. IsDriven until agent.old events.now (steps_of steps.items) agent.new) }
+    ensures headline { IfOk result (λ steps. SendsByPlan until agent.old events.now (steps_of steps.items)) }
     ensures plans { IfOk result (λ steps. KeepPlans until agent.old events.now (steps_of steps.items)) }
     ensures stopped { IfErr result (λ stopped. HasBegun until stopped.done agent.old events.now agent.new) }
 {

@@ -1,8 +1,9 @@
 //! A client and a server that meet.
 
-ghost use Rattle.std.specs.Prelude.{◌≡◌, ◌≢◌, ◌<◌, Contains, IfSome, IsUtf8, Err};
+ghost use Rattle.std.specs.Prelude.{◌≡◌, ◌≢◌, ◌<◌, Contains, IfSome, IsUtf8, Err, length};
 ghost use Rattle.stun_base.specs.Credentials.{NameAndPassword};
 ghost use Rattle.stun_auth.specs.Client.{initial};
+ghost use Rattle.stun_proto.specs.Headline.{EndsAtStrongest, IsReadyClient};
 ghost use Rattle.stun_proto.specs.Honest.{ComesTo, IsHonest, ShortNamesAreSigned, StrongestIsAgreed, strongest};
 ghost use Rattle.stun_proto.specs.Meetings.{turn_of};
 ghost use Rattle.stun_proto.specs.Negotiating.{lists, meeting, met_by, turn_at};
@@ -118,11 +119,14 @@ pub fn negotiate<A: Allocator + Copy>(
     ensures strongest { let m = meeting client.old.settings from ids moments words (lists between.entry) in
         client.old.state ≡ initial → (who : NameAndPassword) → IsHonest m who server.old
         → IfSome (met_by result client.new.state server.new) (ComesTo from who (strongest m server.old)) }
+    ensures headline { let m = meeting client.old.settings from ids moments words (lists between.entry) in
+        (who : NameAndPassword) → IsReadyClient client.old.state m who server.old → EndsAtStrongest m server.old result }
     ensures memory { let m = meeting client.old.settings from ids moments words (lists between.entry) in
         result ≡ Err NegotiateError.Memory → Contains (sides_of m client.old.state server.old) (sides client.new.state server.new) }
     ensures write { result ≢ Err (NegotiateError.Write StunWriteError.OutOfMemory) }
 {
     strongest_is_agreed();
+    short_names_are_signed();
     realm_is_text(server);
     name_is_text(client);
     let first = turn_at(0, ids, moments, words, between);
@@ -144,15 +148,23 @@ fn turn_at<'a>(
     between: [&'a [ServerCall]; 2],
 ) -> Turn<'a>
     requires { index < 2 }
-    ensures { turn_of result ≡ turn_at index ids moments words (lists between.entry) }
+    ensures turn { turn_of result ≡ turn_at index ids moments words (lists between.entry) }
+    ensures count { length result.words ≡ 16 }
 {
+    let words = words[index];
+    words_are_sixteen(words);
     Turn {
         id: ids[index],
         moment: moments[index],
-        words: words[index],
+        words,
         before: between[index],
     }
 }
+
+/// A nonce is made of sixteen words.
+fn words_are_sixteen(words: [u32; 16])
+    ensures { length words ≡ 16 }
+{}
 
 /// The realm of a server is a text.
 fn realm_is_text<A: Allocator + Copy>(server: &LongTermServerAuth<A>)

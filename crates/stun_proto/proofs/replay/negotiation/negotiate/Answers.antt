@@ -1,13 +1,14 @@
-use Rattle.std.proofs.Common.{arith, Option, Some, None, sym, ◌∙◌, ap, subst, IfSome}
+use Rattle.std.proofs.Common.{◌≡◌, ◌≤◌, length, arith, Option, Some, None, sym, ◌∙◌, ap, subst, IfSome}
 use Rattle.std.specs.Prelude.{IsUtf8}
 use Rattle.stun_base.specs.Credentials.{NameAndPassword}
 use Rattle.stun_auth.specs.Client.{ClientState}
-use Rattle.stun_proto.specs.Honest.{ComesTo, strongest}
+use Rattle.stun_proto.specs.Honest.{AreShort, ComesTo, strongest}
 use Rattle.stun_proto.specs.Matching.{AreTexts}
 use Rattle.stun_proto.specs.Meetings.{turn_of}
 use Rattle.stun_proto.specs.Negotiating.{lists, meeting, met_by, turn_at}
 use Rattle.stun_proto.specs.Negotiation.{Meeting, Turn, negotiated}
 use Rattle.stun_proto.specs.Sides.{IsRun, sides_of}
+use Rattle.stun_proto.proofs.Outcomes.{ends_at_strongest}
 use Rattle.stun_proto.proofs.replay.negotiation.negotiate.Goals as goal
 
 if_some_map : {A : Type 0} {P Q : A → Type 0} (o : Option A) → ((a : A) → P a → Q a) → IfSome o P → IfSome o Q
@@ -22,8 +23,8 @@ whole g c =
     let k = c.args.client.now in
     let s = c.args.server.now in
     let same =
-    ap (λ (t : Turn). let m : Meeting = record { settings = k.settings; from = c.args.from; first = t; second = turn_of c.turn_at-second.result } in m) c.turn_at-first.ensures
-    ∙ ap (λ (t : Turn). let m : Meeting = record { settings = k.settings; from = c.args.from; first = turn_at 0 c.args.ids c.args.moments c.args.words (lists c.args.between); second = t } in m) c.turn_at-second.ensures in
+    ap (λ (t : Turn). let m : Meeting = record { settings = k.settings; from = c.args.from; first = t; second = turn_of c.turn_at-second.result } in m) c.turn_at-first.ensures.turn
+    ∙ ap (λ (t : Turn). let m : Meeting = record { settings = k.settings; from = c.args.from; first = turn_at 0 c.args.ids c.args.moments c.args.words (lists c.args.between); second = t } in m) c.turn_at-second.ensures.turn in
     subst (λ (m : Meeting). IsRun c.meet.result k c.meet.new.client c.meet.new.server (negotiated m k.state s) (sides_of m k.state s)) same c.meet.ensures
 
 pub turn_at-first-requires : goal.turn_at-first-requires
@@ -47,6 +48,21 @@ returns-clause-strongest g c = λ new who honest.
     let texts : AreTexts s.registered.realm who.username = record { realm = c.realm_is_text.ensures; username = name } in
     let law = subst (λ (state : ClientState). ComesTo c.args.from who (strongest m s) (negotiated m state s)) (sym new) (c.strongest_is_agreed.ensures m who s texts honest) in
     if_some_map (met_by c.meet.result c.meet.new.client.state c.meet.new.server) (λ met is. subst (ComesTo c.args.from who (strongest m s)) (sym is) law) (whole g c).steps
+
+pub returns-clause-headline : goal.returns-clause-headline
+returns-clause-headline g c = λ who client.
+    let k = c.args.client.now in
+    let s = c.args.server.now in
+    let m = meeting k.settings c.args.from c.args.ids c.args.moments c.args.words (lists c.args.between) in
+    let name = subst (λ (o : Option NameAndPassword). IfSome o (λ user. IsUtf8 user.username)) client.ready.credentials c.name_is_text.ensures in
+    let texts : AreTexts s.registered.realm who.username = record { realm = c.realm_is_text.ensures; username = name } in
+    let drawn : length m.first.words ≡ 16 = subst (λ (t : Turn). length t.words ≡ 16) c.turn_at-first.ensures.turn c.turn_at-first.ensures.count in
+    let words : length m.first.words ≤ 16 = omega (arith, drawn) in
+    let short : AreShort s.registered.realm who.username m.first.words = record { realm = client.realm_fits; username = client.name_fits; words = words } in
+    let honest = c.short_names_are_signed.ensures m who s texts short client.ready in
+    let law = subst (λ (state : ClientState). ComesTo c.args.from who (strongest m s) (negotiated m state s)) (sym client.new) (c.strongest_is_agreed.ensures m who s texts honest) in
+    ends_at_strongest m s who c.meet.result c.meet.new.client.state c.meet.new.server
+    (if_some_map (met_by c.meet.result c.meet.new.client.state c.meet.new.server) (λ met is. subst (ComesTo c.args.from who (strongest m s)) (sym is) law) (whole g c).steps)
 
 pub returns-clause-memory : goal.returns-clause-memory
 returns-clause-memory g c = (whole g c).memory

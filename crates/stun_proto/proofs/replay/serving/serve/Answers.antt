@@ -3,9 +3,11 @@ use Rattle.std.proofs.lemmas.List.{map-append}
 use Rattle.stun_auth.specs.Validation.{sight}
 use Rattle.stun_proto.specs.Accepting.{ValidatesAccepted}
 use Rattle.stun_proto.specs.Isolation.{IsIsolated}
+use Rattle.stun_proto.specs.Replies.{ValidatesByReplies}
 use Rattle.stun_proto.specs.Serving.{replies_of, reply_of}
 use Rattle.stun_proto.proofs.AcceptingLemmas.{validates_accepted}
 use Rattle.stun_proto.proofs.IsolationLemmas.{is_isolated, sight-after_calls}
+use Rattle.stun_proto.proofs.RepliesLemmas.{validates_by_replies}
 use Rattle.stun_proto.proofs.ServedCalls.{call_at, told_all, served_all, served_more, told_more}
 use Rattle.stun_proto.proofs.replay.serving.serve.Goals as goal
 
@@ -19,6 +21,16 @@ returns-clause-accepted g c =
     let told = told_all c.args.server.now c.loop-done.server _ c.args.calls.now c.loop-done.done (omega arith) c.loop-done.invariant.told in
     subst (ValidatesAccepted c.args.server.now c.args.calls.now) (sym told)
     (validates_accepted c.accepted_messages_are_validated.ensures c.args.server.now c.args.calls.now)
+
+pub returns-clause-headline : goal.returns-clause-headline
+returns-clause-headline g c = record { accepted = returns-clause-accepted g c; isolated = returns-clause-isolated g c }
+
+pub returns-clause-by_replies : goal.returns-clause-by_replies
+returns-clause-by_replies g c =
+    let told = told_all c.args.server.now c.loop-done.server _ c.args.calls.now c.loop-done.done (omega arith) c.loop-done.invariant.told in
+    subst (ValidatesByReplies c.args.server.now c.args.calls.now) (sym told)
+    (validates_by_replies c.args.server.now c.args.calls.now
+    (validates_accepted c.accepted_messages_are_validated.ensures c.args.server.now c.args.calls.now))
 
 pub returns-clause-place : goal.returns-clause-place
 returns-clause-place g c =

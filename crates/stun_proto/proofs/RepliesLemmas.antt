@@ -1,0 +1,108 @@
+-- What an address can tell by the replies is what it can tell by the calls.
+use Rattle.std.proofs.Common.{◌≡◌, Bool, true, false, ℕ, zero, suc, List, [], ◌∷◌, Option, Some, None, refl, sym, ◌∙◌, ap, subst, take, Ok, Err}
+use Rattle.std.specs.Prelude.{cond, not, ◌||◌}
+use Rattle.std.specs.declared.result.Result.{Result}
+use Rattle.std.specs.declared.net.socket_addr.SocketAddr.{SocketAddr}
+use Rattle.stun_base.specs.declared.error.StunParseError.{StunParseError}
+use Rattle.stun_base.specs.declared.error.StunWriteError.{StunWriteError}
+use Rattle.stun_types.specs.Message.{refusal}
+use Rattle.stun_auth.specs.Additions.{Page}
+use Rattle.stun_auth.specs.Reading.{Reading, class_in, is_response, reading_of}
+use Rattle.stun_auth.specs.Seen.{ClientSeen, PlaceSeen}
+use Rattle.stun_auth.specs.Server.{Sight, client_of, named, or_refused, standing, verdict}
+use Rattle.stun_auth.specs.Server.{refusal as auth_refusal}
+use Rattle.stun_auth.specs.declared.server_reason.LongTermServerAuthErrorReason.TheVariants.{BadRequest}
+use Rattle.stun_auth.specs.Validation.{AcceptedWith, ServerSeen, answer, answer_to, client_verified, is_malformed, place_after, sight, validated_or_failed, with_accepted}
+use Rattle.stun_proto.specs.Accepting.{ValidatesAccepted}
+use Rattle.stun_proto.specs.Isolation.{concerns, own, own_place_after, place_unless, sight_over}
+use Rattle.stun_proto.specs.Replies.{ValidatesByReplies, client_by_reply, is_signed, place_by_answer, place_by_reply, sight_by_reply, sight_by_replies}
+use Rattle.stun_proto.specs.Serving.{after_call, after_calls, expiry_after, feature_after, registered_after, replies, reply, reply_of_answer, reply_of_signing, reply_unless}
+use Rattle.stun_proto.specs.Signing.{if_signed, place_offered, signing}
+use Rattle.stun_proto.specs.declared.replay.call.ServerCall.{ServerCall}
+use Rattle.stun_proto.specs.declared.replay.call.ServerCall.TheVariants as Call
+use Rattle.stun_proto.proofs.IsolationLemmas.{one_address, other_step, own_step, sight-after_calls}
+
+-- the place after a signing, by its reply and by the signing itself
+signed_place : (o : Option StunParseError) (signed : Result Page StunWriteError) (before offered : Option PlaceSeen)
+    → cond (is_signed (reply_unless o (reply_of_signing signed))) offered before ≡ place_unless o before (if_signed signed before offered)
+signed_place (Some error) signed before offered = refl
+signed_place None (Ok page) before offered = refl
+signed_place None (Err reason) before offered = refl
+
+-- the place after a message, by its reply and by the verdict
+answered_place : (v : Sight) (now : ℕ) (words : List ℕ) (r : Reading) → place_by_answer v now words r (reply_of_answer (answer v now words r)) ≡ place_after v now words r
+answered_place v now words r = by (is_response r.class) (is_malformed r)
+  where
+    p : PlaceSeen
+    p = standing v now words
+
+    c : ClientSeen
+    c = client_of v.registered v.feature p.nonce p.offered r
+
+    by : (response malformed : Bool)
+        → cond (not (response || malformed)) (Some (client_by_reply p (named v.registered v.feature r)
+        (reply_of_answer (cond response (validated_or_failed (client_verified v.registered r v.place)) (cond malformed (Err BadRequest) (answer_to (verdict v.registered v.feature p.nonce p.offered r))))))) v.place
+        ≡ cond (not (response || malformed)) (Some (with_accepted p (verdict v.registered v.feature p.nonce p.offered r))) v.place
+    by true malformed = refl
+    by false true = refl
+    by false false =
+        elim (auth_refusal v.registered v.feature p.nonce p.offered r) as (λ refused.
+        Some (client_by_reply p (named v.registered v.feature r) (reply_of_answer (answer_to (or_refused refused c)))) ≡ Some (with_accepted p (or_refused refused c))) [
+          | None ↦ refl
+          | Some reason ↦ refl
+        ]
+
+judged_place : (o : Option StunParseError) (v : Sight) (now : ℕ) (words : List ℕ) (r : Reading)
+    → place_unless o v.place (place_by_answer v now words r (reply_unless o (reply_of_answer (answer v now words r)))) ≡ place_unless o v.place (place_after v now words r)
+judged_place (Some error) v now words r = refl
+judged_place None v now words r = answered_place v now words r
+
+own_place_told : (a : SocketAddr) (call : ServerCall) (s : ServerSeen) → concerns a call ≡ true → place_by_reply (sight s a) call (reply s call) ≡ own_place_after (sight s a) call
+own_place_told a (Call.Validate from now message words) s h =
+    let P : SocketAddr → Type 0 = λ b. place_by_reply (sight s a) (Call.Validate b now message words) (reply s (Call.Validate b now message words)) ≡ own_place_after (sight s a) (Call.Validate b now message words) in
+    subst P (sym (one_address from a h)) (judged_place (refusal message.items) (sight s a) now words (reading_of message.items))
+own_place_told a (Call.Sign to message) s h =
+    let P : SocketAddr → Type 0 = λ b. place_by_reply (sight s a) (Call.Sign b message) (reply s (Call.Sign b message)) ≡ own_place_after (sight s a) (Call.Sign b message) in
+    subst P (sym (one_address to a h))
+    (signed_place (refusal message.items) (signing (sight s a) message.items) (sight s a).place (place_offered (sight s a) (is_response (class_in message.items))))
+own_place_told a (Call.AddUser name password) s h = refl
+own_place_told a (Call.RemoveUser name) s h = refl
+own_place_told a (Call.AddIntegrity algorithm) s h = refl
+own_place_told a (Call.SetIntegrity algorithm) s h = refl
+own_place_told a (Call.SetAnonymous feature) s h = refl
+own_place_told a (Call.RemoveClient b) s h = refl
+own_place_told a (Call.SetExpiry expiry) s h = refl
+
+abbrev with_place : Sight → ServerCall → Option PlaceSeen → Sight
+with_place s call place = record {
+  registered = registered_after s.registered call;
+  feature = feature_after s.feature call;
+  expiry = expiry_after s.expiry call;
+  place = place;
+}
+
+told_step : (a : SocketAddr) (call : ServerCall) (s : ServerSeen) → concerns a call ≡ true → sight_by_reply (sight s a) call (reply s call) ≡ sight (after_call s call) a
+told_step a call s h = ap (with_place (sight s a) call) (own_place_told a call s h) ∙ sym (own_step a call s h)
+
+told_over : (a : SocketAddr) (calls : List ServerCall) (i : ℕ) (s : ServerSeen)
+    → sight_by_replies a (sight s a) (take i calls) (replies s calls) ≡ sight (after_calls s (take i calls)) a
+told_over a [] zero s = refl
+told_over a [] (suc i) s = refl
+told_over a (call ∷ calls) zero s = refl
+told_over a (call ∷ calls) (suc i) s =
+    let rest = replies (after_call s call) calls in
+    elim (concerns a call) as (λ b. concerns a call ≡ b
+    → cond b (sight_by_replies a (sight_by_reply (sight s a) call (reply s call)) (take i calls) rest) (sight_by_replies a (sight s a) (take i calls) rest)
+    ≡ sight (after_calls (after_call s call) (take i calls)) a) [
+      | true ↦ λ h. ap (λ v. sight_by_replies a v (take i calls) rest) (told_step a call s h) ∙ told_over a calls i (after_call s call)
+      | false ↦ λ h. ap (λ v. sight_by_replies a v (take i calls) rest) (sym (other_step a call s h)) ∙ told_over a calls i (after_call s call)
+    ] refl
+
+pub validates_by_replies : (s : ServerSeen) (calls : List ServerCall) → ValidatesAccepted s calls (replies s calls) → ValidatesByReplies s calls (replies s calls)
+validates_by_replies s calls accepted i a now message words algorithm there is_message plain =
+    let same : sight_over (sight s a) (own a (take i calls)) ≡ sight_by_replies a (sight s a) (take i calls) (replies s calls) =
+    sym (told_over a calls i s ∙ sight-after_calls a (take i calls) s) in
+    let exact = accepted i a now message words algorithm there is_message plain in (
+      (λ got. subst (λ v. AcceptedWith v now words (reading_of message.items) algorithm) same (exact.0 got)),
+      (λ is. exact.1 (subst (λ v. AcceptedWith v now words (reading_of message.items) algorithm) (sym same) is)),
+    )

@@ -1,0 +1,5 @@
+use Rattle.stun_proto.proofs.Once.{driven_by_plan}
+use Rattle.stun_proto.proofs.laws.runs_send_by_plan.Goals as goal
+
+pub returns : goal.returns
+returns c = driven_by_plan

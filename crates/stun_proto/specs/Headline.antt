@@ -1,0 +1,109 @@
+-- The three sentences of this library, in the words of RFC 8489. Each definition that says one stands in an `ensures` of the public
+-- call that its comment names, so the check of that call proves it. The table at the end says where each word is defined.
+use Rattle.std.specs.Prelude.{ℕ, ◌≡◌, ◌≤◌, ◌⊎◌, List, ◌∷◌, ◌++◌, filter, length, None}
+use Rattle.std.specs.List.{AllByRecursion}
+use Rattle.std.specs.declared.net.socket_addr.SocketAddr.{SocketAddr}
+use Rattle.std.specs.declared.result.Result.{Result}
+use Rattle.std.specs.declared.result.Result.TheVariants.{Ok, Err}
+use Rattle.std.specs.Global.{Vec}
+use Rattle.stun_base.specs.Credentials.{NameAndPassword}
+use Rattle.stun_base.specs.Header.{header_refusal, transaction_id_field}
+use Rattle.stun_base.specs.declared.algorithm.IntegrityAlgorithm.{IntegrityAlgorithm}
+use Rattle.stun_base.specs.declared.message_type.MessageClass.TheVariants.{Request}
+use Rattle.stun_agent.specs.Agent.{Agent, class_of_bytes}
+use Rattle.stun_agent.specs.Transactions.{at}
+use Rattle.stun_auth.specs.declared.client_answer.LongTermClientAuthErrorReason.TheVariants.{UnsupportedFeature}
+use Rattle.stun_auth.specs.Algorithms.{listed}
+use Rattle.stun_auth.specs.Client.{ClientState, initial}
+use Rattle.stun_auth.specs.Reading.{Reading}
+use Rattle.stun_auth.specs.Server.{Sight}
+use Rattle.stun_auth.specs.Validation.{Answer, ServerSeen}
+use Rattle.stun_auth.specs.Validation as one
+use Rattle.stun_proto.specs.declared.replay.call.ServerCall.{ServerCall}
+use Rattle.stun_proto.specs.declared.replay.event.AgentEvent.{AgentEvent}
+use Rattle.stun_proto.specs.declared.replay.event.AgentEvent.TheVariants.{SendRequest}
+use Rattle.stun_proto.specs.declared.replay.negotiation.NegotiateError.{NegotiateError}
+use Rattle.stun_proto.specs.declared.replay.negotiation.NegotiateError.TheVariants.{Memory}
+use Rattle.stun_proto.specs.declared.replay.negotiation.Outcome.{Outcome}
+use Rattle.stun_proto.specs.declared.replay.negotiation.Outcome.TheVariants.{Validated, ClientRefused}
+use Rattle.stun_proto.specs.Accepting as each
+use Rattle.stun_proto.specs.Best.{HashIsRefused, IsShared, IsStrongestShared}
+use Rattle.stun_proto.specs.Honest.{IsReady}
+use Rattle.stun_proto.specs.Isolation.{IsIsolated}
+use Rattle.stun_proto.specs.Negotiation.{Meeting}
+use Rattle.stun_proto.specs.Plan.{plan, end, cut}
+use Rattle.stun_proto.specs.Schedule.{Asks, IsUndisturbed}
+use Rattle.stun_proto.specs.Serving.{Reply}
+use Rattle.stun_proto.specs.Steps.{Step, is_of}
+
+-- ---- 1. The server (section 9.2.4)
+
+-- One call: `LongTermServerAuth::validate_incoming_message`, clause `accepted`. A request or an indication is answered `Validated`
+-- if and only if it has a REALM, the NONCE that is current at its address, consistent algorithms, and the digest under the key of
+-- the registered user whom it names
+abbrev pub ValidatesOneCall : Sight → ℕ → List ℕ → Reading → Answer → Type 0
+ValidatesOneCall = one.ValidatesAccepted
+
+-- Every list of calls: `serve`, clause `headline`
+pub record ValidatesEachCall (start : ServerSeen) (calls : List ServerCall) (given : List Reply) : Type 0 where
+  -- at each index the same, at the nonce that the earlier calls of the same address have left
+  pub accepted : each.ValidatesAccepted start calls given
+  -- whatever other addresses do: the replies to an address are those of the run of its own calls and of those on users and settings
+  pub isolated : IsIsolated start calls given
+
+-- ---- 2. The client (sections 9.2.3 to 9.2.6)
+
+-- A client that has read nothing yet and is ready: it has the credentials of a registered user, its address is new to the server,
+-- the calls between are those of other addresses, and its second request comes while the nonce is current. Its realm and its user
+-- name fit their attributes (sections 14.9 and 14.3)
+pub record IsReadyClient (state : ClientState) (m : Meeting) (who : NameAndPassword) (server : ServerSeen) : Type 0 where
+  pub new : state ≡ initial
+  pub ready : IsReady m who server
+  pub realm_fits : length server.registered.realm ≤ 763
+  pub name_fits : length who.username ≤ 513
+
+-- a meeting ends with this outcome, or an allocation failed
+abbrev pub EndsWith : Result Outcome NegotiateError → Outcome → Type 0
+EndsWith result outcome = (result ≡ Ok outcome) ⊎ (result ≡ Err Memory)
+
+-- How the meeting of such a client ends: `negotiate`, clause `headline`
+pub record EndsAtStrongest (m : Meeting) (server : ServerSeen) (result : Result Outcome NegotiateError) : Type 0 where
+  -- the server validates its second request with the strongest algorithm that both support, and the client the response
+  pub validated : (a : IntegrityAlgorithm) → IsStrongestShared m.settings.supported (listed server.registered.algorithms) a
+      → (HashIsRefused m.settings.feature server.feature → ⊥) → EndsWith result (Validated a)
+  -- where they share none, or the client must hash its name and the server takes no hash, the client gives up
+  pub refused : (HashIsRefused m.settings.feature server.feature
+      ⊎ ((a : IntegrityAlgorithm) → IsShared m.settings.supported (listed server.registered.algorithms) a → ⊥))
+      → EndsWith result (ClientRefused UnsupportedFeature)
+
+-- ---- 3. The agent (sections 6.2.1 and 6.2.2)
+
+-- A request that is asked once and is undisturbed: its bytes begin with the header of a request (section 5) and this id, no request
+-- of the id is outstanding when the run begins, no other event asks for the id, and up to the end of its plan no response has the
+-- id, and no call cancels or changes it
+pub record IsAskedOnce (a : Agent) (id start : ℕ) (bytes : List ℕ) (earlier later : List (ℕ × AgentEvent)) : Type 0 where
+  pub header : header_refusal bytes ≡ None
+  pub class : class_of_bytes bytes ≡ Request
+  pub names : transaction_id_field bytes ≡ id
+  pub new : at id a.transactions ≡ None
+  pub not_before : AllByRecursion (λ e. Asks id e.1 → ⊥) earlier
+  pub not_again : AllByRecursion (λ e. Asks id e.1 → ⊥) later
+  pub undisturbed : IsUndisturbed id (end start a.settings a.transport) later
+
+-- All steps of this id in the run are those of its plan, as far as the run goes: it is sent at its prefix sums and at no other
+-- moment, and times out once. `drive`, clause `headline`
+abbrev pub SendsByPlan : ℕ → Agent → List (ℕ × AgentEvent) → List Step → Type 0
+SendsByPlan until a events steps =
+    (id start : ℕ) (bytes : Vec ℕ) (to : SocketAddr) (earlier later : List (ℕ × AgentEvent))
+    → events ≡ earlier ++ (start, SendRequest bytes to) ∷ later → IsAskedOnce a id start bytes.items earlier later
+    → filter (is_of id) steps ≡ cut until (plan a.transport start a.settings id to bytes.items)
+
+-- ---- Where the words are
+-- realm, current nonce, algorithms, user, digest   IsAccepted, standing, agreed, named   stun_auth/specs/Server.antt
+-- what a message says; whose digest it is          reading_of, stands_under              stun_auth/specs/Reading.antt
+-- an address's own calls, and what they leave      own, sight_over                       Isolation.antt
+-- strongest that both support                      IsStrongestShared                     Best.antt
+-- ready                                            IsReady                               Honest.antt
+-- plan, prefix sums, end                           plan, transmission, end               Plan.antt
+-- timeouts, slots                                  timeout, sum_of_timeouts, slots       stun_agent/specs/Timing.antt
+-- undisturbed, asks                                IsUndisturbed, IsAimedAt, Asks        Schedule.antt

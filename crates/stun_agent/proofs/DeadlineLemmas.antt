@@ -18,7 +18,7 @@ use Rattle.stun_base.specs.declared.transport.TransportType.{TransportType}
 use Rattle.stun_agent.specs.declared.deadlines.Deadline.{Deadline}
 use Rattle.stun_agent.specs.declared.deadlines.DeadlineKind.TheVariants.{Cancelled, End, Slot}
 use Rattle.stun_agent.specs.Transactions.{Transaction, Transactions, IsAscending, at, with, without, awaited, has_slots, is_cancelled, is_over, first_over, sooner}
-use Rattle.stun_agent.specs.Deadlines.{deadline_of, is_end, has_ended, least_ended, entries_at, without_entry, IsIndexOf, IsPlace, IsPlaced, IsReplaced}
+use Rattle.stun_agent.specs.code.Deadlines.{deadline_of, is_end, has_ended, least_ended, entries_at, without_entry, IsIndexOf, IsPlace, IsPlaced, IsReplaced}
 use Rattle.stun_agent.proofs.Ascending.{find-none, find-least, lookup_among, lookup-remove_other, lookup-insert_same, lookup-insert_other, IsAscending-insert}
 use Rattle.stun_agent.proofs.EntryLemmas.{lookup_found, own_key, same_key, later_key}
 use Rattle.stun_agent.proofs.LookupLemmas.{at-without, found_passes}

@@ -5,7 +5,7 @@ use Rattle.std.specs.List.{AllByRecursion}
 use Rattle.stun_base.specs.declared.transport.TransportType.{TransportType}
 use Rattle.stun_agent.specs.declared.deadlines.Deadline.{Deadline}
 use Rattle.stun_agent.specs.Transactions.{Transaction, Transactions, IsAscending, IsNamed, at, with, without, changed, after_slots}
-use Rattle.stun_agent.specs.Deadlines.{deadline_of, without_entry, AreIndexed, IsIndexOf, IsPlaced, IsRenewed}
+use Rattle.stun_agent.specs.code.Deadlines.{deadline_of, without_entry, AreIndexed, IsIndexOf, IsPlaced, IsRenewed}
 use Rattle.stun_agent.proofs.DeadlineLemmas.{index_with, index_without, index_again}
 use Rattle.stun_agent.proofs.NamedLemmas.{named-with, named-without, named-changed, named-after_slots}
 use Rattle.stun_agent.proofs.RenewLemmas.{index_changed}

@@ -9,7 +9,8 @@ use Rattle.stun_base.specs.declared.algorithm.IntegrityAlgorithm.{IntegrityAlgor
 use Rattle.stun_base.specs.declared.algorithm.IntegrityAlgorithm.TheVariants.{Sha1, Sha256}
 use Rattle.stun_types.specs.Integrity.{algorithm_of}
 use Rattle.stun_types.specs.Walk.{Member}
-use Rattle.stun_agent.specs.Integrity.{is_integrity, last_integrity, integrity_after}
+use Rattle.stun_agent.specs.Integrity.{is_integrity, last_integrity}
+use Rattle.stun_agent.specs.code.Integrity.{integrity_after}
 
 last-cons : (m : Member) (ms : List Member)
     → find (λ (x : Member). is_integrity x.1.kind) (reverse (m ∷ ms)) ≡ option_or (find (λ (x : Member). is_integrity x.1.kind) (reverse ms)) (cond (is_integrity m.1.kind) (Some m) None)

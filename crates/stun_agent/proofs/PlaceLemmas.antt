@@ -4,7 +4,7 @@ use Rattle.std.specs.Prelude.{nat_le, insert}
 use Rattle.std.specs.List.Sorted.{IsPartitionPoint}
 use Rattle.std.proofs.lemmas.Bool.{leb-true, leb-false}
 use Rattle.stun_agent.specs.declared.deadlines.Deadline.{Deadline}
-use Rattle.stun_agent.specs.Deadlines.{without_entry, IsPlace, IsReplaced}
+use Rattle.stun_agent.specs.code.Deadlines.{without_entry, IsPlace, IsReplaced}
 
 -- behind those that are not later
 pub place_from_point : (moment : ℕ) (ds : List Deadline) (i : ℕ) → i ≤ length ds

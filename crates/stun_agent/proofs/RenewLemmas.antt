@@ -14,7 +14,7 @@ use Rattle.std.proofs.lemmas.Map.Keys.{sorted_head, sorted_tail}
 use Rattle.stun_base.specs.declared.transport.TransportType.{TransportType}
 use Rattle.stun_agent.specs.declared.deadlines.Deadline.{Deadline}
 use Rattle.stun_agent.specs.Transactions.{Transaction, Transactions, IsAscending, at, changed}
-use Rattle.stun_agent.specs.Deadlines.{deadline_of, entries_at, without_entry, IsIndexOf, IsPlaced, IsReplaced, IsRenewed}
+use Rattle.stun_agent.specs.code.Deadlines.{deadline_of, entries_at, without_entry, IsIndexOf, IsPlaced, IsReplaced, IsRenewed}
 use Rattle.stun_agent.proofs.DeadlineLemmas.{without-own, without-other, insert-own, insert-other}
 use Rattle.stun_agent.proofs.EntryLemmas.{own_key, same_key}
 use Rattle.stun_agent.proofs.LookupLemmas.{at-changed, at-changed_other}

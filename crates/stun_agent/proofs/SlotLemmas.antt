@@ -11,7 +11,7 @@ use Rattle.std.proofs.lemmas.Map.Keys.{sorted_head, sorted_tail}
 use Rattle.stun_base.specs.declared.transport.TransportType.{TransportType}
 use Rattle.stun_agent.specs.declared.deadlines.Deadline.{Deadline}
 use Rattle.stun_agent.specs.Transactions.{Transaction, Transactions, IsAscending, at, awaited, has_slots, is_cancelled, is_due, is_over, is_reached, repeats, first_over, next_sent, after_slot, slot_passed, after_slots, sooner}
-use Rattle.stun_agent.specs.Deadlines.{deadline_of, entries_at, without_entry, earliest, is_later, IsIndexOf, IsReplaced, IsMoved}
+use Rattle.stun_agent.specs.code.Deadlines.{deadline_of, entries_at, without_entry, earliest, is_later, IsIndexOf, IsReplaced, IsMoved}
 use Rattle.stun_agent.proofs.Ascending.{find-none, fold-min-le, fold-min-le_first}
 use Rattle.stun_agent.proofs.DeadlineLemmas.{IsIn, entry_of, entry_at}
 use Rattle.stun_agent.proofs.EntryLemmas.{own_key, same_key, lookup_found}

@@ -11,7 +11,8 @@ use Rattle.std.proofs.lemmas.Map.Keys.{sorted_tail}
 use Rattle.stun_base.specs.declared.transport.TransportType.{TransportType}
 use Rattle.stun_agent.specs.declared.deadlines.Deadline.{Deadline}
 use Rattle.stun_agent.specs.Transactions.{Transaction, Transactions, IsAscending, at, without, awaited, is_cancelled}
-use Rattle.stun_agent.specs.Deadlines.{deadline_of, entries_at, without_entry, early, early_requests, is_early, IsIndexOf}
+use Rattle.stun_agent.specs.Deadlines.{early_requests, is_early}
+use Rattle.stun_agent.specs.code.Deadlines.{deadline_of, entries_at, without_entry, early, IsIndexOf}
 use Rattle.stun_agent.proofs.DeadlineLemmas.{index_without}
 use Rattle.stun_agent.proofs.EntryLemmas.{own_key}
 use Rattle.stun_agent.proofs.RenewLemmas.{same_test}

@@ -1,9 +1,8 @@
 -- The algorithm that the bytes of a request are signed with (RFC 8489, sections 14.5 and 14.6).
-use Rattle.std.specs.Prelude.{ℕ, Bool, ◌==◌, ◌||◌, if◌then◌else◌, List, reverse, find, Option, Some}
+use Rattle.std.specs.Prelude.{ℕ, Bool, ◌==◌, ◌||◌, List, reverse, find, Option}
 use Rattle.std.specs.Option.{option_map}
 use Rattle.stun_base.specs.Attributes.{MESSAGE_INTEGRITY, MESSAGE_INTEGRITY_SHA256}
 use Rattle.stun_base.specs.declared.algorithm.IntegrityAlgorithm.{IntegrityAlgorithm}
-use Rattle.stun_base.specs.declared.algorithm.IntegrityAlgorithm.TheVariants.{Sha1, Sha256}
 use Rattle.stun_types.specs.Integrity.{algorithm_of}
 use Rattle.stun_types.specs.Visible.{visible}
 use Rattle.stun_types.specs.Walk.{Member}
@@ -19,8 +18,3 @@ last_integrity members = option_map (λ m. algorithm_of m.1) (find (λ m. is_int
 -- the algorithm of the last visible integrity attribute
 abbrev pub integrity_of : List ℕ → Option IntegrityAlgorithm
 integrity_of bytes = last_integrity (visible bytes)
-
--- that of an integrity attribute, and of another attribute that of those before it
-abbrev pub integrity_after : Option IntegrityAlgorithm → ℕ → Option IntegrityAlgorithm
-integrity_after last kind =
-    if kind == MESSAGE_INTEGRITY_SHA256 then Some Sha256 else (if kind == MESSAGE_INTEGRITY then Some Sha1 else last)

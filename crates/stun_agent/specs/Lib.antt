@@ -1,13 +1,28 @@
-pub mod Agent
-pub mod AgentLends
-pub mod Datagrams
-pub mod Deadlines
-pub mod Integrity
-pub mod Laws
-pub mod Peers
-pub mod Requests
-pub mod Statistics
-pub mod StatisticsFields
-pub mod Steps
+-- What the contracts of this crate say, in the order to read it.
+
+-- when a request is sent again, and when it ends (RFC 8489, sections 6.2.1 and 6.2.2)
 pub mod Timing
+-- requests that wait for their responses (section 6.2)
 pub mod Transactions
+-- an agent, and what each call makes of it (sections 6.2 and 6.3)
+pub mod Agent
+-- the addresses that an agent has had messages from
+pub mod Peers
+-- what an agent counts
+pub mod Statistics
+-- the algorithm that a request is signed with (sections 14.5 and 14.6)
+pub mod Integrity
+-- what is sent: bytes, transport and addresses
+pub mod Datagrams
+-- which requests a poll has to look at
+pub mod Deadlines
+-- requests that are lent with their agent
+pub mod Requests
+-- what an agent is after a loan has ended
+pub mod AgentLends
+-- what is done to an agent, call by call
+pub mod Steps
+-- what holds of an agent whatever is done to it
+pub mod Laws
+-- what no clause of a public call says: codings of models, views of structs, steps of the code
+pub mod code

@@ -89,11 +89,6 @@ round_trip moment t = if t.slot == 0 then option_map (λ now. now - t.last) mome
 abbrev pub Transactions : Type 0
 Transactions = List (ℕ × Transaction)
 
--- these, and the transport that carries them
-pub record Outstanding : Type 0 where
-  pub transport : TransportType
-  pub requests : Transactions
-
 -- the ids ascend
 abbrev pub IsAscending : Transactions → Type 0
 IsAscending all = IsStrictlySortedBy nat_cmp (keys_of all)
@@ -166,7 +161,3 @@ slot_passed transport now sent e = if is_reached sent e.0 && is_due transport no
 
 abbrev pub after_slots : TransportType → ℕ → Option ℕ → Transactions → Transactions
 after_slots transport now sent all = map (λ e. (e.0, slot_passed transport now sent e)) all
-
--- what is sent of a transaction, and where
-abbrev pub contents : Transaction → List ℕ × SocketAddr
-contents t = (t.bytes, t.to)

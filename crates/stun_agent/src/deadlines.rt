@@ -1,7 +1,7 @@
 //! What outstanding requests await, in the order of the moments.
 ghost use Rattle.std.specs.Prelude.{◌≡◌, [], ◌+◌, ◌<◌, length, slice_get, Some, OnOk, OnErr};
 ghost use Rattle.std.specs.List.Sorted.{IsNonDecreasingBy};
-ghost use Rattle.stun_agent.specs.Deadlines.{earliest, without_entry, IsPlace, IsPlaced, IsReplaced};
+ghost use Rattle.stun_agent.specs.code.Deadlines.{earliest, without_entry, IsPlace, IsPlaced, IsReplaced};
 
 use std::alloc::{AllocError, Allocator, Global};
 use std::marker::Model;

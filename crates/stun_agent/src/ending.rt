@@ -1,7 +1,7 @@
 //! Which request a poll ends, by the index of deadlines and the moment alone.
 ghost use Rattle.std.specs.Prelude.{◌≡◌, ◌+◌, ◌≤◌, if◌then◌else◌};
 ghost use Rattle.std.specs.List.Sorted.{IsNonDecreasingBy};
-ghost use Rattle.stun_agent.specs.Deadlines.{is_end, least_ended, early};
+ghost use Rattle.stun_agent.specs.code.Deadlines.{is_end, least_ended, early};
 ghost use Rattle.stun_agent.specs.Transactions.{sooner};
 
 use crate::deadlines::{Deadline, DeadlineIndex, DeadlineKind, Reads};

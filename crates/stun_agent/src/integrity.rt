@@ -1,6 +1,7 @@
 //! The algorithm that a request is signed with.
 ghost use Rattle.std.specs.Prelude.{◌≡◌};
-ghost use Rattle.stun_agent.specs.Integrity.{integrity_of, integrity_after};
+ghost use Rattle.stun_agent.specs.Integrity.{integrity_of};
+ghost use Rattle.stun_agent.specs.code.Integrity.{integrity_after};
 
 use stun_base::algorithm::IntegrityAlgorithm;
 use stun_base::attribute_type::AttributeType;

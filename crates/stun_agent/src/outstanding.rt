@@ -1,9 +1,11 @@
 //! The requests that wait for their responses.
 ghost use Rattle.std.specs.Prelude.{◌≡◌, ◌+◌, ◌≤◌, [], length, Some, None, IfSome, OnOk, OnErr};
 ghost use Rattle.std.specs.Option.{option_map, option_copied, is_some};
-ghost use Rattle.stun_agent.specs.Deadlines.{is_later, early_requests};
+ghost use Rattle.stun_agent.specs.Deadlines.{early_requests};
+ghost use Rattle.stun_agent.specs.code.Deadlines.{is_later};
 ghost use Rattle.stun_agent.specs.Timing.{settings_of};
-ghost use Rattle.stun_agent.specs.Transactions.{repeats, contents, AreKept, at, with, without, changed, silenced, cancelled, configured, first_over, wake_up, next_awaited, next_sent, after_slots, IsNamed};
+ghost use Rattle.stun_agent.specs.Transactions.{repeats, AreKept, at, with, without, changed, silenced, cancelled, configured, first_over, wake_up, next_awaited, next_sent, after_slots, IsNamed};
+ghost use Rattle.stun_agent.specs.code.Transactions.{contents};
 
 use crate::deadlines::{DeadlineIndex, Reads};
 use crate::ending;
@@ -33,8 +35,8 @@ pub(crate) struct Outstanding<A: Allocator = Global> {
 }
 
 impl<A: Allocator> Model for Outstanding<A> {
-    ghost use Rattle.stun_agent.specs.Deadlines.{AreIndexed};
-    ghost use Rattle.stun_agent.specs.Transactions.{Outstanding};
+    ghost use Rattle.stun_agent.specs.code.Deadlines.{AreIndexed};
+    ghost use Rattle.stun_agent.specs.code.Transactions.{Outstanding};
 
     ghost Value = { Outstanding };
 

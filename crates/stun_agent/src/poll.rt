@@ -5,7 +5,8 @@ ghost use Rattle.std.specs.Option.{option_map};
 ghost use Rattle.stun_agent.specs.Agent.{poll_answer, after_poll, sent_by_poll, after_poll_transmit, datagram_of};
 ghost use Rattle.stun_agent.specs.Datagrams.{lent_datagram};
 ghost use Rattle.stun_agent.specs.Deadlines.{early_requests};
-ghost use Rattle.stun_agent.specs.Transactions.{IsNamed, AreKept, next_awaited, contents, at};
+ghost use Rattle.stun_agent.specs.Transactions.{IsNamed, AreKept, next_awaited, at};
+ghost use Rattle.stun_agent.specs.code.Transactions.{contents};
 
 use crate::agent::{StunAgent, StunAgentPollRet};
 use crate::counting;

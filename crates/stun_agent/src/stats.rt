@@ -36,7 +36,7 @@ impl Model for StunAgentStats {
 
     ghost Value = { Statistics };
 
-    ghost use Rattle.stun_agent.specs.StatisticsFields.{FitsFields, statistics_of, fields_of};
+    ghost use Rattle.stun_agent.specs.code.StatisticsFields.{FitsFields, statistics_of, fields_of};
 
     ghost view = { statistics_of };
 

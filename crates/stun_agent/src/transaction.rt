@@ -1,6 +1,6 @@
 //! A request that waits for its response.
 ghost use Rattle.std.specs.Prelude.{◌≡◌, IsTrue};
-ghost use Rattle.stun_agent.specs.Deadlines.{deadline_of};
+ghost use Rattle.stun_agent.specs.code.Deadlines.{deadline_of};
 ghost use Rattle.stun_agent.specs.Timing.{settings_of};
 ghost use Rattle.stun_agent.specs.Transactions.{repeats, is_cancelled, after_silence, new_transaction, silenced, cancelled, configured, has_slots, awaited, is_due, is_over, is_reached, after_slot, slot_passed, round_trip};
 

@@ -4,9 +4,10 @@ ghost use Rattle.std.specs.Ordering.{nat_cmp};
 ghost use Rattle.std.specs.BTreeMap.{get, IsOrdered};
 ghost use Rattle.std.specs.Option.{option_map};
 ghost use Rattle.std.specs.List.Sorted.{IsNonDecreasingBy};
-ghost use Rattle.stun_agent.specs.Deadlines.{IsIndexOf, IsMoved, IsRenewed};
+ghost use Rattle.stun_agent.specs.code.Deadlines.{IsIndexOf, IsMoved, IsRenewed};
 ghost use Rattle.stun_agent.specs.Timing.{settings_of};
-ghost use Rattle.stun_agent.specs.Transactions.{repeats, at, sooner, next_awaited, next_sent, after_slots, contents, changed, silenced, cancelled, configured};
+ghost use Rattle.stun_agent.specs.Transactions.{repeats, at, sooner, next_awaited, next_sent, after_slots, changed, silenced, cancelled, configured};
+ghost use Rattle.stun_agent.specs.code.Transactions.{contents};
 
 use crate::deadlines::DeadlineIndex;
 use crate::rto::RequestRto;

@@ -11,7 +11,8 @@ use Rattle.stun_types.specs.PasswordAlgorithms.{integrity_of, password_algorithm
 use Rattle.stun_types.specs.declared.attribute.password_algorithm.PasswordAlgorithmValue.{PasswordAlgorithmValue}
 use Rattle.stun_types.specs.declared.attribute.password_algorithm.PasswordAlgorithmValue.TheVariants.{MD5, SHA256}
 use Rattle.stun_auth.specs.AddedAttribute.{nonce, realm, username}
-use Rattle.stun_auth.specs.Additions.{Addition, attribute, Page, growth_of, growth, added_one, IsAdded, is_too_long}
+use Rattle.stun_auth.specs.Additions.{Addition, attribute, Page, growth_of, growth, added_one, is_too_long}
+use Rattle.stun_auth.specs.code.Additions.{IsAdded}
 use Rattle.stun_auth.specs.ClientSigning.{algorithm_choice}
 
 -- what two lists take together

@@ -16,7 +16,7 @@ use Rattle.std.specs.BTreeSet.{BTreeSet, IsKeyRangeOf, UpdatesBy, contains}
 use Rattle.std.specs.Set.{KeepsOthers}
 use Rattle.std.proofs.lemmas.Map.Lookups.{exact_bytes, exact_pairs}
 use Rattle.stun_auth.specs.Registered.{name_cmp}
-use Rattle.stun_auth.specs.NameIndex.{IsLeastNamed, hashed_cmp, hashed_seen, names_hashed}
+use Rattle.stun_auth.specs.code.NameIndex.{IsLeastNamed, hashed_cmp, hashed_seen, names_hashed}
 
 pub hashed_total : IsTotalOrder hashed_cmp
 hashed_total = then_total (on_total (λ (x : List ℕ × List ℕ). x.0) nat_list_cmp_total) (on_total (λ (x : List ℕ × List ℕ). x.1) nat_list_cmp_total)

@@ -18,7 +18,7 @@ use Rattle.std.proofs.lemmas.Map.Lookups.{exact_bytes}
 use Rattle.std.proofs.lemmas.Map.Text.{is_eq-slice_cmp}
 use Rattle.std.proofs.lemmas.Slice.Eq.{bytes_eq-Decides}
 use Rattle.stun_base.specs.Keys.{userhash}
-use Rattle.stun_auth.specs.NameIndex.{HashedNames, IsIndexOf, IsLeastNamed, hashed_cmp}
+use Rattle.stun_auth.specs.code.NameIndex.{HashedNames, IsIndexOf, IsLeastNamed, hashed_cmp}
 use Rattle.stun_auth.specs.Registered.{name_cmp}
 use Rattle.stun_auth.proofs.HashedNames.{hashed_exact, hashed_total}
 

@@ -12,7 +12,8 @@ use Rattle.std.specs.declared.net.socket_addr.SocketAddr.TheVariants.{V4, V6}
 use Rattle.std.specs.contracts.net.socket_addr.SocketAddrOrd.TheImpl.{cmp-value}
 use Rattle.stun_base.specs.Address.{address_cmp}
 use Rattle.stun_auth.specs.Seen.{PlaceSeen}
-use Rattle.stun_auth.specs.Places.{PlacesSeen, place_seen, places_seen, at_place}
+use Rattle.stun_auth.specs.Places.{PlacesSeen, at_place}
+use Rattle.stun_auth.specs.code.Places.{place_seen, places_seen}
 use Rattle.stun_auth.specs.declared.places.Place.{Place}
 use Rattle.stun_auth.proofs.Addresses.{address_total, address_exact}
 use Rattle.stun_auth.proofs.Maps.{get-seen, seen_inserted}

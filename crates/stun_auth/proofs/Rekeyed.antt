@@ -6,7 +6,7 @@ use Rattle.std.specs.Map.{lookup}
 use Rattle.std.specs.String.{string_bytes}
 use Rattle.std.specs.Map.Calls.{RetainsPairs}
 use Rattle.stun_auth.specs.declared.algorithm_set.AlgorithmSet.{AlgorithmSet}
-use Rattle.stun_auth.specs.Users.{HasKeys}
+use Rattle.stun_auth.specs.code.Users.{HasKeys}
 use Rattle.stun_auth.specs.declared.registry.User.{User}
 
 -- a name and the user's password

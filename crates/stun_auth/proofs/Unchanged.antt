@@ -17,7 +17,7 @@ use Rattle.stun_auth.specs.Server.{Sight, standing, standing_of, stands_at}
 use Rattle.stun_auth.specs.Validation.{ChangesNothing, ServerSeen, sight, with_accepted, put_place, needs_nonce, after_message, verdict_at}
 use Rattle.stun_auth.specs.declared.server_reason.LongTermServerAuthErrorReason.{LongTermServerAuthErrorReason}
 use Rattle.stun_auth.specs.declared.server_reason.LongTermServerAuthErrorReason.TheVariants.{Unauthorized, IntegrityFailed, UnsupportedFeature, BadRequest, StaleNonce, OutOfMemory}
-use Rattle.stun_auth.specs.VerdictSteps.{answered, place_left}
+use Rattle.stun_auth.specs.code.VerdictSteps.{answered, place_left}
 use Rattle.stun_auth.specs.declared.server.validation.Acceptance.{Acceptance}
 use Rattle.stun_auth.specs.declared.server.validation.Acceptance.TheVariants.{Known, New}
 use Rattle.stun_auth.specs.Nonces.{nonce_of}

@@ -16,7 +16,7 @@ use Rattle.stun_base.specs.declared.algorithm.IntegrityAlgorithm.{IntegrityAlgor
 use Rattle.stun_auth.specs.declared.algorithm_set.AlgorithmSet.{AlgorithmSet}
 use Rattle.stun_base.specs.Credentials.{NameAndPassword}
 use Rattle.stun_auth.specs.Registered.{Registered, key_of, key_at}
-use Rattle.stun_auth.specs.Users.{key_in, HasKeys, AllHaveKeys, passwords_seen}
+use Rattle.stun_auth.specs.code.Users.{key_in, HasKeys, AllHaveKeys, passwords_seen}
 use Rattle.stun_auth.specs.declared.registry.User.{User}
 use Rattle.stun_auth.proofs.Maps.{get-seen, seen_inserted, seen_removed}
 

@@ -3,9 +3,7 @@ use Rattle.std.specs.Prelude.{ℕ, List, map}
 use Rattle.stun_base.specs.Attributes.{USERNAME, REALM, NONCE, USERHASH, PASSWORD_ALGORITHM, PASSWORD_ALGORITHMS}
 use Rattle.stun_base.specs.declared.algorithm.IntegrityAlgorithm.{IntegrityAlgorithm}
 use Rattle.stun_types.specs.Attribute.{TypedValue}
-use Rattle.stun_types.specs.PasswordAlgorithms.{integrity_of, password_algorithm_of, spelled_entries, spelled_entry}
-use Rattle.stun_auth.specs.declared.addition.AddedAttribute.{AddedAttribute}
-use Rattle.stun_auth.specs.declared.addition.AddedAttribute.TheVariants.{Nonce, Realm, Username, Userhash, PasswordAlgorithms, PasswordAlgorithm}
+use Rattle.stun_types.specs.PasswordAlgorithms.{password_algorithm_of, spelled_entries, spelled_entry}
 
 abbrev pub nonce : List ℕ → TypedValue
 nonce text = record { kind = NONCE; value = text }
@@ -25,12 +23,3 @@ password_algorithms list = record { kind = PASSWORD_ALGORITHMS; value = spelled_
 
 abbrev pub password_algorithm : IntegrityAlgorithm → TypedValue
 password_algorithm algorithm = record { kind = PASSWORD_ALGORITHM; value = spelled_entry (password_algorithm_of algorithm) }
-
--- the attribute that is added
-abbrev pub attribute_of : AddedAttribute → TypedValue
-attribute_of (Nonce text) = nonce text.now
-attribute_of (Realm text) = realm text.now
-attribute_of (Username text) = username text.now
-attribute_of (Userhash hash) = userhash hash
-attribute_of (PasswordAlgorithms list) = password_algorithms (map integrity_of list.now)
-attribute_of (PasswordAlgorithm algorithm) = password_algorithm algorithm

@@ -1,5 +1,5 @@
 -- What signing adds to a message, one after another (RFC 8489, section 9): attributes, and last the integrity attribute.
-use Rattle.std.specs.Prelude.{◌≡◌, ℕ, ◌+◌, ◌-◌, ◌<◌, ◌≤◌, ◌==◌, nat_lt, Bool, ◌&&◌, ◌||◌, if◌then◌else◌, List, [], ◌∷◌, length, sum_by, Option, Some, None, Result, Ok, Err, OnOk}
+use Rattle.std.specs.Prelude.{ℕ, ◌-◌, ◌==◌, nat_lt, Bool, ◌&&◌, ◌||◌, if◌then◌else◌, List, [], ◌∷◌, length, sum_by, Option, Some, None, Result, Ok, Err}
 use Rattle.stun_base.specs.Algorithm.{digest_length}
 use Rattle.stun_base.specs.Attributes.{USERNAME, REALM, NONCE}
 use Rattle.stun_base.specs.declared.algorithm.IntegrityAlgorithm.{IntegrityAlgorithm}
@@ -62,8 +62,6 @@ abbrev pub added_all : List Addition → Page → Result Page StunWriteError
 added_all [] page = Ok page
 added_all (addition ∷ others) page = after (added_one addition page) (added_all others)
 
--- ---- what a call that adds answers
-
 -- the first fact holds, or the second where memory is wanting
 abbrev pub UnlessMemory : {V : Type 0} → Result V StunWriteError → Type 0 → Type 0 → Type 0
 UnlessMemory (Ok value) P Q = P
@@ -75,11 +73,6 @@ UnlessMemory (Err TooSmall) P Q = P
 UnlessMemory (Err IntegrityFailed) P Q = P
 UnlessMemory (Err OutOfMemory) P Q = Q
 
--- an answer, with the page that success leaves
-abbrev pub outcome_of : {V : Type 0} → Result V StunWriteError → Page → Result Page StunWriteError
-outcome_of (Ok value) page = Ok page
-outcome_of (Err reason) page = Err reason
-
 -- the answer of a call that takes and gives a writer, with the page that success leaves
 abbrev pub page_in : {W : Type 0} → (W → List ℕ) → (W → ℕ) → W → Page
 page_in bytes room writer = record { bytes = bytes writer; room = room writer }
@@ -87,12 +80,3 @@ page_in bytes room writer = record { bytes = bytes writer; room = room writer }
 abbrev pub written : {W : Type 0} → (W → List ℕ) → (W → ℕ) → Result W StunWriteError → Result Page StunWriteError
 written bytes room (Ok writer) = Ok (page_in bytes room writer)
 written bytes room (Err reason) = Err reason
-
--- a call answers what the additions come to on the page before it, and want of memory only where less than they take was reserved
-abbrev pub IsOutcome : List Addition → Page → ℕ → Result (Unit {0}) StunWriteError → Page → Type 0
-IsOutcome list page reserved result page_after = UnlessMemory result (outcome_of result page_after ≡ added_all list page) (reserved < growth list)
-
--- it does, and leaves reserved what it does not take
-pub record IsAdded (list : List Addition) (page : Page) (reserved : ℕ) (result : Result (Unit {0}) StunWriteError) (page_after : Page) (reserved_after : ℕ) : Type 0 where
-  pub outcome : IsOutcome list page reserved result page_after
-  pub kept : OnOk result (reserved ≤ reserved_after + growth list)

@@ -1,7 +1,6 @@
 -- Integrity algorithms, sets and lists of them (RFC 8489, sections 9.2.1 and 14.11).
-use Rattle.std.specs.Prelude.{◌≡◌, ℕ, zero, suc, Bool, true, false, ◌&&◌, List, [], ◌∷◌, Option, Some, None, refl}
+use Rattle.std.specs.Prelude.{Bool, true, false, ◌&&◌, List, [], ◌∷◌, Option, Some, None}
 use Rattle.std.specs.List.{list_any}
-use Rattle.std.specs.Coded.{Coded, code_by, coded_ℕ, coded_bool}
 use Rattle.stun_base.specs.declared.algorithm.IntegrityAlgorithm.{IntegrityAlgorithm}
 use Rattle.stun_base.specs.declared.algorithm.IntegrityAlgorithm.TheVariants.{Sha1, Sha256}
 use Rattle.stun_auth.specs.declared.algorithm_set.AlgorithmSet.{AlgorithmSet}
@@ -57,32 +56,3 @@ with_algorithm Sha256 Both = Both
 abbrev pub is_sha256 : IntegrityAlgorithm → Bool
 is_sha256 Sha1 = false
 is_sha256 Sha256 = true
-
-abbrev pub algorithm_by : Bool → IntegrityAlgorithm
-algorithm_by false = Sha1
-algorithm_by true = Sha256
-
-pub algorithm_again : (a : IntegrityAlgorithm) → algorithm_by (is_sha256 a) ≡ a
-algorithm_again Sha1 = refl
-algorithm_again Sha256 = refl
-
-abbrev pub coded_algorithm : Coded IntegrityAlgorithm
-coded_algorithm = code_by Bool coded_bool is_sha256 algorithm_by algorithm_again
-
-abbrev pub set_number : AlgorithmSet → ℕ
-set_number OnlySha1 = 0
-set_number OnlySha256 = 1
-set_number Both = 2
-
-abbrev pub set_of : ℕ → AlgorithmSet
-set_of zero = OnlySha1
-set_of (suc zero) = OnlySha256
-set_of (suc (suc n)) = Both
-
-pub set_again : (s : AlgorithmSet) → set_of (set_number s) ≡ s
-set_again OnlySha1 = refl
-set_again OnlySha256 = refl
-set_again Both = refl
-
-abbrev pub coded_set : Coded AlgorithmSet
-coded_set = code_by ℕ coded_ℕ set_number set_of set_again

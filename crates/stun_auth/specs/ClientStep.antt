@@ -20,13 +20,6 @@ use Rattle.stun_auth.specs.declared.client_answer.LongTermClientAuthErrorReason.
 use Rattle.stun_auth.specs.declared.client_answer.LongTermClientValidation.{LongTermClientValidation}
 use Rattle.stun_auth.specs.declared.client_answer.LongTermClientValidation.TheVariants.{ResendRequest, Validated}
 
--- the refusals by their names
-abbrev pub ClientRefusal : Type 0
-ClientRefusal = Refusal
-
-abbrev pub unsupported_feature : ClientRefusal
-unsupported_feature = Refused.UnsupportedFeature
-
 abbrev pub ClientAnswer : Type 0
 ClientAnswer = Result LongTermClientValidation LongTermClientAuthErrorReason
 
@@ -34,8 +27,6 @@ ClientAnswer = Result LongTermClientValidation LongTermClientAuthErrorReason
 pub record ClientStep : Type 0 where
   pub answer : ClientAnswer
   pub state : ClientState
-
--- ---- the algorithm of a challenge
 
 -- the first algorithm of the server's list that the client supports
 abbrev pub first_supported : List IntegrityAlgorithm → List IntegrityAlgorithm → Option IntegrityAlgorithm
@@ -74,8 +65,6 @@ choose supported feature nonce list =
     unless (is_required feature && not (asks_for_userhash nonce)) (choose_by_list supported (asks_for_algorithms nonce) list)
     else choose_without_bits supported feature
 
--- ---- what is kept of a challenge
-
 abbrev pub naming_of : Bool → List ℕ → List ℕ → Naming
 naming_of true username realm = hashed (userhash username realm)
 naming_of false username realm = plain username
@@ -113,8 +102,6 @@ taken_up s state (Some user) (Some realm) None list = Err Refused.Unauthorized
 taken_up s state (Some user) (Some realm) (Some nonce) list =
     if is_repeated state realm nonce then Err Refused.Unauthorized
     else kept_if s.feature user realm nonce list (choose s.supported s.feature nonce list)
-
--- ---- what a message is answered, and the state that is left
 
 abbrev pub reason_of : Refusal → LongTermClientAuthErrorReason
 reason_of Refused.Unauthorized = Unauthorized
@@ -177,8 +164,6 @@ client_step s state r =
     after_challenge state (standing_digest state r) (taken_up s state s.credentials r.realm r.nonce r.algorithms)
     else if is_code STALE_NONCE r.error then after_stale state (standing_digest state r) r.realm r.nonce
     else after_digest state (is_success r.class) (standing_digest state r)
-
--- ---- want of memory
 
 -- the request is to be sent again: these answers alone keep something new
 abbrev pub IsResend : ClientAnswer → Type 0

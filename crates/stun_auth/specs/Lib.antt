@@ -1,25 +1,44 @@
-pub mod AddedAttribute
-pub mod Additions
-pub mod AddressCode
-pub mod Algorithms
-pub mod Client
-pub mod ClientKept
-pub mod ClientSigning
-pub mod ClientStep
-pub mod Feature
-pub mod Joined
-pub mod NameIndex
-pub mod Nonces
-pub mod Places
+-- What the contracts of this crate say, in the order to read it.
+
+-- what an authenticator reads of a message (RFC 8489, sections 9.2.4 and 9.2.5)
 pub mod Reading
-pub mod Reasons
+-- the users of a realm and their keys (sections 9.2.2 and 14.4)
 pub mod Registered
+-- integrity algorithms, sets and lists of them (sections 9.2.1 and 14.11)
+pub mod Algorithms
+-- whether user names are sent as their hash (section 9.2)
+pub mod Feature
+-- nonces and the security bits that they carry (section 9.2)
+pub mod Nonces
+-- what a server keeps for an address (section 9.2.4)
 pub mod Seen
+-- whom a server accepts at an address, and why it refuses others (section 9.2.4)
 pub mod Server
-pub mod ServerSigning
-pub mod Signed
-pub mod ShortTerm
-pub mod Supported
-pub mod Users
+-- a whole server, and what validating a message answers and leaves (section 9.2.4)
 pub mod Validation
-pub mod VerdictSteps
+-- the places of all addresses
+pub mod Places
+-- why a server refuses a message
+pub mod Reasons
+-- a client: what it is set to and what it keeps (section 9.2)
+pub mod Client
+-- what a client answers to a message and keeps after it (sections 9.2.5 and 9.2.6)
+pub mod ClientStep
+-- the algorithms that a client supports, in their order
+pub mod Supported
+-- what signing adds to a message (section 9)
+pub mod Additions
+-- the attributes that signing adds, by type and value
+pub mod AddedAttribute
+-- what a client adds (section 9.2.5)
+pub mod ClientSigning
+-- what a server adds (section 9.2.4)
+pub mod ServerSigning
+-- short-term authentication (section 9.1)
+pub mod ShortTerm
+-- laws: what a message says after additions
+pub mod Joined
+-- laws: what is read of a message that was signed
+pub mod Signed
+-- what no clause of a public call says: codings of models, views of structs, steps of the code
+pub mod code

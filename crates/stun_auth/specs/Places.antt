@@ -1,32 +1,15 @@
 -- The places of all addresses.
-use Rattle.std.specs.Prelude.{List, map, if◌then◌else◌, Option, Some, None}
-use Rattle.std.specs.Option.{is_some, option_map}
+use Rattle.std.specs.Prelude.{if◌then◌else◌, Option, Some, None}
+use Rattle.std.specs.Option.{is_some}
 use Rattle.std.specs.FinMap as fin
-use Rattle.std.specs.String.{string_bytes}
 use Rattle.std.specs.declared.net.socket_addr.SocketAddr.{SocketAddr}
 use Rattle.stun_base.specs.Address.{address_cmp}
 use Rattle.stun_auth.specs.declared.algorithm_set.AlgorithmSet.{AlgorithmSet}
-use Rattle.stun_auth.specs.declared.places.Client.{Client}
-use Rattle.stun_auth.specs.declared.places.Place.{Place}
 use Rattle.stun_auth.specs.Seen.{ClientSeen, PlaceSeen}
-
-abbrev pub client_seen : {A : Type 0} → Client A → ClientSeen
-client_seen c = record { name = string_bytes c.name; algorithm = c.algorithm }
-
-abbrev pub place_seen : {A : Type 0} → Place A → PlaceSeen
-place_seen p = record {
-  nonce = string_bytes p.nonce;
-  expires = p.expires;
-  offered = p.offered;
-  client = option_map client_seen p.client;
-}
 
 -- a place for each address that has one
 abbrev pub PlacesSeen : Type 0
 PlacesSeen = fin.FinMap address_cmp PlaceSeen
-
-abbrev pub places_seen : {A : Type 0} → List (SocketAddr × Place A) → PlacesSeen
-places_seen entries = fin.from_entries (map (λ e. (e.0, place_seen e.1)) entries)
 
 -- the places with a change at an address, where it has one
 abbrev pub at_place : Option PlaceSeen → PlacesSeen → SocketAddr → (PlaceSeen → PlaceSeen) → PlacesSeen

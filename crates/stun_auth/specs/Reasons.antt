@@ -10,15 +10,6 @@ use Rattle.stun_auth.specs.declared.server_reason.LongTermServerAuthErrorReason.
 abbrev pub ServerRefusal : Type 0
 ServerRefusal = Refusal
 
-abbrev pub unauthorized : ServerRefusal
-unauthorized = Refused.Unauthorized
-
-abbrev pub bad_request : ServerRefusal
-bad_request = Refused.BadRequest
-
-abbrev pub stale_nonce : ServerRefusal
-stale_nonce = Refused.StaleNonce
-
 -- the reason of a refusal
 abbrev pub reason_of : Refusal → LongTermServerAuthErrorReason
 reason_of Refused.Unauthorized = Unauthorized

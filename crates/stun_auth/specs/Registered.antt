@@ -1,5 +1,5 @@
 -- The users of a realm and their keys (RFC 8489, sections 9.2.2 and 14.4).
-use Rattle.std.specs.Prelude.{ℕ, List, Bool, Option, Some, None, if◌then◌else◌, refl}
+use Rattle.std.specs.Prelude.{ℕ, List, Bool, Option, Some, None, if◌then◌else◌}
 use Rattle.std.specs.Option.{option_map, option_and_then}
 use Rattle.std.specs.List.{find}
 use Rattle.std.specs.Str.{bytes_eq}
@@ -7,13 +7,12 @@ use Rattle.std.specs.Ordering.{nat_cmp}
 use Rattle.std.specs.declared.cmp.Ordering.{Ordering}
 use Rattle.std.specs.Cmp.Lexicographic.{slice_cmp}
 use Rattle.std.specs.FinMap as map
-use Rattle.std.specs.Coded.{Coded, code_by, coded×, coded_ℕ, coded_list}
 use Rattle.stun_base.specs.declared.algorithm.IntegrityAlgorithm.{IntegrityAlgorithm}
 use Rattle.stun_base.specs.declared.algorithm.IntegrityAlgorithm.TheVariants.{Sha1}
 use Rattle.stun_base.specs.Credentials.{NameAndPassword}
 use Rattle.stun_base.specs.Keys.{long_term_key, userhash}
 use Rattle.stun_auth.specs.declared.algorithm_set.AlgorithmSet.{AlgorithmSet}
-use Rattle.stun_auth.specs.Algorithms.{contains, only, coded_set}
+use Rattle.stun_auth.specs.Algorithms.{contains, only}
 
 -- names are ordered as bytes
 abbrev pub name_cmp : List ℕ → List ℕ → Ordering
@@ -24,11 +23,6 @@ pub record Registered : Type 0 where
   pub realm : List ℕ
   pub algorithms : AlgorithmSet
   pub passwords : map.FinMap name_cmp (List ℕ)
-
-abbrev pub coded_registered : Coded Registered
-coded_registered = code_by (List ℕ × (AlgorithmSet × map.FinMap name_cmp (List ℕ)))
-    (coded× (coded_list coded_ℕ) (coded× coded_set (map.code (coded_list coded_ℕ) (coded_list coded_ℕ))))
-    (λ r. (r.realm, (r.algorithms, r.passwords))) (λ p. record { realm = p.0; algorithms = p.1.0; passwords = p.1.1 }) (λ _. refl)
 
 -- a realm where nobody is present yet, with HMAC-SHA1 alone
 abbrev pub new_registered : List ℕ → Registered

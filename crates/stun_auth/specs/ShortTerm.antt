@@ -1,5 +1,4 @@
 -- Short-term authentication (RFC 8489, section 9.1).
-pub mod Kept
 use Rattle.std.specs.Prelude.{◌≡◌, ℕ, ◌≤◌, false, List, Option, Some, None, Result, Ok, Err, ⊤}
 use Rattle.stun_base.specs.Algorithm.{digest_length}
 use Rattle.stun_base.specs.declared.algorithm.IntegrityAlgorithm.{IntegrityAlgorithm}

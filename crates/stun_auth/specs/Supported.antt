@@ -1,20 +1,7 @@
 -- The algorithms that a client supports, in the order of their adding and without repeats.
 use Rattle.std.specs.Prelude.{List, [], ◌∷◌, ◌++◌, if◌then◌else◌}
 use Rattle.stun_base.specs.declared.algorithm.IntegrityAlgorithm.{IntegrityAlgorithm}
-use Rattle.stun_base.specs.declared.algorithm.IntegrityAlgorithm.TheVariants.{Sha1, Sha256}
 use Rattle.stun_auth.specs.Algorithms.{has}
-use Rattle.stun_auth.specs.declared.supported.Supported.{Supported}
-use Rattle.stun_auth.specs.declared.supported.Supported.TheVariants.{Only, Both}
-
--- the other of the two algorithms
-abbrev pub other : IntegrityAlgorithm → IntegrityAlgorithm
-other Sha1 = Sha256
-other Sha256 = Sha1
-
--- the list of what is supported
-abbrev pub in_order : Supported → List IntegrityAlgorithm
-in_order (Only algorithm) = algorithm ∷ []
-in_order (Both first) = first ∷ other first ∷ []
 
 -- the list with one more algorithm at its end, where it is not among them
 abbrev pub added : IntegrityAlgorithm → List IntegrityAlgorithm → List IntegrityAlgorithm

@@ -1,10 +1,9 @@
 -- A server, and what validating a message answers and leaves (RFC 8489, section 9.2.4).
-use Rattle.std.specs.Prelude.{◌≡◌, ◌↔◌, ℕ, List, Bool, not, ◌&&◌, ◌||◌, if◌then◌else◌, Option, Some, None, false, refl}
+use Rattle.std.specs.Prelude.{◌≡◌, ◌↔◌, ℕ, List, Bool, not, ◌&&◌, ◌||◌, if◌then◌else◌, Option, Some, None, false}
 use Rattle.std.specs.Option.{is_some, option_and_then}
 use Rattle.std.specs.declared.result.Result.{Result}
 use Rattle.std.specs.declared.result.Result.TheVariants.{Ok, Err}
 use Rattle.std.specs.FinMap as map
-use Rattle.std.specs.Coded.{Coded, code_by, coded×, coded_ℕ}
 use Rattle.std.specs.declared.net.socket_addr.SocketAddr.{SocketAddr}
 use Rattle.stun_base.specs.Address.{address_cmp}
 use Rattle.stun_base.specs.declared.algorithm.IntegrityAlgorithm.{IntegrityAlgorithm}
@@ -15,12 +14,10 @@ use Rattle.stun_auth.specs.declared.server_reason.LongTermServerAuthErrorReason.
 use Rattle.stun_auth.specs.declared.server_reason.LongTermServerAuthErrorReason.TheVariants.{IntegrityFailed, BadRequest}
 use Rattle.stun_auth.specs.declared.server_reason.LongTermServerValidation.{LongTermServerValidation}
 use Rattle.stun_auth.specs.declared.server_reason.LongTermServerValidation.TheVariants.{Validated}
-use Rattle.stun_auth.specs.AddressCode.{coded_address}
-use Rattle.stun_auth.specs.Feature.{coded_feature}
 use Rattle.stun_auth.specs.Reading.{Reading, is_response, stands_under}
 use Rattle.stun_auth.specs.Reasons.{reason_of}
-use Rattle.stun_auth.specs.Registered.{Registered, coded_registered, key_at, new_registered}
-use Rattle.stun_auth.specs.Seen.{ClientSeen, PlaceSeen, coded_place}
+use Rattle.stun_auth.specs.Registered.{Registered, key_at, new_registered}
+use Rattle.stun_auth.specs.Seen.{ClientSeen, PlaceSeen}
 use Rattle.stun_auth.specs.Server.{Sight, IsAccepted, stands_at, standing, verdict}
 
 -- the users with the realm and the supported algorithms, the settings, and the place of each address that has one
@@ -29,11 +26,6 @@ pub record ServerSeen : Type 0 where
   pub feature : Feature
   pub expiry : ℕ
   pub places : map.FinMap address_cmp PlaceSeen
-
-abbrev pub coded_server : Coded ServerSeen
-coded_server = code_by (Registered × (Feature × (ℕ × map.FinMap address_cmp PlaceSeen)))
-    (coded× coded_registered (coded× coded_feature (coded× coded_ℕ (map.code coded_address coded_place))))
-    (λ s. (s.registered, (s.feature, (s.expiry, s.places)))) (λ p. record { registered = p.0; feature = p.1.0; expiry = p.1.1.0; places = p.1.1.1 }) (λ _. refl)
 
 -- HMAC-SHA1 alone, hashed names where the client wants them, nonces of an hour, nobody present and no place
 abbrev pub new_server : List ℕ → ServerSeen
@@ -46,8 +38,6 @@ sight s a = record { registered = s.registered; feature = s.feature; expiry = s.
 abbrev pub Answer : Type 0
 Answer = Result LongTermServerValidation LongTermServerAuthErrorReason
 
--- ---- a response: the digest under the key of the address's client
-
 -- the algorithm whose digest stands under the key that the present user of a client has for the client's algorithm
 abbrev pub client_stands : Registered → Reading → ClientSeen → Option IntegrityAlgorithm
 client_stands users r c = option_and_then (stands_under r) (key_at users c.name c.algorithm)
@@ -58,8 +48,6 @@ client_verified users r place = option_and_then (client_stands users r) (option_
 abbrev pub validated_or_failed : Option IntegrityAlgorithm → Answer
 validated_or_failed None = Err IntegrityFailed
 validated_or_failed (Some a) = Ok (Validated a)
-
--- ---- any other message
 
 -- REALM, NONCE and a name are there
 abbrev pub is_complete : Reading → Bool
@@ -115,8 +103,6 @@ put_place places a (Some place) = map.insert places a place
 -- the server that is left
 abbrev pub after_message : ServerSeen → SocketAddr → ℕ → List ℕ → Reading → ServerSeen
 after_message s from now words r = record s { places = put_place s.places from (place_after (sight s from) now words r) }
-
--- ---- acceptance
 
 -- a message is accepted with an algorithm: someone is accepted with it at the place where a nonce stands
 abbrev pub AcceptedWith : Sight → ℕ → List ℕ → Reading → IntegrityAlgorithm → Type 0

@@ -2,8 +2,9 @@
 ghost use Rattle.std.specs.Prelude.{◌≡◌, ◌≤◌, ◌<◌, ◌+◌, ◌*◌, ◌/◌, ◌^◌, ◌∷◌, [], false, length};
 ghost use Rattle.stun_base.specs.Algorithm.{digest_length};
 ghost use Rattle.stun_types.specs.Attribute.{attribute_length};
-ghost use Rattle.stun_auth.specs.AddedAttribute.{attribute_of};
-ghost use Rattle.stun_auth.specs.Additions.{IsAdded, IsOutcome, attribute, integrity, is_too_long, page_in};
+ghost use Rattle.stun_auth.specs.code.AddedAttribute.{attribute_of};
+ghost use Rattle.stun_auth.specs.Additions.{attribute, integrity, is_too_long, page_in};
+ghost use Rattle.stun_auth.specs.code.Additions.{IsAdded, IsOutcome};
 
 use std::alloc::Allocator;
 use stun_types::attribute::{

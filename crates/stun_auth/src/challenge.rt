@@ -3,9 +3,9 @@ ghost use Rattle.std.specs.Prelude.{◌≡◌, IfOk, Ok, Err, Some, None, find, 
 ghost use Rattle.std.specs.Option.{option_map};
 ghost use Rattle.stun_types.specs.PasswordAlgorithms.{integrity_of};
 ghost use Rattle.stun_auth.specs.ClientStep.{choose, choose_by_list, choose_without_bits, first_supported, is_required, list_or_none, naming_of, unless};
-ghost use Rattle.stun_auth.specs.ClientKept.{challenge_seen, naming_seen, offer_kept};
+ghost use Rattle.stun_auth.specs.code.ClientKept.{challenge_seen, naming_seen, offer_kept};
 ghost use Rattle.stun_auth.specs.Nonces.{asks_for_userhash};
-ghost use Rattle.stun_auth.specs.Supported.{in_order};
+ghost use Rattle.stun_auth.specs.code.Supported.{in_order};
 
 use crate::feature::Feature;
 use crate::nonce::NonceSecurityBits;

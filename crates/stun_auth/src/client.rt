@@ -3,8 +3,9 @@ ghost use Rattle.std.specs.Prelude.{◌≡◌, ◌∷◌, [], Some, OnErr, map, 
 ghost use Rattle.stun_auth.specs.Reading.{reading_of};
 ghost use Rattle.stun_auth.specs.Client.{new_client};
 ghost use Rattle.stun_auth.specs.ClientStep.{IsResend, OrMemory, after_challenge, after_digest, after_stale, client_step, is_authenticated, is_code, is_repeated, reason_of, standing_digest, taken_up};
-ghost use Rattle.stun_auth.specs.ClientKept.{challenge_seen, offer_seen, state_seen};
-ghost use Rattle.stun_auth.specs.Supported.{added, in_order};
+ghost use Rattle.stun_auth.specs.code.ClientKept.{challenge_seen, offer_seen, state_seen};
+ghost use Rattle.stun_auth.specs.Supported.{added};
+ghost use Rattle.stun_auth.specs.code.Supported.{in_order};
 
 mod signing;
 
@@ -91,14 +92,15 @@ pub struct LongTermClientAuth<A: Allocator = Global> {
 }
 
 impl<A: Allocator> Model for LongTermClientAuth<A> {
-    ghost use Rattle.stun_auth.specs.Client.{ClientSide, coded_client_side};
+    ghost use Rattle.stun_auth.specs.Client.{ClientSide};
+    ghost use Rattle.stun_auth.specs.code.Client.{coded_client_side};
 
     ghost Value = { ClientSide };
 
     ghost coded = { coded_client_side };
 
-    ghost use Rattle.stun_auth.specs.Supported.{in_order};
-    ghost use Rattle.stun_auth.specs.ClientKept.{state_seen};
+    ghost use Rattle.stun_auth.specs.code.Supported.{in_order};
+    ghost use Rattle.stun_auth.specs.code.ClientKept.{state_seen};
 
     ghost view = { λ client. record {
       settings = record { supported = in_order client.supported; feature = client.feature; credentials = client.credentials };

@@ -4,7 +4,7 @@ ghost use Rattle.std.specs.Prelude.{◌≡◌, OnOk, OnErr};
 ghost use Rattle.std.specs.Option.{option_copied};
 ghost use Rattle.std.specs.FinSet as set;
 ghost use Rattle.std.specs.String.{string_bytes};
-ghost use Rattle.stun_auth.specs.NameIndex.{IsLeastNamed};
+ghost use Rattle.stun_auth.specs.code.NameIndex.{IsLeastNamed};
 
 use std::alloc::{AllocError, Allocator};
 use std::collections::BTreeSet;
@@ -19,7 +19,7 @@ pub(crate) struct NameIndex<A: Allocator> {
 
 impl<A: Allocator> Model for NameIndex<A> {
     ghost use Rattle.std.specs.FinSet as set;
-    ghost use Rattle.stun_auth.specs.NameIndex.{hashed_cmp, coded_hashed, names_hashed};
+    ghost use Rattle.stun_auth.specs.code.NameIndex.{hashed_cmp, coded_hashed, names_hashed};
 
     ghost Value = { set.FinSet hashed_cmp };
 

@@ -5,7 +5,8 @@ ghost use Rattle.std.specs.Option.{option_map, option_copied};
 ghost use Rattle.std.specs.FinMap as map;
 ghost use Rattle.std.specs.String.{string_bytes};
 ghost use Rattle.stun_auth.specs.Seen.{renewed};
-ghost use Rattle.stun_auth.specs.Places.{client_seen, place_seen, with_change, with_client, with_offer};
+ghost use Rattle.stun_auth.specs.Places.{with_change, with_client, with_offer};
+ghost use Rattle.stun_auth.specs.code.Places.{client_seen, place_seen};
 
 use crate::algorithm_set::AlgorithmSet;
 use std::alloc::{AllocError, Allocator};
@@ -23,7 +24,7 @@ pub(crate) struct Client<A: Allocator> {
 }
 
 impl<A: Allocator> Client<A> {
-    ghost use Rattle.stun_auth.specs.Places.{client_seen};
+    ghost use Rattle.stun_auth.specs.code.Places.{client_seen};
 
     /// A client of this name, which is copied.
     pub(crate) fn new(
@@ -49,7 +50,8 @@ pub(crate) struct Place<A: Allocator> {
 
 impl<A: Allocator> Place<A> {
     ghost use Rattle.stun_auth.specs.Seen.{renewed};
-    ghost use Rattle.stun_auth.specs.Places.{place_seen, client_seen, with_offer};
+    ghost use Rattle.stun_auth.specs.Places.{with_offer};
+    ghost use Rattle.stun_auth.specs.code.Places.{place_seen, client_seen};
 
     /// The place of an address that had none.
     fn new(nonce: String<A>, expires: Instant, client: Option<Client<A>>) -> Self
@@ -103,14 +105,15 @@ pub(crate) struct Places<A: Allocator> {
 impl<A: Allocator> Model for Places<A> {
     ghost use Rattle.std.specs.FinMap as map;
     ghost use Rattle.stun_base.specs.Address.{address_cmp};
-    ghost use Rattle.stun_auth.specs.AddressCode.{coded_address};
-    ghost use Rattle.stun_auth.specs.Seen.{PlaceSeen, coded_place};
+    ghost use Rattle.stun_auth.specs.code.AddressCode.{coded_address};
+    ghost use Rattle.stun_auth.specs.Seen.{PlaceSeen};
+    ghost use Rattle.stun_auth.specs.code.Seen.{coded_place};
 
     ghost Value = { map.FinMap address_cmp PlaceSeen };
 
     ghost coded = { map.code coded_address coded_place };
 
-    ghost use Rattle.stun_auth.specs.Places.{places_seen};
+    ghost use Rattle.stun_auth.specs.code.Places.{places_seen};
 
     ghost view = { λ places. places_seen places.by_address.entries };
 }

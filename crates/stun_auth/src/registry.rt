@@ -8,7 +8,7 @@ ghost use Rattle.std.specs.Option.{option_copied};
 ghost use Rattle.std.specs.String.{string_bytes, string_cmp};
 ghost use Rattle.stun_auth.specs.Algorithms.{contains, with_algorithm, only};
 ghost use Rattle.stun_auth.specs.Registered.{key_at, key_if, name_with_hash, new_registered, with_user, without_user};
-ghost use Rattle.stun_auth.specs.Users.{AllHaveKeys, passwords_seen};
+ghost use Rattle.stun_auth.specs.code.Users.{AllHaveKeys, passwords_seen};
 
 use crate::algorithm_set::AlgorithmSet;
 use crate::name_index::NameIndex;
@@ -46,7 +46,7 @@ fn key_if<A: Allocator>(
 }
 
 impl<A: Allocator + Copy> User<A> {
-    ghost use Rattle.stun_auth.specs.Users.{HasKeys, key_in};
+    ghost use Rattle.stun_auth.specs.code.Users.{HasKeys, key_in};
 
     fn new(name: &str, realm: &str, password: String<A>, supported: AlgorithmSet) -> Self
         ensures keys { HasKeys realm.now supported name.now result }
@@ -110,14 +110,15 @@ pub(crate) struct Registry<A: Allocator> {
 
 impl<A: Allocator> Model for Registry<A> {
     ghost use Rattle.std.specs.String.{string_bytes};
-    ghost use Rattle.stun_auth.specs.Registered.{Registered, coded_registered};
+    ghost use Rattle.stun_auth.specs.Registered.{Registered};
+    ghost use Rattle.stun_auth.specs.code.Registered.{coded_registered};
 
     ghost Value = { Registered };
 
     ghost coded = { coded_registered };
 
-    ghost use Rattle.stun_auth.specs.NameIndex.{IsIndexOf};
-    ghost use Rattle.stun_auth.specs.Users.{passwords_seen, AllHaveKeys};
+    ghost use Rattle.stun_auth.specs.code.NameIndex.{IsIndexOf};
+    ghost use Rattle.stun_auth.specs.code.Users.{passwords_seen, AllHaveKeys};
 
     ghost view = { λ r. record { realm = string_bytes r.realm; algorithms = r.supported; passwords = passwords_seen r.users.entries } };
 

@@ -58,7 +58,8 @@ pub struct LongTermServerAuth<A: Allocator = Global> {
 
 impl<A: Allocator> Model for LongTermServerAuth<A> {
     ghost use Rattle.std.specs.Duration.{as_nanos};
-    ghost use Rattle.stun_auth.specs.Validation.{ServerSeen, coded_server};
+    ghost use Rattle.stun_auth.specs.Validation.{ServerSeen};
+    ghost use Rattle.stun_auth.specs.code.Validation.{coded_server};
 
     ghost Value = { ServerSeen };
 

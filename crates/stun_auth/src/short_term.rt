@@ -35,7 +35,7 @@ impl<A: Allocator> Model for ShortTermAuth<A> {
 
     ghost Value = { Option Secret };
 
-    ghost use Rattle.stun_auth.specs.ShortTerm.Kept.{secret_of, KeyIsPassword};
+    ghost use Rattle.stun_auth.specs.code.ShortTermKept.{secret_of, KeyIsPassword};
 
     ghost view = { λ auth. secret_of auth.kept };
 

@@ -1,7 +1,8 @@
 //! The algorithms that a client supports.
 ghost use Rattle.std.specs.Prelude.{◌≡◌, ◌∷◌, []};
 ghost use Rattle.stun_auth.specs.Algorithms.{has};
-ghost use Rattle.stun_auth.specs.Supported.{added, in_order};
+ghost use Rattle.stun_auth.specs.Supported.{added};
+ghost use Rattle.stun_auth.specs.code.Supported.{in_order};
 
 use stun_base::algorithm::IntegrityAlgorithm;
 

@@ -6,7 +6,7 @@ ghost use Rattle.stun_auth.specs.Algorithms.{has as is_among, offered_list, same
 ghost use Rattle.stun_auth.specs.Nonces.{security_bits};
 ghost use Rattle.stun_auth.specs.Reading.{reading_of};
 ghost use Rattle.stun_auth.specs.Server.{agreed, bits_differ, nonce_refusal, verdict};
-ghost use Rattle.stun_auth.specs.VerdictSteps.{by_steps, judged, name_in};
+ghost use Rattle.stun_auth.specs.code.VerdictSteps.{by_steps, judged, name_in};
 ghost use Rattle.stun_auth.specs.Validation.{is_complete, is_malformed};
 ghost use Rattle.stun_types.specs.PasswordAlgorithms.{integrity_of};
 

@@ -1,8 +1,7 @@
 -- The digests of message integrity (RFC 8489, sections 14.5 and 14.6).
-use Rattle.std.specs.Prelude.{◌≡◌, ℕ, List, length}
-use Rattle.std.proofs.Common.{refl}
-use Rattle.sha1.specs.Sha1.{sha1, digest_bytes as sha1_bytes}
-use Rattle.sha2.specs.Sha256.{sha256, digest_bytes as sha256_bytes}
+use Rattle.std.specs.Prelude.{ℕ, List}
+use Rattle.sha1.specs.Sha1.{sha1}
+use Rattle.sha2.specs.Sha256.{sha256}
 use Rattle.stun_base.specs.Hmac.{hmac}
 use Rattle.stun_base.specs.declared.algorithm.IntegrityAlgorithm.{IntegrityAlgorithm}
 use Rattle.stun_base.specs.declared.algorithm.IntegrityAlgorithm.TheVariants.{Sha1, Sha256}
@@ -21,9 +20,3 @@ digest Sha256 key text = hmac sha256 key text
 abbrev pub strength : IntegrityAlgorithm → ℕ
 strength Sha1 = 0
 strength Sha256 = 1
-
--- a digest has its length, whatever the key and the text
-pub length-digest : (algorithm : IntegrityAlgorithm) (key text : List ℕ) → length (digest algorithm key text) ≡ digest_length algorithm
-unfolding hmac sha1 sha256 sha1_bytes sha256_bytes
-length-digest Sha1 key text = refl
-length-digest Sha256 key text = refl

@@ -1,7 +1,5 @@
 -- The keys and hashes that credentials give (RFC 8489). Texts are their bytes, as they are handed
 -- in.
-pub mod CredentialsKeyBytes
-pub mod KeyBytes
 pub mod OfCredentials
 use Rattle.std.specs.Prelude.{ℕ, List, ◌++◌, Bool, ◌&&◌, codes}
 use Rattle.std.specs.Str.{is_utf8}

@@ -1,14 +1,32 @@
-pub mod Address
-pub mod Algorithm
-pub mod AttributeText
-pub mod Attributes
-pub mod Credentials
-pub mod Data
+-- What the contracts of this crate say, in the order to read it.
+
+-- the header of a message, and why bytes have none (RFC 8489, section 5)
 pub mod Header
-pub mod Hmac
-pub mod Keys
+-- class and method in the type field (section 5)
 pub mod MessageType
-pub mod Moments
+-- the ids of transactions (section 5)
 pub mod TransactionId
-pub mod Transport
+-- the random words that an id or a nonce is made of
 pub mod Words
+-- the types of attributes (section 18.3)
+pub mod Attributes
+-- the texts of these types
+pub mod AttributeText
+-- the keyed hash (RFC 2104)
+pub mod Hmac
+-- the digests of message integrity (RFC 8489, sections 14.5 and 14.6)
+pub mod Algorithm
+-- the keys and hashes that credentials give (sections 9.1.1, 9.2.2 and 14.4)
+pub mod Keys
+-- credentials as records of texts (section 9)
+pub mod Credentials
+-- moments and spans, in nanoseconds
+pub mod Moments
+-- the texts of transports
+pub mod Transport
+-- the order of socket addresses
+pub mod Address
+-- bytes that are borrowed or owned
+pub mod Data
+-- what no clause of a public call says: codings of models, views of structs, steps of the code
+pub mod code

@@ -378,7 +378,7 @@ enum CredentialsKeyBytes<'a, A: Allocator> {
 
 impl<'a, A: Allocator> Model for CredentialsKey<'a, A> {
     ghost use Rattle.std.specs.Prelude.{ℕ, List};
-    ghost use Rattle.stun_base.specs.Keys.CredentialsKeyBytes.{credentials_key_bytes};
+    ghost use Rattle.stun_base.specs.code.CredentialsKeyBytes.{credentials_key_bytes};
 
     ghost Value = { List ℕ };
 

@@ -36,7 +36,7 @@ enum KeyBytes<A: Allocator> {
 
 impl<A: Allocator> Model for IntegrityKey<A> {
     ghost use Rattle.std.specs.Prelude.{ℕ, List};
-    ghost use Rattle.stun_base.specs.Keys.KeyBytes.{key_bytes, IsInItsPlace};
+    ghost use Rattle.stun_base.specs.code.KeyBytes.{key_bytes, IsInItsPlace};
 
     ghost Value = { List ℕ };
 

@@ -3,7 +3,8 @@ use Rattle.std.proofs.Common.{◌≡◌, ℕ, ◌+◌, List, [], ◌∷◌, leng
 use Rattle.std.proofs.lemmas.List.{length-replicate}
 use Rattle.md5.specs.Md5.{md5, digest_bytes as md5_bytes}
 use Rattle.sha2.specs.Sha256.{sha256, digest_bytes as sha256_bytes}
-use Rattle.stun_base.specs.Algorithm.{digest_length, length-digest}
+use Rattle.stun_base.specs.Algorithm.{digest_length}
+use Rattle.stun_base.specs.code.Algorithm.{length-digest}
 use Rattle.stun_base.specs.Keys.{long_term_key, userhash}
 use Rattle.stun_base.specs.declared.algorithm.IntegrityAlgorithm.{IntegrityAlgorithm}
 use Rattle.stun_base.specs.declared.algorithm.IntegrityAlgorithm.TheVariants.{Sha1, Sha256}

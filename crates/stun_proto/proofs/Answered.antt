@@ -5,7 +5,8 @@ use Rattle.std.specs.Option.{is_some}
 use Rattle.std.specs.declared.result.Result.{Result}
 use Rattle.stun_auth.specs.declared.server_reason.LongTermServerAuthErrorReason.TheVariants.{Unauthorized, BadRequest}
 use Rattle.stun_auth.specs.Reading.{Reading, is_response}
-use Rattle.stun_auth.specs.Reasons.{ServerRefusal, unauthorized}
+use Rattle.stun_auth.specs.Reasons.{ServerRefusal}
+use Rattle.stun_auth.specs.code.Reasons.{unauthorized}
 use Rattle.stun_auth.specs.Seen.{ClientSeen, PlaceSeen}
 use Rattle.stun_auth.specs.Server.{Sight, standing}
 use Rattle.stun_auth.specs.Validation.{answer, answer_to, client_verified, is_complete, is_malformed, place_after, validated_or_failed, verdict_at, with_accepted}

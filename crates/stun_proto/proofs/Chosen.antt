@@ -8,7 +8,8 @@ use Rattle.stun_auth.specs.declared.algorithm_set.AlgorithmSet.{AlgorithmSet}
 use Rattle.stun_auth.specs.declared.algorithm_set.AlgorithmSet.TheVariants.{OnlySha1, OnlySha256, Both}
 use Rattle.stun_auth.specs.declared.feature.Feature.{Feature}
 use Rattle.stun_auth.specs.Algorithms.{contains, has, listed}
-use Rattle.stun_auth.specs.ClientStep.{ClientRefusal, choose, choose_by_list, is_required, or_unsupported, unless, unsupported_feature}
+use Rattle.stun_auth.specs.ClientStep.{choose, choose_by_list, is_required, or_unsupported, unless}
+use Rattle.stun_auth.specs.code.ClientStep.{ClientRefusal, unsupported_feature}
 use Rattle.stun_auth.specs.Feature.{is_possible}
 use Rattle.stun_auth.specs.Nonces.{asks_for_algorithms, asks_for_userhash, nonce_of}
 use Rattle.stun_proto.specs.Best.{best}

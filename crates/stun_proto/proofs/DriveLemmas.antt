@@ -9,7 +9,7 @@ use Rattle.stun_proto.specs.declared.replay.event.AgentEvent.{AgentEvent}
 use Rattle.stun_proto.specs.Steps.{Step}
 use Rattle.stun_proto.specs.Begun.{TurnBegins, TurnsBegin, EventBegins, RunBegins, HasBegun}
 use Rattle.stun_proto.specs.Begun as begun
-use Rattle.stun_proto.specs.Calls.{HasPassed, TakesTurn, TurnsLead, TakesTurns, TakesEvent, TakesWhole, RunLeads}
+use Rattle.stun_proto.specs.code.Calls.{HasPassed, TakesTurn, TurnsLead, TakesTurns, TakesEvent, TakesWhole, RunLeads}
 use Rattle.stun_proto.specs.Run.{sending, Turn, Turns, turn, none, Run, done, event, IsDriven, IsAwaited, after_event, steps_of_event}
 use Rattle.stun_proto.proofs.NextLemmas.{next_le, next_none, next_is, next_is_awaited, turn_passes}
 

@@ -7,7 +7,8 @@ use Rattle.std.specs.Str.{bytes_eq}
 use Rattle.stun_auth.specs.declared.algorithm_set.AlgorithmSet.{AlgorithmSet}
 use Rattle.stun_auth.specs.declared.feature.Feature.{Feature}
 use Rattle.stun_auth.specs.Reading.{Reading}
-use Rattle.stun_auth.specs.Reasons.{ServerRefusal, bad_request, unauthorized}
+use Rattle.stun_auth.specs.Reasons.{ServerRefusal}
+use Rattle.stun_auth.specs.code.Reasons.{bad_request, unauthorized}
 use Rattle.stun_auth.specs.Registered.{Registered}
 use Rattle.stun_auth.specs.Server.{agreed, client_of, nonce_refusal, or_refused, proven, their_nonce, verdict}
 

@@ -19,7 +19,8 @@ use Rattle.stun_auth.specs.Client.{Challenge, ClientSettings, authenticated}
 use Rattle.stun_auth.specs.ClientStep.{ClientStep, STALE_NONCE, UNAUTHORIZED, after_challenge, after_digest, after_stale, client_step, is_code, taken_up}
 use Rattle.stun_auth.specs.Nonces.{nonce_of, security_bits}
 use Rattle.stun_auth.specs.Reading.{Reading, is_success, reading_of, stands_under}
-use Rattle.stun_auth.specs.Reasons.{ServerRefusal, stale_nonce, unauthorized}
+use Rattle.stun_auth.specs.Reasons.{ServerRefusal}
+use Rattle.stun_auth.specs.code.Reasons.{stale_nonce, unauthorized}
 use Rattle.stun_auth.specs.Registered.{Registered}
 use Rattle.stun_auth.specs.Seen.{ClientSeen, PlaceSeen, renewed}
 use Rattle.stun_auth.specs.Server.{Sight, bits_differ, named_by, nonce_refusal, standing, verdict}

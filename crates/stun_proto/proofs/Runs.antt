@@ -17,11 +17,12 @@ use Rattle.stun_auth.specs.ClientStep.{ClientAnswer, ClientStep, IsResend, UNAUT
 use Rattle.stun_auth.specs.Reading.{reading_of}
 use Rattle.stun_auth.specs.ServerSigning.{after_signing}
 use Rattle.stun_auth.specs.Validation.{Answer, ServerSeen, after_message, answer, sight}
-use Rattle.stun_proto.specs.FirstAnswers.{end_of, is_unauthorized}
+use Rattle.stun_proto.specs.code.FirstAnswers.{end_of, is_unauthorized}
 use Rattle.stun_proto.specs.Negotiating.{error_of, met_by}
 use Rattle.stun_proto.specs.Negotiation.{Meeting, Met, asked, challenge_answered, challenged, ended, failure, first_answered, first_asked, negotiated, outcome_of, responded, second_answered, second_asked, succeeded, success, unwritten}
 use Rattle.stun_proto.specs.Serving.{after_calls}
-use Rattle.stun_proto.specs.Sides.{IsRun, Sides, behind_calls, behind_challenge, behind_first, behind_second, behind_success, if_accepted, if_resent, if_unauthorized, sides, sides_of}
+use Rattle.stun_proto.specs.Sides.{Sides, behind_calls, behind_challenge, behind_first, behind_second, behind_success, if_accepted, if_resent, if_unauthorized, sides, sides_of}
+use Rattle.stun_proto.specs.code.Sides.{IsRun}
 use Rattle.stun_proto.specs.declared.replay.negotiation.NegotiateError.{NegotiateError}
 use Rattle.stun_proto.specs.declared.replay.negotiation.NegotiateError.TheVariants.{Memory, Write}
 use Rattle.stun_proto.specs.declared.replay.negotiation.Outcome.{Outcome}

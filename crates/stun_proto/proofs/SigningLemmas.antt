@@ -16,7 +16,7 @@ use Rattle.stun_auth.specs.Server.{Sight}
 use Rattle.stun_auth.specs.ServerSigning.{after_signing}
 use Rattle.stun_auth.specs.Validation.{ServerSeen}
 use Rattle.stun_proto.specs.Serving.{places_unless, reply_of_signing, reply_unless}
-use Rattle.stun_proto.specs.Signed.{signed_page}
+use Rattle.stun_proto.specs.code.Signed.{signed_page}
 use Rattle.stun_proto.specs.Signing.{after, if_signed, message_unless, signing, with_all}
 
 -- what was added was not refused

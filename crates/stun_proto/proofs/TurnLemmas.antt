@@ -8,9 +8,9 @@ use Rattle.stun_agent.specs.Transactions.{wake_up}
 use Rattle.stun_proto.specs.Steps.{Step}
 use Rattle.stun_proto.specs.Begun.{TurnBegins}
 use Rattle.stun_proto.specs.Begun as begun
-use Rattle.stun_proto.specs.Calls.{HasSent, HasEnded, Leads, SendsOne, EndsOne, SendsAll, EndsAll, TakesTurn, HasWorked}
+use Rattle.stun_proto.specs.code.Calls.{HasSent, HasEnded, Leads, SendsOne, EndsOne, SendsAll, EndsAll, TakesTurn, HasWorked}
 use Rattle.stun_proto.specs.Run.{Phase, sending, ending, Turn, sends, rests, ends, again, stops, transmitted, ended}
-use Rattle.stun_proto.specs.Work.{IsIdle}
+use Rattle.stun_proto.specs.code.Work.{IsIdle}
 use Rattle.stun_proto.proofs.Work.{work-sent, work-none, work-ended, wakes_later}
 
 pub leads_start : (now : ℕ) (p : Phase) (a : Agent) (steps : List Step) → Leads now p p a a steps steps

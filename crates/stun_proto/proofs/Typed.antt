@@ -27,7 +27,7 @@ use Rattle.stun_auth.specs.Server.{Sight}
 use Rattle.stun_auth.specs.ServerSigning.{server_signed}
 use Rattle.stun_auth.specs.Signed.{Added, added_by_client, added_by_server, additions_of, error_attribute, if_there}
 use Rattle.stun_proto.specs.Negotiation.{asked, error, failure, page_of, request, success}
-use Rattle.stun_proto.specs.Signed.{signed_page}
+use Rattle.stun_proto.specs.code.Signed.{signed_page}
 
 -- ---- the types of additions
 

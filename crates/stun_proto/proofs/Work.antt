@@ -11,7 +11,7 @@ use Rattle.stun_base.specs.Moments.{last_moment, moment_after}
 use Rattle.stun_agent.specs.Agent.{Agent, sent_by_poll, after_poll_transmit, ended_by_poll, after_poll, with_transactions, tally_of_sent}
 use Rattle.stun_agent.specs.Timing.{slots}
 use Rattle.stun_proto.proofs.AfterCalls.{transmit_transport, transmit_transactions, poll_transport, poll_transactions}
-use Rattle.stun_proto.specs.Work.{share, work, IsIdle}
+use Rattle.stun_proto.specs.code.Work.{share, work, IsIdle}
 use Rattle.stun_agent.specs.Transactions.{repeats, is_cancelled, Transaction, Transactions, wake_up, an_hour, is_over, first_over, without, is_due, is_reached, after_slot, after_slots, slot_passed, has_slots, awaited}
 
 both : (a b : Bool) → (a && b) ≡ true → (a ≡ true) × (b ≡ true)

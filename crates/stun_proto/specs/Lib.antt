@@ -1,24 +1,42 @@
-pub mod Accepting
-pub mod Begun
-pub mod Best
-pub mod Calls
-pub mod FirstAnswers
+-- What the contracts of this crate say, in the order to read it.
+
+-- the three sentences of this library: read this first
 pub mod Headline
-pub mod Honest
-pub mod Isolation
-pub mod Matching
-pub mod Meetings
-pub mod Negotiating
-pub mod Negotiation
-pub mod Plan
-pub mod Renewal
+-- sentence 1: what one address can tell of a run, by its own calls and the replies to them
 pub mod Replies
-pub mod Run
-pub mod Schedule
+-- sentence 1: which messages of a run are accepted
+pub mod Accepting
+-- sentence 1: whatever other addresses do
+pub mod Isolation
+-- what a server answers to a list of calls (RFC 8489, section 9.2.4)
 pub mod Serving
-pub mod Sides
-pub mod Signed
+-- what signing a message for an address comes to
 pub mod Signing
+-- sentence 2: what a client and a server can agree on (section 9.2)
+pub mod Best
+-- sentence 2: what an honest client and its server come to
+pub mod Honest
+-- a client and a server that meet, step by step over the bytes of their messages
+pub mod Negotiation
+-- what a run of a meeting answers and leaves
+pub mod Negotiating
+-- where both sides of a meeting are after each step
+pub mod Sides
+-- when both sides have come to the same challenge
+pub mod Matching
+-- a nonce that has expired, and the one that takes its place (sections 9.2.4 and 9.2.6)
+pub mod Renewal
+-- sentence 3: the plan of a request that nothing disturbs (sections 6.2.1 and 6.2.2)
+pub mod Plan
+-- sentence 3: which events disturb a request, and what the others leave
+pub mod Schedule
+-- the steps of a driven agent: moments, ids and bytes
 pub mod Steps
+-- a driven run: which calls are made of an agent, when, and what they answer
+pub mod Run
+-- a run that is broken off
+pub mod Begun
+-- words that are handed in, as a source of random words
 pub mod Words
-pub mod Work
+-- what no clause of a public call says: codings of models, views of structs, steps of the code
+pub mod code

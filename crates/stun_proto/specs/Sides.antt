@@ -1,25 +1,20 @@
 -- Where both sides of a meeting stand after each step that another one follows: the server has read a message, or signed one, or
 -- made a call; the client has read a message. A signing of the client changes nothing.
-use Rattle.std.specs.Prelude.{◌≡◌, ◌≢◌, List, [], ◌∷◌, true, Contains, IfSome}
+use Rattle.std.specs.Prelude.{List, [], ◌∷◌, true}
 use Rattle.std.specs.declared.result.Result.{Result}
 use Rattle.std.specs.declared.result.Result.TheVariants.{Ok, Err}
 use Rattle.stun_base.specs.declared.error.StunWriteError.{StunWriteError}
-use Rattle.stun_base.specs.declared.error.StunWriteError.TheVariants.{OutOfMemory}
 use Rattle.stun_auth.specs.declared.client_answer.LongTermClientValidation.TheVariants.{ResendRequest}
 use Rattle.stun_auth.specs.declared.server_reason.LongTermServerAuthErrorReason.TheVariants.{Unauthorized}
 use Rattle.stun_auth.specs.Additions.{Page}
-use Rattle.stun_auth.specs.Client.{ClientSide, ClientState}
+use Rattle.stun_auth.specs.Client.{ClientState}
 use Rattle.stun_auth.specs.ClientStep.{ClientAnswer, UNAUTHORIZED, client_step}
 use Rattle.stun_auth.specs.Reading.{reading_of}
 use Rattle.stun_auth.specs.ServerSigning.{after_signing}
 use Rattle.stun_auth.specs.Validation.{Answer, ServerSeen, after_message, answer, sight}
-use Rattle.stun_proto.specs.Negotiating.{met_by}
-use Rattle.stun_proto.specs.Negotiation.{Meeting, Met, asked, failure, responded, success}
+use Rattle.stun_proto.specs.Negotiation.{Meeting, asked, failure, responded, success}
 use Rattle.stun_proto.specs.Serving.{after_call}
 use Rattle.stun_proto.specs.declared.replay.call.ServerCall.{ServerCall}
-use Rattle.stun_proto.specs.declared.replay.negotiation.NegotiateError.{NegotiateError}
-use Rattle.stun_proto.specs.declared.replay.negotiation.NegotiateError.TheVariants.{Memory, Write}
-use Rattle.stun_proto.specs.declared.replay.negotiation.Outcome.{Outcome}
 
 pub record Sides : Type 0 where
   pub client : ClientState
@@ -27,8 +22,6 @@ pub record Sides : Type 0 where
 
 abbrev pub sides : ClientState → ServerSeen → Sides
 sides client server = record { client = client; server = server }
-
--- ---- what follows, if the run goes on
 
 -- behind a signing that is not refused
 abbrev pub if_signed : Result Page StunWriteError → (Page → List Sides) → List Sides
@@ -55,8 +48,6 @@ abbrev pub behind_calls : ClientState → ServerSeen → List ServerCall → (Se
 behind_calls state server [] next = next server
 behind_calls state server (call ∷ calls) next =
     sides state (after_call server call) ∷ behind_calls state (after_call server call) calls next
-
--- ---- the sides behind each step, the last steps first
 
 -- the success is signed; the client that reads it ends the run, and wants no memory unless it takes it for a challenge
 abbrev pub behind_success : Meeting → ClientState → ServerSeen → List Sides
@@ -87,13 +78,3 @@ behind_first m state server = if_signed (asked m.first.id state) (λ page.
 -- ---- the whole run: both sides at its beginning and behind each step but the last
 abbrev pub sides_of : Meeting → ClientState → ServerSeen → List Sides
 sides_of m state server = sides state server ∷ behind_first m state server
-
--- ---- a run that has ended
-
--- it has come to this end and this is left, where no memory was wanting; where memory was, both sides stand where another step
--- was to follow; the client's settings stay, and want of memory is never the reason of a refused signing
-pub record IsRun (result : Result Outcome NegotiateError) (old new : ClientSide) (server : ServerSeen) (met : Met) (along : List Sides) : Type 0 where
-  pub settings : new.settings ≡ old.settings
-  pub steps : IfSome (met_by result new.state server) (λ end. end ≡ met)
-  pub memory : result ≡ Err Memory → Contains along (sides new.state server)
-  pub write : result ≢ Err (Write OutOfMemory)

@@ -3,7 +3,8 @@ use Rattle.std.proofs.Common.{◌≡◌, ℕ, ◌+◌, ◌-◌, List, ◌++◌, 
 use Rattle.std.proofs.lemmas.List.{take_rest}
 use Rattle.std.proofs.Math.Seq.{take-add, take-length}
 use Rattle.std.specs.Io.KnownBytes.{Appends}
-use Rattle.stun_tool.specs.Output.{AppendsBeginning, AppendsUnlessFailed}
+use Rattle.stun_tool.specs.Output.{AppendsBeginning}
+use Rattle.stun_tool.specs.code.Output.{AppendsUnlessFailed}
 
 -- the first bytes, and then the first bytes of the rest
 pub take-then-more : (text : List ℕ) (written count : ℕ)

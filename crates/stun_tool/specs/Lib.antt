@@ -1,7 +1,14 @@
--- What the contracts of the program speak of.
-pub mod Status
-pub mod Output
-pub mod Input
-pub mod Verdict
+-- What the contracts of the program say, in the order to read it.
+
+-- what `check` prints
 pub mod Check
-pub mod Run
+-- what `check` says of an input, and how it says it
+pub mod Verdict
+-- what the digits of an input read
+pub mod Input
+-- what writing a text leaves
+pub mod Output
+-- the exit statuses
+pub mod Status
+-- what no clause of a public call says: codings of models, views of structs, steps of the code
+pub mod code

@@ -13,7 +13,8 @@ use Rattle.stun_types.specs.Attribute.{TypedValue, padded_length, attribute_leng
 use Rattle.stun_types.specs.Grammar.{BeginsWith, unpadded, spelled, spelled_attribute, spelled_attributes}
 use Rattle.stun_types.specs.Message.{IsMessage, with_length}
 use Rattle.stun_types.specs.Visible.{before, counts, has_kind, visible}
-use Rattle.stun_types.specs.Walk.{IsWithin, Member, next_place, walk_up_to, walk_from, walk, taken}
+use Rattle.stun_types.specs.Walk.{Member, next_place, walk_up_to, walk_from, walk, taken}
+use Rattle.stun_types.specs.code.Walk.{IsWithin}
 use Rattle.stun_types.specs.Writing.{HasOneMore, IsAddable, IsOpen, is_set_apart, length_with, with_attribute}
 use Rattle.stun_types.proofs.GrammarLemmas.{finds_what_is_written, read_again}
 use Rattle.stun_types.proofs.IntegrityLemmas.{walk_up_to-within}

@@ -8,7 +8,8 @@ use Rattle.std.proofs.lemmas.Bool.Decides.{nat_tests}
 use Rattle.std.proofs.lemmas.Option.{get_or_from_slice_get, slice_get_within}
 use Rattle.stun_types.specs.declared.attribute.password_algorithm.PasswordAlgorithmValue.{PasswordAlgorithmValue}
 use Rattle.stun_types.specs.declared.attribute.password_algorithm.PasswordAlgorithmValue.TheVariants.{MD5, SHA256}
-use Rattle.stun_types.specs.PasswordAlgorithms.{algorithm_number, numbered, spelled_entry, spelled_entries, entries, entry_list, are_entries, entry_at_front, in_front_of}
+use Rattle.stun_types.specs.PasswordAlgorithms.{algorithm_number, numbered, spelled_entry, spelled_entries, entries, entry_at_front, in_front_of}
+use Rattle.stun_types.specs.code.PasswordAlgorithms.{entry_list, are_entries}
 
 -- each algorithm takes four bytes
 pub length_of_entries : (list : List PasswordAlgorithmValue) → length (spelled_entries list) ≡ 4 * length list

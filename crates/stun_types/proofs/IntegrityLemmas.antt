@@ -10,7 +10,8 @@ use Rattle.std.proofs.lemmas.List.Elements.{All-filter, All-from_recursion, recu
 use Rattle.stun_base.specs.Attributes.{MESSAGE_INTEGRITY, MESSAGE_INTEGRITY_SHA256}
 use Rattle.stun_base.specs.Header.{HEADER_LENGTH}
 use Rattle.stun_types.specs.Attribute.{has_attribute, first_attribute}
-use Rattle.stun_types.specs.Walk.{IsWithin, Member, next_place, walk_up_to, walk}
+use Rattle.stun_types.specs.Walk.{Member, next_place, walk_up_to, walk}
+use Rattle.stun_types.specs.code.Walk.{IsWithin}
 use Rattle.stun_types.specs.Visible.{counts, visible}
 use Rattle.stun_types.specs.Integrity.{first_of, deciding, covered}
 use Rattle.stun_types.proofs.WalkLemmas.{whole_within}

@@ -4,7 +4,8 @@ use Rattle.std.specs.Prelude.{◌||◌, ◌==◌}
 use Rattle.stun_base.specs.Attributes.{MESSAGE_INTEGRITY, MESSAGE_INTEGRITY_SHA256, FINGERPRINT}
 use Rattle.stun_base.specs.Header.{HEADER_LENGTH}
 use Rattle.stun_types.specs.Attribute.{has_attribute, first_attribute}
-use Rattle.stun_types.specs.Visible.{before, counts, counts_behind, has_kind, of_kind, visible, visible_from, HasPassed}
+use Rattle.stun_types.specs.Visible.{before, counts, counts_behind, has_kind, of_kind, visible}
+use Rattle.stun_types.specs.code.Visible.{visible_from, HasPassed}
 use Rattle.stun_types.specs.Walk.{Member, next_place, walk}
 use Rattle.stun_types.proofs.VisibleLemmas.{HasPassed-none, HasPassed-step, has_kind-append, visible_from-end, visible_from-header, visible_from-step}
 use Rattle.stun_types.proofs.WalkLemmas.{before-step, has_attribute-past_end}

@@ -8,7 +8,8 @@ use Rattle.stun_base.specs.declared.algorithm.IntegrityAlgorithm.{IntegrityAlgor
 use Rattle.stun_types.specs.Integrity.{covered, deciding, first_of, standing, stands_by}
 use Rattle.stun_types.specs.Message.{with_length}
 use Rattle.stun_types.specs.Visible.{visible}
-use Rattle.stun_types.specs.Walk.{IsWithin, Member}
+use Rattle.stun_types.specs.Walk.{Member}
+use Rattle.stun_types.specs.code.Walk.{IsWithin}
 use Rattle.stun_types.proofs.IntegrityLemmas.{first_of-within}
 use Rattle.stun_types.proofs.SigningLemmas.{with_length-again}
 

@@ -1,7 +1,8 @@
 -- What an integrity attribute at the end of a message covers.
 use Rattle.std.proofs.Common.{◌≡◌, ℕ, ◌+◌, ◌-◌, ◌≤◌, List, ◌++◌, length, arith, ap, sym, ◌∙◌}
 use Rattle.std.proofs.lemmas.List.{take_all}
-use Rattle.stun_base.specs.Algorithm.{digest, digest_length, length-digest}
+use Rattle.stun_base.specs.Algorithm.{digest, digest_length}
+use Rattle.stun_base.specs.code.Algorithm.{length-digest}
 use Rattle.stun_base.specs.declared.algorithm.IntegrityAlgorithm.{IntegrityAlgorithm}
 use Rattle.stun_base.specs.declared.algorithm.IntegrityAlgorithm.TheVariants.{Sha1, Sha256}
 use Rattle.stun_types.specs.Message.{with_length}

@@ -6,7 +6,7 @@ use Rattle.std.specs.declared.net.ip_addr.IpAddr.{IpAddr}
 use Rattle.std.specs.declared.net.ip_addr.IpAddr.TheVariants.{V4, V6}
 use Rattle.std.specs.declared.net.ipv4_addr.Ipv4Addr.{Ipv4Addr}
 use Rattle.std.specs.declared.net.ipv6_addr.Ipv6Addr.{Ipv6Addr}
-use Rattle.stun_types.specs.AttributeLaws.{HasOctets}
+use Rattle.stun_types.specs.code.AttributeLaws.{HasOctets}
 use Rattle.stun_types.specs.XorMappedAddress.{IsHidden, xor_bytes, xor_key, xor_port, xored}
 
 -- one byte more, at a successor

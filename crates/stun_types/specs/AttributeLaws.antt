@@ -1,7 +1,5 @@
 -- Laws on what attributes are written as and read as.
 use Rattle.std.specs.Prelude.{◌≡◌, ℕ, ◌%◌, ◌^◌, ◌<◌, List, [], ◌∷◌, length, slice_index, take, Some}
-use Rattle.std.specs.Net.Addr.{MatchIp, ipv4_octets, ipv6_octets}
-use Rattle.std.specs.declared.net.ip_addr.IpAddr.{IpAddr}
 use Rattle.stun_base.specs.Attributes.{ERROR_CODE, XOR_MAPPED_ADDRESS}
 use Rattle.stun_types.specs.Attribute.{TypedValue, attribute_length}
 use Rattle.stun_types.specs.ErrorCode.{CodeAndReason, error_of, error_value}
@@ -36,7 +34,3 @@ WritesFirstZero address = take 1 (xored_value address) ≡ 0 ∷ []
 -- bytes that read as a list of algorithms are what the list is written as
 abbrev pub ReadsSpelledEntries : List ℕ → List PasswordAlgorithmValue → Type 0
 ReadsSpelledEntries bytes list = entries bytes ≡ Some list → spelled_entries list ≡ bytes
-
--- an address has as many octets as its family
-abbrev pub HasOctets : IpAddr → Type 0
-HasOctets ip = MatchIp ip (λ ipv4. length (ipv4_octets ipv4) ≡ 4) (λ ipv6. length (ipv6_octets ipv6) ≡ 16)

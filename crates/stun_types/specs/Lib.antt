@@ -1,22 +1,44 @@
-pub mod Attribute
-pub mod AttributeLaws
-pub mod Equality
-pub mod ErrorCode
-pub mod ErrorCodeLaws
-pub mod Grammar
-pub mod Integrity
-pub mod IntegrityAttributes
+-- What the contracts of this crate say, in the order to read it.
+
+-- which bytes are a message, and why others are none (RFC 8489, section 5)
 pub mod Message
-pub mod AlgorithmSource
-pub mod PasswordAlgorithms
-pub mod Reading
-pub mod Text
-pub mod Userhash
-pub mod Visible
+-- the attributes of a message, each with its place (section 14)
 pub mod Walk
-pub mod WriteMutSlice
-pub mod WriteVec
-pub mod Writing
+-- which of them are visible: what an integrity attribute covers (sections 14.5 to 14.7)
+pub mod Visible
+-- the attributes of a message as spelled bytes (section 14)
+pub mod Grammar
+-- the algorithm whose digest verifies (sections 14.5, 14.6 and 9.2.4)
+pub mod Integrity
+-- an attribute as it stands in a message: type, length, value, padding (section 14)
+pub mod Attribute
+-- what attributes read as
+pub mod Reading
+-- USERNAME, REALM and NONCE (sections 14.3, 14.9 and 14.10)
+pub mod Text
+-- USERHASH (section 14.4)
+pub mod Userhash
+-- ERROR-CODE (section 14.8)
+pub mod ErrorCode
+-- XOR-MAPPED-ADDRESS (section 14.2)
 pub mod XorMappedAddress
+-- PASSWORD-ALGORITHM and PASSWORD-ALGORITHMS (sections 14.11, 14.12 and 18.5)
+pub mod PasswordAlgorithms
+-- MESSAGE-INTEGRITY and MESSAGE-INTEGRITY-SHA256 (sections 14.5 and 14.6)
+pub mod IntegrityAttributes
+-- what adding an attribute or a digest makes of a message, and why it is refused
+pub mod Writing
+-- a writer that grows
+pub mod WriteVec
+-- a writer to a slice
+pub mod WriteMutSlice
+-- laws: what is written is read again
+pub mod AttributeLaws
+-- the same for ERROR-CODE
+pub mod ErrorCodeLaws
+-- the same for XOR-MAPPED-ADDRESS
 pub mod XorMappedAddressLaws
-pub mod XoredOctets
+-- laws: which attributes are equal
+pub mod Equality
+-- what no clause of a public call says: codings of models, views of structs, steps of the code
+pub mod code

@@ -1,9 +1,9 @@
 -- What is a STUN message (RFC 8489, section 5).
-use Rattle.std.specs.Prelude.{◌≡◌, ◌≤◌, ℕ, ◌+◌, List, ◌++◌, length, take, drop, Option, Some, None, nat_lt, ◌==◌, if◌then◌else◌}
+use Rattle.std.specs.Prelude.{◌≡◌, ℕ, ◌+◌, List, ◌++◌, length, take, drop, Option, Some, None, nat_lt, ◌==◌, if◌then◌else◌}
 use Rattle.byteorder.specs.Endian.{big_bytes}
 use Rattle.stun_base.specs.declared.error.StunParseError.{StunParseError}
 use Rattle.stun_base.specs.declared.error.StunParseError.TheVariants.{Truncated, TooLarge}
-use Rattle.stun_base.specs.Header.{HEADER_LENGTH, HeaderFields, header_of, BeginsWithHeader, header_refusal, length_field}
+use Rattle.stun_base.specs.Header.{HEADER_LENGTH, BeginsWithHeader, header_refusal, length_field}
 use Rattle.stun_types.specs.Walk.{walk, taken}
 
 -- the bytes of the longest message: the length field holds multiples of 4 below 2 ^ 16
@@ -19,12 +19,6 @@ pub record IsMessage (bytes : List ℕ) : Type 0 where
   pub header : BeginsWithHeader bytes
   pub stated : HEADER_LENGTH + length_field bytes ≡ length bytes
   pub filled : HEADER_LENGTH + taken (walk bytes) ≡ length bytes
-
--- the bytes that were read are a message with this header, so they are no longer than a length field can say
-pub record IsRead (header : HeaderFields) (bytes : List ℕ) : Type 0 where
-  pub is_message : IsMessage bytes
-  pub header_is : header ≡ header_of bytes
-  pub limit : length bytes ≤ LENGTH_LIMIT
 
 -- why bytes behind a right header are no message
 abbrev pub data_refusal : List ℕ → Option StunParseError

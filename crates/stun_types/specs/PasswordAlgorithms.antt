@@ -1,9 +1,8 @@
 -- PASSWORD-ALGORITHM and PASSWORD-ALGORITHMS (RFC 8489, sections 14.11, 14.12 and 18.5): entries, each the number of an
 -- algorithm and the length of its parameters, 2 bytes each, and the parameters. MD5 and SHA-256 have no parameters.
-use Rattle.std.specs.Prelude.{◌≡◌, refl, ℕ, Bool, List, [], ◌∷◌, ◌++◌, length, drop, Option, Some, None, ◌==◌, ◌&&◌, if◌then◌else◌}
+use Rattle.std.specs.Prelude.{◌≡◌, refl, ℕ, List, [], ◌∷◌, ◌++◌, length, drop, Option, Some, None, ◌==◌, ◌&&◌, if◌then◌else◌}
 use Rattle.std.proofs.Common.{ap}
 use Rattle.std.specs.List.{flat_map}
-use Rattle.std.specs.Option.{is_some, unwrap_or}
 use Rattle.byteorder.specs.Endian.{big_bytes, big_number}
 use Rattle.stun_base.specs.declared.algorithm.IntegrityAlgorithm.{IntegrityAlgorithm}
 use Rattle.stun_base.specs.declared.algorithm.IntegrityAlgorithm.TheVariants.{Sha1, Sha256}
@@ -56,14 +55,6 @@ entries (a ∷ []) = None
 entries (a ∷ b ∷ []) = None
 entries (a ∷ b ∷ c ∷ []) = None
 entries (a ∷ b ∷ c ∷ d ∷ rest) = in_front_of (entries rest) (entry_at_front (a ∷ b ∷ c ∷ d ∷ []))
-
--- whether bytes are entries of known algorithms
-abbrev pub are_entries : List ℕ → Bool
-are_entries bytes = is_some (entries bytes)
-
--- the algorithms of such bytes
-abbrev pub entry_list : List ℕ → List PasswordAlgorithmValue
-entry_list bytes = unwrap_or (entries bytes) []
 
 -- the list in a PASSWORD-ALGORITHMS; it may be empty
 abbrev pub algorithms_of : TypedValue → Option (List PasswordAlgorithmValue)

@@ -1,9 +1,9 @@
 -- Which attributes of a message are visible (RFC 8489, sections 14.5 to 14.7): an integrity attribute covers what
 -- stands before it, so of what stands behind it only the stronger integrity attribute and FINGERPRINT are visible.
-use Rattle.std.specs.Prelude.{◌≡◌, ℕ, Bool, List, ◌++◌, filter, nat_lt, ◌==◌, ◌&&◌, ◌||◌, not}
+use Rattle.std.specs.Prelude.{ℕ, Bool, List, filter, nat_lt, ◌==◌, ◌&&◌, ◌||◌, not}
 use Rattle.std.specs.List.{list_any}
 use Rattle.stun_base.specs.Attributes.{MESSAGE_INTEGRITY, MESSAGE_INTEGRITY_SHA256, FINGERPRINT}
-use Rattle.stun_types.specs.Walk.{Member, walk, walk_from}
+use Rattle.stun_types.specs.Walk.{Member, walk}
 
 -- whether an attribute of a type is among these
 abbrev pub has_kind : ℕ → List Member → Bool
@@ -30,17 +30,6 @@ counts members m =
     counts_behind (has_kind MESSAGE_INTEGRITY (before m.0 members)) (has_kind MESSAGE_INTEGRITY_SHA256 (before m.0 members))
     (has_kind FINGERPRINT (before m.0 members)) m.1.kind
 
--- the visible members from a place
-unfoldable pub visible_from : ℕ → List ℕ → List Member
-visible_from place bytes = filter (counts (walk bytes)) (walk_from place bytes)
-
 -- the visible attributes of a message
 unfoldable pub visible : List ℕ → List Member
 visible bytes = filter (counts (walk bytes)) (walk bytes)
-
--- the attributes before a place are passed, and among them are the three types or not
-pub record HasPassed (place : ℕ) (integrity integrity_sha256 fingerprint : Bool) (bytes : List ℕ) : Type 0 where
-  pub is_place : before place (walk bytes) ++ walk_from place bytes ≡ walk bytes
-  pub integrity_seen : integrity ≡ has_kind MESSAGE_INTEGRITY (before place (walk bytes))
-  pub integrity_sha256_seen : integrity_sha256 ≡ has_kind MESSAGE_INTEGRITY_SHA256 (before place (walk bytes))
-  pub fingerprint_seen : fingerprint ≡ has_kind FINGERPRINT (before place (walk bytes))

@@ -4,7 +4,7 @@ ghost use Rattle.stun_base.specs.Algorithm.{digest_length};
 ghost use Rattle.stun_base.specs.Header.{HEADER_LENGTH as header_length};
 ghost use Rattle.stun_base.specs.Keys.OfCredentials.{keys_of};
 ghost use Rattle.stun_types.specs.Visible.{visible};
-ghost use Rattle.stun_types.specs.Walk.{IsWithin};
+ghost use Rattle.stun_types.specs.code.Walk.{IsWithin};
 ghost use Rattle.stun_types.specs.Integrity.{first_of as first_member_of, algorithm_of, deciding, is_digest, is_well_formed, stands, stands_by, integrity_refusal};
 
 use crate::attribute::{ATTRIBUTE_HEADER_LENGTH, AttributeType, RawAttribute};

@@ -40,7 +40,7 @@ pub struct Message<'a> {
 
 impl<'a> Model for Message<'a> {
     ghost use Rattle.std.specs.Prelude.{ℕ, List};
-    ghost use Rattle.stun_types.specs.Message.{IsRead};
+    ghost use Rattle.stun_types.specs.code.Message.{IsRead};
 
     ghost Value = { List ℕ };
 

@@ -5,9 +5,10 @@ ghost use Rattle.stun_base.specs.Algorithm.{digest_length};
 ghost use Rattle.stun_base.specs.Header.{BeginsWithHeader, type_field};
 ghost use Rattle.stun_base.specs.MessageType.{class_of};
 ghost use Rattle.stun_types.specs.Attribute.{attribute_length};
-ghost use Rattle.stun_auth.specs.AddedAttribute.{attribute_of};
-ghost use Rattle.stun_auth.specs.Additions.{IsAdded, IsOutcome, UnlessMemory, added_all, growth, page_in, written};
-ghost use Rattle.stun_auth.specs.ClientKept.{challenge_seen, naming_seen, state_seen};
+ghost use Rattle.stun_auth.specs.code.AddedAttribute.{attribute_of};
+ghost use Rattle.stun_auth.specs.Additions.{UnlessMemory, added_all, growth, page_in, written};
+ghost use Rattle.stun_auth.specs.code.Additions.{IsAdded, IsOutcome};
+ghost use Rattle.stun_auth.specs.code.ClientKept.{challenge_seen, naming_seen, state_seen};
 ghost use Rattle.stun_auth.specs.ClientSigning.{algorithm_choice, challenge_additions, client_additions, identity, is_request, kept_challenge, name_attribute};
 ghost use Rattle.stun_auth.specs.Signed.{ClientMaySign};
 

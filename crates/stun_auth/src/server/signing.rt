@@ -4,8 +4,9 @@ ghost use Rattle.std.specs.Prelude.{◌≡◌, ◌≤◌, ◌<◌, ◌+◌, ◌-
 ghost use Rattle.std.specs.Option.{option_map};
 ghost use Rattle.stun_base.specs.Header.{BeginsWithHeader, type_field};
 ghost use Rattle.stun_base.specs.MessageType.{class_of};
-ghost use Rattle.stun_auth.specs.Additions.{IsAdded, IsOutcome, UnlessMemory, growth, outcome_of, page_in, written};
-ghost use Rattle.stun_auth.specs.Places.{client_seen, place_seen};
+ghost use Rattle.stun_auth.specs.Additions.{UnlessMemory, growth, page_in, written};
+ghost use Rattle.stun_auth.specs.code.Additions.{IsAdded, IsOutcome, outcome_of};
+ghost use Rattle.stun_auth.specs.code.Places.{client_seen, place_seen};
 ghost use Rattle.stun_auth.specs.Reading.{is_response as is_response_class};
 ghost use Rattle.stun_auth.specs.ServerSigning.{after_signing, algorithms_for, attributes_for, challenge, growth_at, named_algorithm, offer, protected_for, protection_growth, server_growth, server_signed, signed_at};
 ghost use Rattle.stun_auth.specs.Signed.{ServerMaySign};

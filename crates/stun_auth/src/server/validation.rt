@@ -7,11 +7,12 @@ ghost use Rattle.stun_base.specs.Moments.{moment_after};
 ghost use Rattle.stun_base.specs.Words.{next_words, after_words};
 ghost use Rattle.stun_auth.specs.Reading.{reading_of};
 ghost use Rattle.stun_auth.specs.Seen.{PlaceSeen, renewed};
-ghost use Rattle.stun_auth.specs.Places.{place_seen, with_change};
+ghost use Rattle.stun_auth.specs.Places.{with_change};
+ghost use Rattle.stun_auth.specs.code.Places.{place_seen};
 ghost use Rattle.stun_auth.specs.Reasons.{OrMemory};
 ghost use Rattle.stun_auth.specs.Server.{stands_at, verdict};
 ghost use Rattle.stun_auth.specs.Validation.{ChangesNothing, ValidatesAccepted, after_message, answer, answer_to, client_verified, draws, sight, validated_or_failed, verdict_at, with_accepted};
-ghost use Rattle.stun_auth.specs.VerdictSteps.{answered, place_left, verdict_seen};
+ghost use Rattle.stun_auth.specs.code.VerdictSteps.{answered, place_left, verdict_seen};
 
 use crate::algorithm_set::AlgorithmSet;
 use crate::nonce::make_nonce;

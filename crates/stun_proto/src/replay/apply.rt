@@ -1,7 +1,7 @@
 //! The events of a run: one call of the agent for each, and its step.
 ghost use Rattle.std.specs.Prelude.{◌≡◌, ◌≢◌, ◌++◌, ◌∷◌, [], ◌⊎◌, None, IfOk, IsOk, OnOk, OnErr};
 ghost use Rattle.stun_agent.specs.Agent.{request_refusal};
-ghost use Rattle.stun_proto.specs.Calls.{TakesEvent};
+ghost use Rattle.stun_proto.specs.code.Calls.{TakesEvent};
 ghost use Rattle.stun_proto.specs.Run.{after_sending, step_of_sending, after_asking, step_of_asking, after_receiving, step_of_receiving, after_event};
 ghost use Rattle.stun_proto.specs.Steps.{step_of, steps_of};
 

@@ -1,7 +1,7 @@
 //! Driven runs: the events at their moments, and a turn at each moment that a request awaits.
 ghost use Rattle.std.specs.Prelude.{◌≡◌, ◌+◌, IfOk, IfErr, OnOk, OnErr};
 ghost use Rattle.stun_proto.specs.Begun.{TurnsBegin, EventBegins, HasBegun};
-ghost use Rattle.stun_proto.specs.Calls.{HasPassed, TakesTurns, TakesWhole};
+ghost use Rattle.stun_proto.specs.code.Calls.{HasPassed, TakesTurns, TakesWhole};
 ghost use Rattle.stun_proto.specs.Headline.{SendsByPlan};
 ghost use Rattle.stun_proto.specs.Run.{IsDriven};
 ghost use Rattle.stun_proto.specs.Schedule.{AreInOrder, KeepPlans};

@@ -5,7 +5,7 @@ ghost use Rattle.stun_base.specs.Credentials.{NameAndPassword};
 ghost use Rattle.stun_auth.specs.Client.{initial};
 ghost use Rattle.stun_proto.specs.Headline.{EndsAtStrongest, IsReadyClient};
 ghost use Rattle.stun_proto.specs.Honest.{ComesTo, IsHonest, ShortNamesAreSigned, StrongestIsAgreed, strongest};
-ghost use Rattle.stun_proto.specs.Meetings.{turn_of};
+ghost use Rattle.stun_proto.specs.code.Meetings.{turn_of};
 ghost use Rattle.stun_proto.specs.Negotiating.{lists, meeting, met_by, turn_at};
 ghost use Rattle.stun_proto.specs.Negotiation.{negotiated};
 ghost use Rattle.stun_proto.specs.Sides.{sides, sides_of};
@@ -55,7 +55,7 @@ pub enum NegotiateError {
 }
 
 impl From<StunWriteError> for NegotiateError {
-    ghost use Rattle.stun_proto.specs.Meetings.{turn_of};
+    ghost use Rattle.stun_proto.specs.code.Meetings.{turn_of};
     ghost use Rattle.stun_proto.specs.Negotiating.{error_of};
 
     ghost from_gives = { λ reason error. error ≡ error_of reason };

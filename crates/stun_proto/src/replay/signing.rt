@@ -10,7 +10,7 @@ ghost use Rattle.stun_auth.specs.ServerSigning.{after_signing};
 ghost use Rattle.stun_auth.specs.Validation.{sight};
 ghost use Rattle.stun_proto.specs.Serving.{places_unless, reply_of, reply_of_signing, reply_unless};
 ghost use Rattle.stun_proto.specs.Signing.{if_signed, signing, written_anew};
-ghost use Rattle.stun_proto.specs.Signed.{signed_page, written_message};
+ghost use Rattle.stun_proto.specs.code.Signed.{signed_page, written_message};
 
 use crate::replay::call::ServerReply;
 use std::alloc::{AllocError, Allocator};

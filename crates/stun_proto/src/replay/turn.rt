@@ -2,7 +2,7 @@
 ghost use Rattle.std.specs.Prelude.{◌≡◌, ◌++◌, ◌∷◌, [], IfOk, OnOk, OnErr};
 ghost use Rattle.stun_base.specs.Header.{BeginsWithHeader, transaction_id_field};
 ghost use Rattle.stun_proto.specs.Begun.{TurnBegins};
-ghost use Rattle.stun_proto.specs.Calls.{SendsOne, EndsOne, HasSent, HasEnded, SendsAll, EndsAll, TakesTurn};
+ghost use Rattle.stun_proto.specs.code.Calls.{SendsOne, EndsOne, HasSent, HasEnded, SendsAll, EndsAll, TakesTurn};
 ghost use Rattle.stun_proto.specs.Run.{sending, ending};
 ghost use Rattle.stun_proto.specs.Steps.{Transmitted, step_of, steps_of};
 

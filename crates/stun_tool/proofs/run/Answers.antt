@@ -1,6 +1,6 @@
 -- The usage is written whole, or a write failed.
 use Rattle.std.proofs.Common.{subst}
-use Rattle.stun_tool.specs.Output.{AppendsUnlessFailed}
+use Rattle.stun_tool.specs.code.Output.{AppendsUnlessFailed}
 use Rattle.stun_tool.proofs.Writing.{written_unless_failed}
 use Rattle.stun_tool.proofs.run.Goals as goal
 

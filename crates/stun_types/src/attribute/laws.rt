@@ -3,7 +3,8 @@
 ghost use Rattle.std.specs.Prelude.{◌≡◌, ◌<◌, ◌^◌, ◌↔◌, ◌∷◌, [], ℕ, IsTrue, List, slice_index};
 ghost use Rattle.std.specs.Net.Socket.{socket_flowinfo, socket_ip, socket_port, socket_scope_id};
 ghost use Rattle.stun_types.specs.Attribute.{TypedValue};
-ghost use Rattle.stun_types.specs.AttributeLaws.{HasOctets, IgnoresFirstByte, IgnoresReservedBits, ReadsSpelledEntries, TakesWhatIsSpelled, WritesFirstZero, WritesReservedZeros};
+ghost use Rattle.stun_types.specs.AttributeLaws.{IgnoresFirstByte, IgnoresReservedBits, ReadsSpelledEntries, TakesWhatIsSpelled, WritesFirstZero, WritesReservedZeros};
+ghost use Rattle.stun_types.specs.code.AttributeLaws.{HasOctets};
 ghost use Rattle.stun_types.specs.ErrorCode.{CodeAndReason, IsError};
 ghost use Rattle.stun_types.specs.XorMappedAddress.{XoredAddress};
 ghost use Rattle.stun_types.specs.declared.attribute.password_algorithm.PasswordAlgorithmValue.{PasswordAlgorithmValue};

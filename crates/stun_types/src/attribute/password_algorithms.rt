@@ -3,7 +3,8 @@
 ghost use Rattle.std.specs.Prelude.{◌≡◌, ◌≤◌, ◌<◌, ◌+◌, ◌*◌, ◌/◌, ◌++◌, ◌↔◌, [], IsTrue, length, ⊤};
 ghost use Rattle.std.specs.List.{Contains, slice_get};
 ghost use Rattle.stun_base.specs.Attributes.{PASSWORD_ALGORITHMS};
-ghost use Rattle.stun_types.specs.PasswordAlgorithms.{algorithms_of, algorithms_of-written, are_entries, entry_list, spelled_entries};
+ghost use Rattle.stun_types.specs.PasswordAlgorithms.{algorithms_of, algorithms_of-written, spelled_entries};
+ghost use Rattle.stun_types.specs.code.PasswordAlgorithms.{are_entries, entry_list};
 
 use crate::append::{append_header, append_padding};
 use crate::attribute::password_algorithm::{ENTRY_LENGTH, read_entry};
@@ -38,7 +39,7 @@ impl<'a> Model for PasswordAlgorithms<'a> {
 
     ghost Value = { List PasswordAlgorithmValue };
 
-    ghost use Rattle.stun_types.specs.AlgorithmSource.{list_of, IsKnown};
+    ghost use Rattle.stun_types.specs.code.AlgorithmSource.{list_of, IsKnown};
 
     ghost view = { λ algorithms. list_of algorithms.source };
 

@@ -6,7 +6,7 @@ ghost use Rattle.stun_base.specs.Attributes.{XOR_MAPPED_ADDRESS};
 ghost use Rattle.stun_types.specs.Grammar.{spelled_attribute};
 ghost use Rattle.stun_types.specs.XorMappedAddress.{IsHidden, IsXored, has_octets, xor_bytes, xor_key, xor_port, xored, xored_of, xored_value};
 ghost use Rattle.stun_types.specs.XorMappedAddressLaws.{xored_of-written};
-ghost use Rattle.stun_types.specs.XoredOctets.{IsWhole, family_of, octets_of};
+ghost use Rattle.stun_types.specs.code.XoredOctets.{IsWhole, family_of, octets_of};
 
 use crate::append::append_header;
 use crate::attribute::{
@@ -52,7 +52,7 @@ impl Model for XorMappedAddress {
 
     ghost Value = { XoredAddress };
 
-    ghost use Rattle.stun_types.specs.XoredOctets.{family_of, octets_of, with_family, with_family-of, IsWhole};
+    ghost use Rattle.stun_types.specs.code.XoredOctets.{family_of, octets_of, with_family, with_family-of, IsWhole};
 
     ghost view = { λ address. record {
       family = family_of address.octets;

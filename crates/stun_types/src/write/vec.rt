@@ -24,7 +24,8 @@ pub struct MessageWriteVec<A: Allocator = Global> {
 
 impl<A: Allocator> Model for MessageWriteVec<A> {
     ghost use Rattle.std.specs.Prelude.{◌+◌, ◌≤◌, vec_len, vec_capacity};
-    ghost use Rattle.stun_types.specs.WriteVec.{Written, IsWithin};
+    ghost use Rattle.stun_types.specs.WriteVec.{Written};
+    ghost use Rattle.stun_types.specs.code.WriteVec.{IsWithin};
 
     ghost Value = { Written };
 

@@ -4,7 +4,7 @@ use Rattle.std.specs.Prelude.{◌==◌}
 use Rattle.std.specs.List.Sorted.{IsNonDecreasingBy}
 use Rattle.std.proofs.lemmas.Fn.{filter_same}
 use Rattle.std.proofs.lemmas.List.Kept.{IsNonDecreasingBy-filter}
-use Rattle.stun_agent.specs.Deadlines.{IsPlace}
+use Rattle.stun_agent.specs.code.Deadlines.{IsPlace}
 use Rattle.stun_agent.proofs.PlaceLemmas.{replaced_there, replaced_absent}
 use Rattle.stun_agent.proofs.deadlines.replace.Goals as goal
 

@@ -1,6 +1,6 @@
 use Rattle.std.proofs.Common.{◌≡◌, ◌+◌, ◌≤◌, drop}
 use Rattle.std.specs.Prelude.{fold, map, filter}
-use Rattle.stun_agent.specs.Deadlines.{least_ended, has_ended, early}
+use Rattle.stun_agent.specs.code.Deadlines.{least_ended, has_ended, early}
 use Rattle.stun_agent.specs.Transactions.{sooner}
 use Rattle.stun_agent.proofs.ending.least_ended.Given as goal
 

@@ -1,7 +1,8 @@
 use Rattle.std.proofs.Common.{sym, ap, ◌∙◌}
 use Rattle.std.specs.Option.{option_or}
 use Rattle.stun_types.specs.Walk.{Member}
-use Rattle.stun_agent.specs.Integrity.{last_integrity, integrity_after}
+use Rattle.stun_agent.specs.Integrity.{last_integrity}
+use Rattle.stun_agent.specs.code.Integrity.{integrity_after}
 use Rattle.stun_agent.proofs.LastLemmas.{last_integrity-cons}
 use Rattle.stun_agent.proofs.integrity.integrity_of.Goals as goal
 

@@ -4,7 +4,7 @@ use Rattle.std.specs.Prelude.{find, map}
 use Rattle.stun_types.specs.PasswordAlgorithms.{integrity_of}
 use Rattle.stun_base.specs.declared.algorithm.IntegrityAlgorithm.{IntegrityAlgorithm}
 use Rattle.stun_auth.specs.Algorithms.{has}
-use Rattle.stun_auth.specs.Supported.{in_order}
+use Rattle.stun_auth.specs.code.Supported.{in_order}
 use Rattle.stun_auth.proofs.ListSteps.{drop-past, find-at, find-past}
 use Rattle.stun_auth.proofs.challenge.first_supported.Goals as goal
 use Rattle.stun_auth.proofs.challenge.first_supported.Goals.{in-Some+else-contains, in_default}

@@ -3,7 +3,7 @@ use Rattle.std.proofs.Common.{◌≡◌}
 use Rattle.std.specs.Prelude.{drop, map}
 use Rattle.stun_types.specs.PasswordAlgorithms.{integrity_of}
 use Rattle.stun_auth.specs.ClientStep.{first_supported}
-use Rattle.stun_auth.specs.Supported.{in_order}
+use Rattle.stun_auth.specs.code.Supported.{in_order}
 use Rattle.stun_auth.proofs.challenge.first_supported.Given as goal
 
 abbrev pub invariant-loop-i : goal.invariant-loop-i

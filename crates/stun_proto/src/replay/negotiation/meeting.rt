@@ -6,10 +6,11 @@ ghost use Rattle.stun_base.specs.Header.{transaction_id_field, type_field};
 ghost use Rattle.stun_base.specs.MessageType.{method_of};
 ghost use Rattle.stun_auth.specs.ClientStep.{UNAUTHORIZED};
 ghost use Rattle.stun_auth.specs.Validation.{sight};
-ghost use Rattle.stun_proto.specs.FirstAnswers.{end_of, is_unauthorized};
-ghost use Rattle.stun_proto.specs.Meetings.{meeting_of};
+ghost use Rattle.stun_proto.specs.code.FirstAnswers.{end_of, is_unauthorized};
+ghost use Rattle.stun_proto.specs.code.Meetings.{meeting_of};
 ghost use Rattle.stun_proto.specs.Negotiation.{BINDING, asked, challenged, failure, negotiated, outcome_of, responded, second_asked, succeeded, success};
-ghost use Rattle.stun_proto.specs.Sides.{IsRun, behind_challenge, behind_second, behind_success, sides, sides_of};
+ghost use Rattle.stun_proto.specs.Sides.{behind_challenge, behind_second, behind_success, sides, sides_of};
+ghost use Rattle.stun_proto.specs.code.Sides.{IsRun};
 
 use crate::replay::call::ServerCall;
 use crate::replay::negotiation::messages::{challenge, judged, message_in, read, request, success};

@@ -11,9 +11,9 @@ ghost use Rattle.stun_auth.specs.Reading.{class_in, is_response, reading_of};
 ghost use Rattle.stun_auth.specs.Reasons.{ForReason as ForServerReason};
 ghost use Rattle.stun_auth.specs.ServerSigning.{after_signing};
 ghost use Rattle.stun_auth.specs.Validation.{after_message, answer, sight};
-ghost use Rattle.stun_proto.specs.FirstAnswers.{answer_of};
+ghost use Rattle.stun_proto.specs.code.FirstAnswers.{answer_of};
 ghost use Rattle.stun_proto.specs.Negotiation.{BINDING as BINDING_METHOD, asked, failure, responded, success};
-ghost use Rattle.stun_proto.specs.Signed.{signed_page, written_message};
+ghost use Rattle.stun_proto.specs.code.Signed.{signed_page, written_message};
 
 use crate::replay::words::WordSource;
 use std::alloc::{AllocError, Allocator};

@@ -1,8 +1,10 @@
 -- The index answers as the map does.
 use Rattle.std.proofs.Common.{ℕ, ◌≡◌, ◌∙◌, ap, arith}
 use Rattle.std.specs.Option.{option_map}
-use Rattle.stun_agent.specs.Transactions.{Outstanding, Transaction, first_over, repeats}
-use Rattle.stun_agent.specs.Deadlines.{early, early_requests}
+use Rattle.stun_agent.specs.Transactions.{Transaction, first_over, repeats}
+use Rattle.stun_agent.specs.code.Transactions.{Outstanding}
+use Rattle.stun_agent.specs.Deadlines.{early_requests}
+use Rattle.stun_agent.specs.code.Deadlines.{early}
 use Rattle.stun_agent.proofs.DeadlineLemmas.{index_answers}
 use Rattle.stun_agent.proofs.SlotLemmas.{over_whole}
 use Rattle.stun_agent.proofs.WorkLemmas.{early_counts}

@@ -1,7 +1,8 @@
 -- The index gets the request's deadline, and loses it again where the map refuses.
 use Rattle.std.proofs.Common.{◌∙◌, ap, subst}
-use Rattle.stun_agent.specs.Deadlines.{IsPlaced}
-use Rattle.stun_agent.specs.Transactions.{Outstanding, at}
+use Rattle.stun_agent.specs.code.Deadlines.{IsPlaced}
+use Rattle.stun_agent.specs.Transactions.{at}
+use Rattle.stun_agent.specs.code.Transactions.{Outstanding}
 use Rattle.stun_agent.proofs.IndexedLemmas.{indexed_with, indexed_again}
 use Rattle.stun_agent.proofs.outstanding.Outstanding.insert.Goals as goal
 

@@ -2,8 +2,9 @@
 use Rattle.std.proofs.Common.{ℕ, ◌≡◌, ◌∙◌, ap, sym, subst, true, length}
 use Rattle.std.specs.Prelude.{None}
 use Rattle.std.specs.Option.{option_map}
-use Rattle.stun_agent.specs.Transactions.{Outstanding, Transaction, Transactions, next_sent, after_slots}
-use Rattle.stun_agent.specs.Deadlines.{earliest, is_later}
+use Rattle.stun_agent.specs.Transactions.{Transaction, Transactions, next_sent, after_slots}
+use Rattle.stun_agent.specs.code.Transactions.{Outstanding}
+use Rattle.stun_agent.specs.code.Deadlines.{earliest, is_later}
 use Rattle.stun_agent.proofs.IndexedLemmas.{indexed_slots}
 use Rattle.stun_agent.proofs.NamedLemmas.{named-found}
 use Rattle.stun_agent.proofs.SlotLemmas.{nothing_due}

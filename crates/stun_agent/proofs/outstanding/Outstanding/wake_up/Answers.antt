@@ -3,7 +3,8 @@ use Rattle.std.proofs.Common.{rules, ℕ, ◌≡◌, ◌∙◌, ap, sym, subst, 
 use Rattle.std.specs.Prelude.{max, None, fold}
 use Rattle.std.specs.Option.{option_map_or}
 use Rattle.stun_base.specs.Moments.{moment_after}
-use Rattle.stun_agent.specs.Transactions.{Outstanding, Transaction, first_over, wake_up, awaited, an_hour}
+use Rattle.stun_agent.specs.Transactions.{Transaction, first_over, wake_up, awaited, an_hour}
+use Rattle.stun_agent.specs.code.Transactions.{Outstanding}
 use Rattle.stun_agent.proofs.SlotLemmas.{wake_up_first}
 use Rattle.stun_agent.proofs.SoonerLemmas.{sooner_is}
 use Rattle.stun_agent.proofs.outstanding.Outstanding.wake_up.Goals as goal

@@ -1,7 +1,7 @@
 -- The three parts grow the message one behind the other.
 use Rattle.std.proofs.Common.{◌≡◌, ◌+◌, ◌++◌, true, ap, ◌∙◌, arith}
 use Rattle.stun_auth.specs.Additions.{growth}
-use Rattle.stun_auth.specs.ClientKept.{challenge_seen}
+use Rattle.stun_auth.specs.code.ClientKept.{challenge_seen}
 use Rattle.stun_auth.specs.ClientSigning.{algorithm_choice, challenge_additions, identity, protection}
 use Rattle.stun_auth.proofs.AdditionLemmas.{growth-append}
 use Rattle.stun_auth.proofs.challenge.KeptChallenge.signature_bytes.Goals as goal

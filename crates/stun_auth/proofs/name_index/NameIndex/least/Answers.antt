@@ -2,7 +2,7 @@
 use Rattle.std.proofs.Common.{◌≡◌, ℕ, List, Option, Some, None, String, string_bytes, Bor, refl, sym, ◌∙◌, subst, true≢false}
 use Rattle.std.specs.Option.{option_copied}
 use Rattle.std.proofs.lemmas.Slice.Eq.{bytes_eq-Decides}
-use Rattle.stun_auth.specs.NameIndex.{HashedNames, IsLeastNamed}
+use Rattle.stun_auth.specs.code.NameIndex.{HashedNames, IsLeastNamed}
 use Rattle.stun_auth.proofs.HashedNames.{first_named, none_named, passed_by}
 use Rattle.stun_auth.proofs.name_index.NameIndex.least.Goals as goal
 

@@ -1,7 +1,7 @@
 use Rattle.std.proofs.Common.{◌∙◌, ap}
 use Rattle.std.specs.Option.{option_map}
 use Rattle.std.specs.FinMap as map
-use Rattle.stun_auth.specs.Places.{place_seen}
+use Rattle.stun_auth.specs.code.Places.{place_seen}
 use Rattle.stun_auth.proofs.PlaceMaps.{get-places_seen}
 use Rattle.stun_auth.proofs.places.Places.get.Goals as goal
 

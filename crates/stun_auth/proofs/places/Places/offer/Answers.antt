@@ -1,6 +1,7 @@
 -- What was offered changes where the address has a place, and nothing changes where it has none.
 use Rattle.std.proofs.Common.{◌∙◌, ap}
-use Rattle.stun_auth.specs.Places.{places_seen, with_offer}
+use Rattle.stun_auth.specs.Places.{with_offer}
+use Rattle.stun_auth.specs.code.Places.{places_seen}
 use Rattle.stun_auth.proofs.PlaceMaps.{places_seen-at, places_seen-none, is_found}
 use Rattle.stun_auth.proofs.places.Places.offer.Goals as goal
 

@@ -3,7 +3,7 @@ use Rattle.std.specs.String.{string_bytes}
 use Rattle.std.specs.Option.{option_map}
 use Rattle.std.specs.BTreeMap as tree
 use Rattle.stun_auth.specs.Seen.{renewed}
-use Rattle.stun_auth.specs.Places.{client_seen, places_seen}
+use Rattle.stun_auth.specs.code.Places.{client_seen, places_seen}
 use Rattle.stun_auth.proofs.PlaceMaps.{places_seen-changed, is_found, derived}
 use Rattle.stun_auth.proofs.places.Places.renew.Goals as goal
 

@@ -1,7 +1,8 @@
 -- The client changes where the address has a place, and nothing changes where it has none.
 use Rattle.std.proofs.Common.{◌∙◌, ap, refl}
 use Rattle.std.specs.Option.{option_map}
-use Rattle.stun_auth.specs.Places.{client_seen, places_seen, with_client}
+use Rattle.stun_auth.specs.Places.{with_client}
+use Rattle.stun_auth.specs.code.Places.{client_seen, places_seen}
 use Rattle.stun_auth.proofs.PlaceMaps.{places_seen-at, places_seen-none, is_found}
 use Rattle.stun_auth.proofs.places.Places.set_client.Goals as goal
 

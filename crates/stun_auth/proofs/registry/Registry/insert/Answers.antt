@@ -5,9 +5,9 @@ use Rattle.std.specs.FinMap as map
 use Rattle.std.specs.FinSet as set
 use Rattle.std.specs.String.{string_bytes}
 use Rattle.stun_base.specs.Keys.{userhash}
-use Rattle.stun_auth.specs.NameIndex.{HashedNames, IsIndexOf}
+use Rattle.stun_auth.specs.code.NameIndex.{HashedNames, IsIndexOf}
 use Rattle.stun_auth.specs.Registered.{Registered}
-use Rattle.stun_auth.specs.Users.{HasKeys, passwords_seen}
+use Rattle.stun_auth.specs.code.Users.{HasKeys, passwords_seen}
 use Rattle.stun_auth.specs.declared.registry.User.{User}
 use Rattle.stun_auth.proofs.LeastNames.{index_after_add, index_undone}
 use Rattle.stun_auth.proofs.UserMaps.{get-passwords_seen, keys_after_add, keys_where_same, passwords_seen-inserted}

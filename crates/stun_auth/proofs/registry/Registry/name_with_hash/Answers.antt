@@ -2,7 +2,7 @@ use Rattle.std.proofs.Common.{◌∙◌, ap}
 use Rattle.std.specs.Option.{option_copied}
 use Rattle.std.specs.String.{string_bytes}
 use Rattle.stun_auth.specs.Registered.{name_with_hash}
-use Rattle.stun_auth.specs.Users.{passwords_seen}
+use Rattle.stun_auth.specs.code.Users.{passwords_seen}
 use Rattle.stun_auth.proofs.LeastNames.{name_found}
 use Rattle.stun_auth.proofs.registry.Registry.name_with_hash.Goals as goal
 

@@ -3,9 +3,9 @@ use Rattle.std.proofs.Common.{List, [], String, ap, subst, sym}
 use Rattle.std.specs.FinMap as fin
 use Rattle.std.specs.String.{string_bytes}
 use Rattle.stun_auth.specs.declared.algorithm_set.AlgorithmSet.TheVariants.{OnlySha1}
-use Rattle.stun_auth.specs.NameIndex.{HashedNames, IsIndexOf}
+use Rattle.stun_auth.specs.code.NameIndex.{HashedNames, IsIndexOf}
 use Rattle.stun_auth.specs.declared.registry.User.{User}
-use Rattle.stun_auth.specs.Users.{passwords_seen}
+use Rattle.stun_auth.specs.code.Users.{passwords_seen}
 use Rattle.stun_auth.proofs.LeastNames.{Passwords, indexed_none}
 use Rattle.stun_auth.proofs.UserMaps.{keys_where_same}
 use Rattle.stun_auth.proofs.registry.Registry.new.Goals as goal

@@ -4,7 +4,7 @@ use Rattle.std.specs.FinMap as map
 use Rattle.std.specs.String.{string_bytes}
 use Rattle.stun_base.specs.Keys.{userhash}
 use Rattle.stun_auth.specs.Registered.{Registered}
-use Rattle.stun_auth.specs.Users.{passwords_seen}
+use Rattle.stun_auth.specs.code.Users.{passwords_seen}
 use Rattle.stun_auth.proofs.LeastNames.{index_after_remove}
 use Rattle.stun_auth.proofs.UserMaps.{passwords_seen-removed, keys_after_remove}
 use Rattle.stun_auth.proofs.registry.Registry.remove_user.Goals as goal

@@ -1,7 +1,7 @@
 -- Only another client changes the place.
 use Rattle.std.proofs.Common.{sym, ◌∙◌, ap}
 use Rattle.std.specs.Prelude.{Ok}
-use Rattle.stun_auth.specs.VerdictSteps.{place_left}
+use Rattle.stun_auth.specs.code.VerdictSteps.{place_left}
 use Rattle.stun_auth.proofs.Unchanged.{at_place-same}
 use Rattle.stun_auth.proofs.server.LongTermServerAuth.settle.Goals as goal
 

@@ -5,11 +5,12 @@ use Rattle.std.specs.FinMap as map
 use Rattle.std.specs.declared.result.Result.{Result}
 use Rattle.stun_auth.specs.declared.server_reason.Refusal.{Refusal}
 use Rattle.stun_auth.specs.Seen.{ClientSeen, PlaceSeen}
-use Rattle.stun_auth.specs.Places.{at_place, place_seen}
+use Rattle.stun_auth.specs.Places.{at_place}
+use Rattle.stun_auth.specs.code.Places.{place_seen}
 use Rattle.stun_auth.specs.Reading.{reading_of}
 use Rattle.stun_auth.specs.Reasons.{OrMemory}
 use Rattle.stun_auth.specs.Validation.{Answer, ServerSeen, answer_to, sight, verdict_at, with_accepted}
-use Rattle.stun_auth.specs.VerdictSteps.{answered, place_left}
+use Rattle.stun_auth.specs.code.VerdictSteps.{answered, place_left}
 use Rattle.stun_auth.proofs.Unchanged.{of-some, settled}
 use Rattle.stun_auth.proofs.server.LongTermServerAuth.validate_kept.Goals as goal
 

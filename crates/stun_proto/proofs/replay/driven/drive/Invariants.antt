@@ -1,6 +1,6 @@
 use Rattle.std.proofs.Common.{◌≡◌, ◌+◌, drop}
 use Rattle.stun_proto.specs.Steps.{steps_of}
-use Rattle.stun_proto.specs.Calls.{RunLeads}
+use Rattle.stun_proto.specs.code.Calls.{RunLeads}
 use Rattle.stun_proto.proofs.replay.driven.drive.Given as goal
 
 -- the run goes on with the events that are left

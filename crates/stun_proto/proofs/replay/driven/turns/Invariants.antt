@@ -1,6 +1,6 @@
 use Rattle.std.proofs.Common.{◌-◌}
 use Rattle.stun_proto.specs.Steps.{steps_of}
-use Rattle.stun_proto.specs.Calls.{TurnsLead}
+use Rattle.stun_proto.specs.code.Calls.{TurnsLead}
 use Rattle.stun_proto.proofs.replay.driven.turns.Given as goal
 
 -- the turns go on at the moment that is reached

@@ -4,10 +4,11 @@ use Rattle.stun_base.specs.Credentials.{NameAndPassword}
 use Rattle.stun_auth.specs.Client.{ClientState}
 use Rattle.stun_proto.specs.Honest.{AreShort, ComesTo, strongest}
 use Rattle.stun_proto.specs.Matching.{AreTexts}
-use Rattle.stun_proto.specs.Meetings.{turn_of}
+use Rattle.stun_proto.specs.code.Meetings.{turn_of}
 use Rattle.stun_proto.specs.Negotiating.{lists, meeting, met_by, turn_at}
 use Rattle.stun_proto.specs.Negotiation.{Meeting, Turn, negotiated}
-use Rattle.stun_proto.specs.Sides.{IsRun, sides_of}
+use Rattle.stun_proto.specs.Sides.{sides_of}
+use Rattle.stun_proto.specs.code.Sides.{IsRun}
 use Rattle.stun_proto.proofs.Outcomes.{ends_at_strongest}
 use Rattle.stun_proto.proofs.replay.negotiation.negotiate.Goals as goal
 

@@ -3,7 +3,7 @@ use Rattle.stun_auth.specs.Additions.{UnlessMemory}
 use Rattle.stun_auth.specs.Reading.{class_in, is_response}
 use Rattle.stun_auth.specs.ServerSigning.{after_signing}
 use Rattle.stun_auth.specs.Validation.{sight}
-use Rattle.stun_proto.specs.Signed.{signed_page}
+use Rattle.stun_proto.specs.code.Signed.{signed_page}
 use Rattle.stun_proto.specs.Signing.{signing}
 use Rattle.stun_proto.proofs.SigningLemmas.{either_signed, left_by_bytes, told_signing}
 use Rattle.stun_proto.proofs.ValidateLemmas.{no_reply, on_given, on_none_given, reply_given}

@@ -1,7 +1,7 @@
 use Rattle.std.proofs.Common.{subst}
 use Rattle.std.specs.Prelude.{None}
 use Rattle.stun_proto.specs.Steps.{steps_of}
-use Rattle.stun_proto.specs.Calls.{EndsOne}
+use Rattle.stun_proto.specs.code.Calls.{EndsOne}
 use Rattle.stun_proto.proofs.TurnLemmas.{leads_ended, moved_ended, less_ended, breaks_ended, on_err}
 use Rattle.stun_proto.proofs.replay.turn.end_all.Goals as goal
 

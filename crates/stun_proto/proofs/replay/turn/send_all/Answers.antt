@@ -1,5 +1,5 @@
 use Rattle.std.proofs.Common.{subst, refl, inr, true, false}
-use Rattle.stun_proto.specs.Calls.{SendsOne}
+use Rattle.stun_proto.specs.code.Calls.{SendsOne}
 use Rattle.stun_proto.specs.Run.{sending}
 use Rattle.stun_proto.specs.Steps.{steps_of}
 use Rattle.stun_proto.proofs.TurnLemmas.{leads_start, leads_sent, moved_sent, sends_all, less_sent, breaks_sent, on_err}

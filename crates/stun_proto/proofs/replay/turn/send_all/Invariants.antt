@@ -1,7 +1,7 @@
 use Rattle.stun_proto.specs.Steps.{steps_of}
-use Rattle.stun_proto.specs.Calls.{Leads}
+use Rattle.stun_proto.specs.code.Calls.{Leads}
 use Rattle.stun_proto.specs.Run.{sending}
-use Rattle.stun_proto.specs.Work.{work}
+use Rattle.stun_proto.specs.code.Work.{work}
 use Rattle.stun_proto.proofs.TurnLemmas.{HasMoved}
 use Rattle.stun_proto.proofs.replay.turn.send_all.Given as goal
 

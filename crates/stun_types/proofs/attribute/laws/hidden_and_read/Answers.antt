@@ -1,6 +1,6 @@
 -- What is hidden twice is as it was.
 use Rattle.std.specs.Net.Socket.{socket_ip, socket_port}
-use Rattle.stun_types.specs.AttributeLaws.{HasOctets}
+use Rattle.stun_types.specs.code.AttributeLaws.{HasOctets}
 use Rattle.stun_types.specs.XorMappedAddress.{IsHidden, xored}
 use Rattle.stun_types.proofs.XorLemmas.{hidden_ip}
 use Rattle.stun_types.proofs.attribute.laws.hidden_and_read.Goals as goal

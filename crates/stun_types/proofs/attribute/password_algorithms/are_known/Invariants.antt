@@ -1,5 +1,5 @@
 use Rattle.std.proofs.Common.{◌≡◌, length}
-use Rattle.stun_types.specs.PasswordAlgorithms.{are_entries}
+use Rattle.stun_types.specs.code.PasswordAlgorithms.{are_entries}
 use Rattle.stun_types.proofs.attribute.password_algorithms.are_known.Given as goal
 
 -- all are known where those that are left are

@@ -2,7 +2,8 @@
 use Rattle.std.proofs.Common.{◌≡◌, ◌*◌, ◌<◌, length, drop, sym, ◌∙◌, arith}
 use Rattle.std.proofs.lemmas.List.{take_rest}
 use Rattle.std.proofs.lemmas.Option.{slice_get_past}
-use Rattle.stun_types.specs.PasswordAlgorithms.{entry_at_front, entry_list}
+use Rattle.stun_types.specs.PasswordAlgorithms.{entry_at_front}
+use Rattle.stun_types.specs.code.PasswordAlgorithms.{entry_list}
 use Rattle.stun_types.proofs.EntryLemmas.{entries-get, entries-length, entry_list-read}
 use Rattle.stun_types.proofs.attribute.password_algorithms.entry_at.Goals as goal
 

@@ -1,6 +1,6 @@
 -- Each entry takes four bytes.
 use Rattle.std.proofs.Common.{◌≡◌, ◌*◌, length, arith}
-use Rattle.stun_types.specs.PasswordAlgorithms.{entry_list}
+use Rattle.stun_types.specs.code.PasswordAlgorithms.{entry_list}
 use Rattle.stun_types.proofs.EntryLemmas.{entries-length, entry_list-read}
 use Rattle.stun_types.proofs.attribute.password_algorithms.entry_count.Goals as goal
 

@@ -6,10 +6,11 @@ use Rattle.stun_auth.specs.Client.{ClientSide}
 use Rattle.stun_auth.specs.ClientStep.{UNAUTHORIZED, client_step}
 use Rattle.stun_auth.specs.Reading.{reading_of}
 use Rattle.stun_auth.specs.Validation.{sight}
-use Rattle.stun_proto.specs.Meetings.{meeting_of}
+use Rattle.stun_proto.specs.code.Meetings.{meeting_of}
 use Rattle.stun_proto.specs.Negotiation.{asked, challenged, failure, page_of, responded, second_asked}
 use Rattle.stun_proto.specs.Serving.{after_calls}
-use Rattle.stun_proto.specs.Sides.{IsRun, behind_challenge, behind_second, sides}
+use Rattle.stun_proto.specs.Sides.{behind_challenge, behind_second, sides}
+use Rattle.stun_proto.specs.code.Sides.{IsRun}
 use Rattle.stun_proto.proofs.Runs.{by_error, challenge_ended, challenge_ends, challenge_resent, challenge_stopped, first_calls_stopped, resent, run_refused, stepped}
 use Rattle.stun_proto.proofs.replay.negotiation.meeting.answer_challenge.Goals as goal
 

@@ -5,11 +5,12 @@ use Rattle.stun_types.specs.Message.{IsMessage}
 use Rattle.stun_auth.specs.Client.{ClientSide}
 use Rattle.stun_auth.specs.Reading.{reading_of}
 use Rattle.stun_auth.specs.Validation.{ServerSeen, after_message, answer, sight}
-use Rattle.stun_proto.specs.FirstAnswers.{answer_of}
-use Rattle.stun_proto.specs.Meetings.{meeting_of}
+use Rattle.stun_proto.specs.code.FirstAnswers.{answer_of}
+use Rattle.stun_proto.specs.code.Meetings.{meeting_of}
 use Rattle.stun_proto.specs.Negotiation.{asked, page_of, responded, second_asked, succeeded, success}
 use Rattle.stun_proto.specs.Serving.{after_calls}
-use Rattle.stun_proto.specs.Sides.{IsRun, behind_second, behind_success, sides}
+use Rattle.stun_proto.specs.Sides.{behind_second, behind_success, sides}
+use Rattle.stun_proto.specs.code.Sides.{IsRun}
 use Rattle.stun_proto.proofs.Runs.{by_error, run_refused, second_accepted, second_calls_stopped, second_read_stopped, second_refused}
 use Rattle.stun_proto.proofs.replay.negotiation.meeting.ask_again.Goals as goal
 

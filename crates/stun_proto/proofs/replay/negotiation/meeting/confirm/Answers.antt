@@ -5,9 +5,10 @@ use Rattle.stun_auth.specs.Additions.{UnlessMemory}
 use Rattle.stun_auth.specs.ClientStep.{IsResend, client_step}
 use Rattle.stun_auth.specs.Reading.{reading_of}
 use Rattle.stun_auth.specs.Validation.{sight}
-use Rattle.stun_proto.specs.Meetings.{meeting_of}
+use Rattle.stun_proto.specs.code.Meetings.{meeting_of}
 use Rattle.stun_proto.specs.Negotiation.{page_of, responded, succeeded, success}
-use Rattle.stun_proto.specs.Sides.{IsRun, behind_success, sides}
+use Rattle.stun_proto.specs.Sides.{behind_success, sides}
+use Rattle.stun_proto.specs.code.Sides.{IsRun}
 use Rattle.stun_proto.proofs.Runs.{by_error, run_refused, stepped, success_read, success_stopped}
 use Rattle.stun_proto.proofs.replay.negotiation.meeting.confirm.Goals as goal
 

@@ -7,10 +7,11 @@ use Rattle.stun_auth.specs.ClientStep.{UNAUTHORIZED}
 use Rattle.stun_auth.specs.Reading.{reading_of}
 use Rattle.stun_auth.specs.Validation.{after_message, answer, sight}
 use Rattle.stun_auth.specs.declared.server_reason.LongTermServerValidation.TheVariants as Served
-use Rattle.stun_proto.specs.FirstAnswers.{answer_of}
-use Rattle.stun_proto.specs.Meetings.{meeting_of}
+use Rattle.stun_proto.specs.code.FirstAnswers.{answer_of}
+use Rattle.stun_proto.specs.code.Meetings.{meeting_of}
 use Rattle.stun_proto.specs.Negotiation.{asked, challenged, failure, first_asked, negotiated, page_of, responded}
-use Rattle.stun_proto.specs.Sides.{IsRun, behind_challenge, behind_first, sides, sides_of}
+use Rattle.stun_proto.specs.Sides.{behind_challenge, behind_first, sides, sides_of}
+use Rattle.stun_proto.specs.code.Sides.{IsRun}
 use Rattle.stun_proto.specs.declared.replay.negotiation.Outcome.TheVariants as Outcome
 use Rattle.stun_proto.proofs.Runs.{by_error, first_challenged, first_ended, first_refused, first_stopped, run_refused, unauthorized_is}
 use Rattle.stun_proto.proofs.replay.negotiation.meeting.meet.Goals as goal

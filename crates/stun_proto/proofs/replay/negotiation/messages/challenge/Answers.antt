@@ -7,7 +7,7 @@ use Rattle.stun_auth.specs.Additions.{UnlessMemory}
 use Rattle.stun_auth.specs.ClientStep.{UNAUTHORIZED}
 use Rattle.stun_auth.specs.Validation.{sight}
 use Rattle.stun_proto.specs.Negotiation.{failure, responded}
-use Rattle.stun_proto.specs.Signed.{signed_page}
+use Rattle.stun_proto.specs.code.Signed.{signed_page}
 use Rattle.stun_proto.proofs.Typed.{by_reason, failure_responds, unless_map}
 use Rattle.stun_proto.proofs.replay.negotiation.messages.challenge.Goals as goal
 

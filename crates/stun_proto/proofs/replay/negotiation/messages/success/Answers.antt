@@ -6,7 +6,7 @@ use Rattle.stun_types.specs.Grammar.{spelled}
 use Rattle.stun_auth.specs.Additions.{UnlessMemory}
 use Rattle.stun_auth.specs.Validation.{sight}
 use Rattle.stun_proto.specs.Negotiation.{responded, success}
-use Rattle.stun_proto.specs.Signed.{signed_page}
+use Rattle.stun_proto.specs.code.Signed.{signed_page}
 use Rattle.stun_proto.proofs.Typed.{success_responds}
 use Rattle.stun_proto.proofs.replay.negotiation.messages.success.Goals as goal
 

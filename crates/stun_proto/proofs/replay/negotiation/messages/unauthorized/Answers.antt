@@ -10,7 +10,7 @@ use Rattle.stun_types.specs.WriteVec.{Written}
 use Rattle.stun_auth.specs.Additions.{UnlessMemory}
 use Rattle.stun_auth.specs.ClientStep.{UNAUTHORIZED}
 use Rattle.stun_proto.specs.Negotiation.{failure}
-use Rattle.stun_proto.specs.Signed.{written_message}
+use Rattle.stun_proto.specs.code.Signed.{written_message}
 use Rattle.stun_proto.proofs.Typed.{by_reason, not_refused, only_memory}
 use Rattle.stun_proto.proofs.replay.negotiation.messages.unauthorized.Goals as goal
 

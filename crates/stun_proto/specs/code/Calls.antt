@@ -2,7 +2,7 @@
 use Rattle.std.specs.Prelude.{ℕ, ◌≡◌, ◌+◌, ◌≤◌, Bool, true, false, List, [], ◌∷◌, ◌++◌, Option, Some, None, ◌<◌, ◌⊎◌}
 use Rattle.stun_agent.specs.Agent.{Agent, sent_by_poll, after_poll_transmit, ended_by_poll, after_poll}
 use Rattle.stun_agent.specs.Transactions.{Transaction, wake_up}
-use Rattle.stun_proto.specs.Work.{work, IsIdle}
+use Rattle.stun_proto.specs.code.Work.{work, IsIdle}
 use Rattle.stun_base.specs.Moments.{last_moment}
 use Rattle.stun_proto.specs.declared.replay.event.AgentEvent.{AgentEvent}
 use Rattle.stun_proto.specs.Steps.{Step}

@@ -1,6 +1,6 @@
 -- Where the algorithms of a PASSWORD-ALGORITHMS stand: in a program's own list, or as entries in a message.
 use Rattle.std.specs.Prelude.{List, IsTrue}
-use Rattle.stun_types.specs.PasswordAlgorithms.{are_entries, entry_list}
+use Rattle.stun_types.specs.code.PasswordAlgorithms.{are_entries, entry_list}
 use Rattle.stun_types.specs.declared.attribute.password_algorithm.PasswordAlgorithmValue.{PasswordAlgorithmValue}
 use Rattle.stun_types.specs.declared.attribute.password_algorithms.Source.{Source}
 use Rattle.stun_types.specs.declared.attribute.password_algorithms.Source.TheVariants.{Listed, Received}

@@ -15,7 +15,7 @@ use Rattle.stun_auth.specs.declared.server_reason.LongTermServerValidation.TheVa
 use Rattle.stun_auth.specs.declared.server.validation.Acceptance.{Acceptance}
 use Rattle.stun_auth.specs.declared.server.validation.Acceptance.TheVariants.{Known, New}
 use Rattle.stun_auth.specs.Feature.{is_possible}
-use Rattle.stun_auth.specs.Places.{client_seen}
+use Rattle.stun_auth.specs.code.Places.{client_seen}
 use Rattle.stun_auth.specs.Reading.{Reading, stands_under}
 use Rattle.stun_auth.specs.Registered.{Registered, key_at, name_with_hash}
 use Rattle.stun_auth.specs.Seen.{ClientSeen, PlaceSeen}

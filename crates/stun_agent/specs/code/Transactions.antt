@@ -1,0 +1,14 @@
+-- What the map of outstanding requests holds.
+use Rattle.std.specs.Prelude.{ℕ, List}
+use Rattle.std.specs.declared.net.socket_addr.SocketAddr.{SocketAddr}
+use Rattle.stun_base.specs.declared.transport.TransportType.{TransportType}
+use Rattle.stun_agent.specs.Transactions.{Transaction, Transactions}
+
+-- these, and the transport that carries them
+pub record Outstanding : Type 0 where
+  pub transport : TransportType
+  pub requests : Transactions
+
+-- what is sent of a transaction, and where
+abbrev pub contents : Transaction → List ℕ × SocketAddr
+contents t = (t.bytes, t.to)

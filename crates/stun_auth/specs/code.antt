@@ -1,0 +1,19 @@
+-- Definitions that no clause of a public call says: codings of models, views of the code's own structs, steps of the code.
+pub mod AddedAttribute
+pub mod Additions
+pub mod AddressCode
+pub mod Algorithms
+pub mod Client
+pub mod ClientKept
+pub mod ClientStep
+pub mod Feature
+pub mod NameIndex
+pub mod Places
+pub mod Reasons
+pub mod Registered
+pub mod Seen
+pub mod ShortTermKept
+pub mod Supported
+pub mod Users
+pub mod Validation
+pub mod VerdictSteps

@@ -1,0 +1,3 @@
+-- Definitions that no clause of a public call says: codings of models, views of the code's own structs, steps of the code.
+pub mod Output
+pub mod Run

@@ -1,0 +1,9 @@
+-- Definitions that no clause of a public call says: codings of models, views of the code's own structs, steps of the code.
+pub mod AlgorithmSource
+pub mod AttributeLaws
+pub mod Message
+pub mod PasswordAlgorithms
+pub mod Visible
+pub mod Walk
+pub mod WriteVec
+pub mod XoredOctets

@@ -1,0 +1,10 @@
+-- A message as its struct keeps it.
+use Rattle.std.specs.Prelude.{◌≡◌, ◌≤◌, ℕ, List, length}
+use Rattle.stun_base.specs.Header.{HeaderFields, header_of}
+use Rattle.stun_types.specs.Message.{IsMessage, LENGTH_LIMIT}
+
+-- the bytes that were read are a message with this header, so they are no longer than a length field can say
+pub record IsRead (header : HeaderFields) (bytes : List ℕ) : Type 0 where
+  pub is_message : IsMessage bytes
+  pub header_is : header ≡ header_of bytes
+  pub limit : length bytes ≤ LENGTH_LIMIT

@@ -1,0 +1,7 @@
+-- How much of its room a writer that grows has taken.
+use Rattle.std.specs.Prelude.{ℕ, ◌+◌, ◌≤◌}
+
+-- so many reserved bytes behind so many written ones are within the capacity and the longest message
+pub record IsWithin (len reserved capacity : ℕ) : Type 0 where
+  pub in_capacity : len + reserved ≤ capacity
+  pub in_message : len + reserved ≤ 65552

@@ -1,0 +1,51 @@
+#!/usr/bin/env python3
+"""Checks that each definition is in its room: what a clause of a public call says, transitively, stands in `specs/`, and all
+other definitions in `specs/code/`. A Model's coding, view and invariant may cite `specs/code/`, and so may private functions.
+
+Run at the top of the repository. Prints each definition in the wrong room with a definition that cites it, then a count a crate.
+"""
+
+import collections
+import sys
+
+from definitions import Repository, crates, sources
+
+TEST_CRATES = ("tests", "test_support", "fail_alloc")
+
+
+def is_code(definition):
+    return definition.module.split(".")[3] == "code"
+
+
+def main():
+    repository = Repository(".")
+    stated = set()
+    for crate in crates("."):
+        if not any(part in crate for part in TEST_CRATES):
+            for source in sources(".", crate):
+                for clause in source.public:
+                    stated.update(repository.cited_in(None, source.imports, clause.split("\n")))
+    because = repository.closure(stated)
+    wrong = 0
+    counts = collections.Counter()
+    for read in repository.files.values():
+        crate = read.module.split(".")[1]
+        if any(part in crate for part in TEST_CRATES):
+            continue
+        for definition in read.definitions:
+            counts[(crate, is_code(definition))] += 1
+            if is_code(definition) and definition in because:
+                wrong += 1
+                citing = because[definition]
+                print("a public clause says %s%s" % (definition, ", by %s" % citing if citing else ""))
+            elif not is_code(definition) and definition not in because:
+                wrong += 1
+                print("no public clause says %s" % definition)
+    for crate in sorted({name for name, _ in counts}):
+        print("%-12s specs %3d  specs/code %3d" % (crate, counts[(crate, False)], counts[(crate, True)]))
+    print("rooms: %s" % ("%d definitions in the wrong room" % wrong if wrong else "each definition in its room"))
+    return 1 if wrong else 0
+
+
+if __name__ == "__main__":
+    sys.exit(main())

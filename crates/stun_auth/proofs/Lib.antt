@@ -2,6 +2,7 @@ pub mod Accepting
 pub mod AdditionLemmas
 pub mod Addresses
 pub mod Drawn
+pub mod Forgotten
 pub mod Growth
 pub mod HashedNames
 pub mod JoinedLemmas

@@ -18,6 +18,8 @@ pub mod Server
 pub mod Validation
 -- the places of all addresses
 pub mod Places
+-- when what is kept for an address is forgotten
+pub mod Forgetting
 -- why a server refuses a message
 pub mod Reasons
 -- a client: what it is set to and what it keeps (section 9.2)

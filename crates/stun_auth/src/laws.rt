@@ -1,7 +1,9 @@
 //! Laws over the definitions that the contracts of this crate cite.
-ghost use Rattle.std.specs.Prelude.{◌≡◌, ◌<◌, ◌≤◌, ◌^◌, ◌||◌, ℕ, ◌+◌, Bool, true, false, List, [], ◌∷◌, ◌++◌, length, Ok, Err, Option, Some, None, if◌then◌else◌, IsOk, IsTrue, IsUtf8, ◌↔◌};
+ghost use Rattle.std.specs.Prelude.{◌≡◌, ◌<◌, ◌≤◌, ◌^◌, ◌||◌, ℕ, ◌+◌, Bool, true, false, List, [], ◌∷◌, ◌++◌, length, Ok, Err, Option, Some, None, if◌then◌else◌, IsOk, IsTrue, IsUtf8, ◌↔◌, ◌⊎◌};
 ghost use Rattle.std.specs.List.{AllByRecursion};
 ghost use Rattle.std.specs.Option.{IsSome, is_some};
+ghost use Rattle.std.specs.FinMap as map;
+ghost use Rattle.std.specs.declared.net.socket_addr.SocketAddr.{SocketAddr};
 ghost use Rattle.stun_base.specs.MessageType.{class_of};
 ghost use Rattle.stun_base.specs.declared.algorithm.IntegrityAlgorithm.TheVariants.{Sha256};
 ghost use Rattle.stun_base.specs.declared.message_type.MessageClass.{MessageClass};
@@ -16,6 +18,7 @@ ghost use Rattle.stun_auth.specs.Algorithms.{contains};
 ghost use Rattle.stun_auth.specs.Client.{ClientState};
 ghost use Rattle.stun_auth.specs.ClientSigning.{client_additions};
 ghost use Rattle.stun_auth.specs.Feature.{is_possible};
+ghost use Rattle.stun_auth.specs.Forgetting.{after_forgetting, place_kept};
 ghost use Rattle.stun_auth.specs.Joined.{HasAdded, IsReadBack, IsTyped, page_after};
 ghost use Rattle.stun_auth.specs.Nonces.{asks_for_algorithms, asks_for_userhash, nonce_of, security_bits, spelled_bits};
 ghost use Rattle.stun_auth.specs.Reading.{Reading, class_in, error_code, is_error, reading_of};
@@ -24,7 +27,7 @@ ghost use Rattle.stun_auth.specs.Seen.{ClientSeen, PlaceSeen};
 ghost use Rattle.stun_auth.specs.Server.{Sight, stands_at};
 ghost use Rattle.stun_auth.specs.ServerSigning.{server_signed};
 ghost use Rattle.stun_auth.specs.Signed.{Added, ClientMaySign, HasRoomFor, IsBuilt, IsSignable, IsSmall, IsText, IsUnsigned, IsWithinLimits, IsWritable, ReadsAs, ServerMaySign, added_by_client, added_by_server, additions_of, error_attribute};
-ghost use Rattle.stun_auth.specs.Validation.{ChangesNothing, ValidatesAccepted, answer, needs_nonce, verdict_at};
+ghost use Rattle.stun_auth.specs.Validation.{ChangesNothing, ServerSeen, ValidatesAccepted, answer, needs_nonce, verdict_at};
 
 use crate::client_answer::{LongTermClientAuthErrorReason, LongTermClientValidation};
 use crate::feature::Feature;
@@ -68,6 +71,19 @@ pub fn messages_that_change_nothing()
         → verdict_at s place r ≡ Err e → ChangesNothing s now words r }
     ensures repeated { (s : Sight) (now : ℕ) (words : List ℕ) (r : Reading) (place : PlaceSeen) (client : ClientSeen) → s.place ≡ Some place → stands_at now (Some place) ≡ true
         → verdict_at s place r ≡ Ok client → place.client ≡ Some client → ChangesNothing s now words r }
+{}
+
+/// Forgetting changes each address's place by itself. After it each address that has a nonce has a client, or a nonce whose
+/// end is that moment or later; and each such address stays as it was.
+pub fn expired_nonces_are_forgotten()
+    ensures place { (s : ServerSeen) (now : ℕ) (a : SocketAddr) →
+        map.get (after_forgetting s now).places a ≡ place_kept now (map.get s.places a) }
+    ensures left { (s : ServerSeen) (now : ℕ) (a : SocketAddr) (place : PlaceSeen) →
+        map.get (after_forgetting s now).places a ≡ Some place → IsSome place.client ⊎ (now ≤ place.expires) }
+    ensures client { (s : ServerSeen) (now : ℕ) (a : SocketAddr) (place : PlaceSeen) →
+        map.get s.places a ≡ Some place → IsSome place.client → map.get (after_forgetting s now).places a ≡ Some place }
+    ensures current { (s : ServerSeen) (now : ℕ) (a : SocketAddr) (place : PlaceSeen) →
+        map.get s.places a ≡ Some place → now ≤ place.expires → map.get (after_forgetting s now).places a ≡ Some place }
 {}
 
 /// A built message without attributes, and one with an error code alone, can be signed, and are read as what they were

@@ -4,6 +4,7 @@ ghost use Rattle.std.specs.Prelude.{◌≡◌, ◌↔◌, IfOk, IsTrue, Option, 
 ghost use Rattle.std.specs.Option.{option_map, option_copied};
 ghost use Rattle.std.specs.FinMap as map;
 ghost use Rattle.std.specs.String.{string_bytes};
+ghost use Rattle.stun_auth.specs.Forgetting.{is_forgotten, places_kept};
 ghost use Rattle.stun_auth.specs.Seen.{renewed};
 ghost use Rattle.stun_auth.specs.Places.{with_change, with_client, with_offer};
 ghost use Rattle.stun_auth.specs.code.Places.{client_seen, place_seen};
@@ -49,6 +50,7 @@ pub(crate) struct Place<A: Allocator> {
 }
 
 impl<A: Allocator> Place<A> {
+    ghost use Rattle.stun_auth.specs.Forgetting.{is_forgotten};
     ghost use Rattle.stun_auth.specs.Seen.{renewed};
     ghost use Rattle.stun_auth.specs.Places.{with_offer};
     ghost use Rattle.stun_auth.specs.code.Places.{place_seen, client_seen};
@@ -73,6 +75,13 @@ impl<A: Allocator> Place<A> {
             Some(client) => client.algorithm == algorithm && client.name.as_str() == name,
             None => false,
         }
+    }
+
+    /// Whether nothing of it is worth keeping at a moment: it has no client, and its nonce ended before.
+    fn is_forgotten(&self, now: Instant) -> bool
+        ensures { result ≡ is_forgotten now (place_seen self.now) }
+    {
+        self.client.is_none() && self.expires < now
     }
 
     /// Keeps what was offered, where no client is known.
@@ -146,6 +155,13 @@ impl<A: Allocator + Copy> Places<A> {
             }
             None => return,
         }
+    }
+
+    /// Forgets each place without a client whose nonce ended before a moment.
+    pub(crate) fn forget_expired(&mut self, now: Instant)
+        ensures { self.new ≡ places_kept now self.old }
+    {
+        self.by_address.retain(|_, place| !place.is_forgotten(now));
     }
 
     /// Keeps what was offered to an address that has a nonce and no client.

@@ -6,6 +6,7 @@ ghost use Rattle.std.specs.Option.{option_copied, option_map};
 ghost use Rattle.std.specs.FinMap as map;
 ghost use Rattle.std.specs.String.{string_bytes};
 ghost use Rattle.stun_auth.specs.Algorithms.{listed, only, with_algorithm};
+ghost use Rattle.stun_auth.specs.Forgetting.{after_forgetting};
 ghost use Rattle.stun_auth.specs.Seen.{PlaceSeen};
 ghost use Rattle.stun_auth.specs.Places.{with_change, with_client};
 ghost use Rattle.stun_auth.specs.Registered.{with_user, without_user};
@@ -22,6 +23,7 @@ use std::net::SocketAddr;
 use std::time::Duration;
 use stun_base::algorithm::IntegrityAlgorithm;
 use stun_base::credentials::LongTermCredentials;
+use stun_base::instant::Instant;
 
 mod signing;
 mod validation;
@@ -44,9 +46,10 @@ pub fn minimum_nonce_expiry_duration() -> Duration
 /// Contracts see the realm, the supported algorithms, the users' passwords by name, the settings, and the place of each
 /// address: its nonce with the nonce's end, the algorithms that were offered, and the client.
 ///
-/// The place of an address stays until the server is dropped. Each request or indication from a new address makes one,
-/// unless it has integrity and lacks REALM, NONCE or a name (none of these need be right), so whoever can send from many
-/// addresses makes the server grow. `Debug` shows nothing of what it holds.
+/// Each request or indication from a new address makes a place, unless it has integrity and lacks REALM, NONCE or a name
+/// (none of these need be right), so whoever can send from many addresses makes the server grow. A place stays until
+/// `forget_expired` is called after its nonce's end while it has no client, or the server is dropped. `Debug` shows nothing of
+/// what it holds.
 #[derive(Drop)]
 pub struct LongTermServerAuth<A: Allocator = Global> {
     alloc: A,
@@ -169,6 +172,18 @@ impl<A: Allocator + Copy> LongTermServerAuth<A> {
         ensures { self.new ≡ record self.old { places = with_change self.old.places address (with_client None) } }
     {
         self.places.set_client(address, None);
+    }
+
+    /// Forgets each address without a client whose nonce's end is before `now`: its nonce, the nonce's end and the algorithms
+    /// that were offered to it are gone, and what was kept for them is freed. Other addresses stay as they are.
+    ///
+    /// It does not allocate. It walks the records once, so call it now and then, as once in the time that a nonce is current,
+    /// and not at each message. A forgotten address is met as a new one: what comes with a nonce that was made before is
+    /// refused, and its sender is challenged anew.
+    pub fn forget_expired(&mut self, now: Instant)
+        ensures { self.new ≡ after_forgetting self.old now }
+    {
+        self.places.forget_expired(now);
     }
 
     /// Sets how long nonces stand that are made from here on: at least `minimum_nonce_expiry_duration()`, which is 30 seconds.

@@ -1,0 +1,25 @@
+-- When what is kept for an address is forgotten.
+use Rattle.std.specs.Prelude.{ℕ, nat_lt, Bool, ◌&&◌, if◌then◌else◌, Option, Some, None}
+use Rattle.std.specs.Option.{is_none, is_some}
+use Rattle.std.specs.FinMap as map
+use Rattle.std.specs.declared.net.socket_addr.SocketAddr.{SocketAddr}
+use Rattle.stun_base.specs.Address.{address_cmp}
+use Rattle.stun_auth.specs.Seen.{PlaceSeen}
+use Rattle.stun_auth.specs.Validation.{ServerSeen}
+
+-- whether a place is forgotten at a moment: it has no client, and its nonce ended before
+abbrev pub is_forgotten : ℕ → PlaceSeen → Bool
+is_forgotten now place = is_none place.client && nat_lt place.expires now
+
+-- what an address's place becomes: a forgotten one is gone whole, its offered algorithms with it, and any other stays
+abbrev pub place_kept : ℕ → Option PlaceSeen → Option PlaceSeen
+place_kept now None = None
+place_kept now (Some place) = if is_forgotten now place then None else Some place
+
+-- the places that are kept at a moment
+abbrev pub places_kept : ℕ → map.FinMap address_cmp PlaceSeen → map.FinMap address_cmp PlaceSeen
+places_kept now places = map.retain_keys places (λ address. is_some (place_kept now (map.get places address)))
+
+-- the server that is left
+abbrev pub after_forgetting : ServerSeen → ℕ → ServerSeen
+after_forgetting s now = record s { places = places_kept now s.places }

@@ -8,6 +8,7 @@ pub mod Chosen
 pub mod DrawnWords
 pub mod DriveLemmas
 pub mod EntryLemmas
+pub mod Existence
 pub mod Hashes
 pub mod Heard
 pub mod IsolationLemmas

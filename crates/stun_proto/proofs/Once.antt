@@ -28,9 +28,8 @@ use Rattle.stun_agent.proofs.LookupLemmas.{lookup-map, at-without}
 use Rattle.stun_proto.specs.declared.replay.event.AgentEvent.{AgentEvent}
 use Rattle.stun_proto.specs.declared.replay.event.AgentEvent.TheVariants.{Send, SendRequest, Receive, Cancel, CancelRetransmissions, Configure, ValidatePeer}
 use Rattle.stun_proto.specs.Headline.{IsAskedOnce, SendsByPlan}
-use Rattle.stun_proto.specs.Plan.{plan, end, cut}
 use Rattle.stun_proto.specs.Run.{Phase, Turn, sends, rests, ends, again, stops, sending, Turns, turn, none, Run, IsDriven, done, event, transmitted, ended, after_change, after_event, steps_of_event}
-use Rattle.stun_proto.specs.Schedule.{Asks, AreInOrder, IsUndisturbed}
+use Rattle.stun_proto.specs.Schedule.{Asks, AreInOrder, IsUndisturbed, plan, end, cut}
 use Rattle.stun_proto.specs.Steps.{Step, Transmitted, Sent, Received, Refused, TimedOut, Cancelled, is_of, own}
 use Rattle.stun_proto.proofs.AfterCalls.{transmit_transport, transmit_transactions, poll_transport, poll_transactions}
 use Rattle.stun_proto.proofs.Ascending.{IsAscending-map, IsAscending-remove, lookup-remove_other, lookup-set_other, lookup-insert_other}

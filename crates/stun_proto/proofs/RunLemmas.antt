@@ -19,7 +19,8 @@ use Rattle.stun_agent.specs.declared.error.StunError.{StunError}
 use Rattle.stun_proto.specs.declared.replay.event.AgentEvent.{AgentEvent}
 use Rattle.stun_proto.specs.declared.replay.event.AgentEvent.TheVariants.{Send, SendRequest, Receive, Cancel, CancelRetransmissions, Configure, ValidatePeer}
 use Rattle.stun_proto.specs.Run.{transmitted, ended, IsNext, Phase, sending, Turn, sends, rests, ends, again, stops, Turns, turn, none, Run, done, event, after_change, after_event, steps_of_event}
-use Rattle.stun_proto.specs.Schedule.{AreInOrder, KeepPlans, IsDetermined}
+use Rattle.stun_proto.specs.RunLaws.{GoesByPlan, KeepPlans, IsDetermined, IsDeterminedThroughout}
+use Rattle.stun_proto.specs.Schedule.{AreInOrder}
 use Rattle.stun_proto.specs.Steps.{Step, Transmitted, Refused, own}
 use Rattle.stun_proto.proofs.AfterCalls.{transmit_transactions, poll_transactions}
 use Rattle.stun_proto.proofs.Ascending.{IsAscending-map, IsAscending-remove, IsAscending-set_value, IsAscending-insert}
@@ -127,30 +128,6 @@ pub in_order_then : (until from : ℕ) (earlier later : List (ℕ × AgentEvent)
 in_order_then until from [] later e order = (order.1, order.2)
 in_order_then until from (x ∷ xs) later e order = in_order_then until x.0 xs later e order.2
 
--- ---- each request of a run keeps its plan
-pub keep_plans : (until : ℕ) (a b : Agent) (events : List (ℕ × AgentEvent)) (steps : List Step) → until ≤ last_moment → IsAscending a.transactions → AreInOrder until 0 events
-    → Run (until + 1) 0 a events steps b → KeepPlans until a events steps
-keep_plans until a b events steps within ascends order r earlier later start bytes to is =
-    let e = SendRequest bytes to in
-    let id = transaction_id_field bytes.items in
-    let found = comes_to start e earlier later (subst (λ es. Run (until + 1) 0 a es steps b) is r) in
-    let after = in_order_then until 0 earlier later (start, e) (subst (AreInOrder until 0) is order) in
-    record {
-      agent = found.agent;
-      before = found.before;
-      after = steps_of_event start e found.agent ++ (found.at_once ++ found.rest);
-      divided = found.divided;
-      comes = found.comes;
-      keeps = λ accepted quiet.
-          let own_step : steps_of_event start e found.agent ≡ Transmitted start id to bytes.items ∷ [] =
-          ap (λ (o : Option StunError). option_map_or (λ error. Refused start error) o (Transmitted start id to bytes.items) ∷ []) accepted in
-          let added : after_event start e found.agent ≡ after_send_request found.agent bytes.items to start =
-          ap (λ (o : Option StunError). option_map_or (λ _. found.agent) o (after_send_request found.agent bytes.items to start)) accepted in
-          ap (λ ss. own id (ss ++ (found.at_once ++ found.rest))) own_step
-          ∙ keeps_plan until start bytes.items to found.agent found.next b later found.at_once found.rest after.0 within
-          (run_ascends found.comes ascends) accepted (subst (λ x. Turn start sending x found.at_once found.next) added found.turned) found.goes_on after.1 quiet;
-    }
-
 -- ---- there is one run
 same_found : (e d : ℕ × Transaction) (o : Option (ℕ × Transaction)) → o ≡ Some e → o ≡ Some d → e ≡ d
 same_found e d o f g = ap (λ p. option_map_or (λ x. x) p e) (sym f ∙ g)
@@ -203,3 +180,34 @@ run_same {bound} {c = d} (event {b = b} {rest = left} {before = before} m e ts t
 pub driven_same : IsDetermined
 driven_same until a b c [] steps more (none_done, same) (none_done', same') = (none_done ∙ sym none_done', same ∙ sym same')
 driven_same until a b c (e ∷ es) steps more r q = run_same r q
+
+pub run_determined : IsDeterminedThroughout
+run_determined bound from a b c events steps more r q = run_same r q
+
+-- ---- each request of a run keeps its plan
+pub keep_plans : (until : ℕ) (a b : Agent) (events : List (ℕ × AgentEvent)) (steps : List Step) → until ≤ last_moment → IsAscending a.transactions → AreInOrder until 0 events
+    → Run (until + 1) 0 a events steps b → KeepPlans until a events steps
+keep_plans until a b events steps within ascends order r earlier later start bytes to is =
+    let e = SendRequest bytes to in
+    let id = transaction_id_field bytes.items in
+    let found = comes_to start e earlier later (subst (λ es. Run (until + 1) 0 a es steps b) is r) in
+    let after = in_order_then until 0 earlier later (start, e) (subst (AreInOrder until 0) is order) in
+    let here : GoesByPlan until found.agent later start bytes.items to found.before steps =
+    record {
+      after = steps_of_event start e found.agent ++ (found.at_once ++ found.rest);
+      divided = found.divided;
+      keeps = λ accepted quiet.
+          let own_step : steps_of_event start e found.agent ≡ Transmitted start id to bytes.items ∷ [] =
+          ap (λ (o : Option StunError). option_map_or (λ error. Refused start error) o (Transmitted start id to bytes.items) ∷ []) accepted in
+          let added : after_event start e found.agent ≡ after_send_request found.agent bytes.items to start =
+          ap (λ (o : Option StunError). option_map_or (λ _. found.agent) o (after_send_request found.agent bytes.items to start)) accepted in
+          ap (λ ss. own id (ss ++ (found.at_once ++ found.rest))) own_step
+          ∙ keeps_plan until start bytes.items to found.agent found.next b later found.at_once found.rest after.0 within
+          (run_ascends found.comes ascends) accepted (subst (λ x. Turn start sending x found.at_once found.next) added found.turned) found.goes_on after.1 quiet;
+    } in
+    record {
+      comes = (found.agent, found.before, found.comes);
+      goes_on = λ agent before r.
+          let same = run_same found.comes r in
+          subst (λ ss. GoesByPlan until agent later start bytes.items to ss steps) same.0 (subst (λ x. GoesByPlan until x later start bytes.items to found.before steps) same.1 here);
+    }

@@ -30,9 +30,8 @@ use Rattle.stun_agent.specs.declared.error.StunError.TheVariants.{AlreadyInProgr
 use Rattle.stun_agent.specs.declared.transaction.Sending.TheVariants.{Repeats}
 use Rattle.stun_proto.specs.declared.replay.event.AgentEvent.{AgentEvent}
 use Rattle.stun_proto.specs.declared.replay.event.AgentEvent.TheVariants.{Send, SendRequest, Receive, Cancel, CancelRetransmissions, Configure, ValidatePeer}
-use Rattle.stun_proto.specs.Plan.{plan, transmission, end, cut}
 use Rattle.stun_proto.specs.Run.{Run, done, event, Turns, turn, none, IsAwaited, Turn, sends, rests, ends, again, stops, Phase, sending, ending, transmitted, ended, after_change, after_event, steps_of_event}
-use Rattle.stun_proto.specs.Schedule.{IsUndisturbed, AreInOrder, IsAimedAt}
+use Rattle.stun_proto.specs.Schedule.{IsUndisturbed, AreInOrder, IsAimedAt, plan, transmission, end, cut}
 use Rattle.stun_proto.specs.Steps.{Step, Transmitted, Sent, Received, Refused, TimedOut, Cancelled, own}
 use Rattle.stun_proto.proofs.AfterCalls.{transmit_transport, transmit_transactions, poll_transport, poll_transactions}
 use Rattle.stun_proto.proofs.Ascending.{IsAscending-map, IsAscending-remove, IsAscending-set_value, IsAscending-insert, lookup-remove_other, lookup-set_other, lookup-insert_other, lookup-insert_same, fold-min-le}

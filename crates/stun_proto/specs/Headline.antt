@@ -31,8 +31,7 @@ use Rattle.stun_proto.specs.Best.{HashIsRefused, IsShared, IsStrongestShared}
 use Rattle.stun_proto.specs.Honest.{IsReady}
 use Rattle.stun_proto.specs.Isolation.{IsIsolated}
 use Rattle.stun_proto.specs.Negotiation.{Meeting}
-use Rattle.stun_proto.specs.Plan.{plan, end, cut}
-use Rattle.stun_proto.specs.Schedule.{Asks, IsUndisturbed}
+use Rattle.stun_proto.specs.Schedule.{Asks, IsUndisturbed, plan, end, cut}
 use Rattle.stun_proto.specs.Serving.{Reply}
 use Rattle.stun_proto.specs.Steps.{Step, is_of}
 
@@ -104,6 +103,6 @@ SendsByPlan until a events steps =
 -- an address's own calls, and what they leave      own, sight_over                       Isolation.antt
 -- strongest that both support                      IsStrongestShared                     Best.antt
 -- ready                                            IsReady                               Honest.antt
--- plan, prefix sums, end                           plan, transmission, end               Plan.antt
+-- plan, prefix sums, end                           plan, transmission, end               Schedule.antt
 -- timeouts, slots                                  timeout, sum_of_timeouts, slots       stun_agent/specs/Timing.antt
 -- undisturbed, asks                                IsUndisturbed, IsAimedAt, Asks        Schedule.antt

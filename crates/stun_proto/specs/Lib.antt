@@ -26,14 +26,16 @@ pub mod Sides
 pub mod Matching
 -- a nonce that has expired, and the one that takes its place (sections 9.2.4 and 9.2.6)
 pub mod Renewal
--- sentence 3: the plan of a request that nothing disturbs (sections 6.2.1 and 6.2.2)
-pub mod Plan
--- sentence 3: which events disturb a request, and what the others leave
+-- sentence 3: the plan of a request, and what disturbs it (sections 6.2.1 and 6.2.2)
 pub mod Schedule
 -- the steps of a driven agent: moments, ids and bytes
 pub mod Steps
 -- a driven run: which calls are made of an agent, when, and what they answer
 pub mod Run
+-- one request and its plan, spelled out
+pub mod Examples
+-- what holds of all runs: each list of events has one and no other, and each request keeps its plan
+pub mod RunLaws
 -- a run that is broken off
 pub mod Begun
 -- words that are handed in, as a source of random words

@@ -1,19 +1,38 @@
--- The schedule of a request in a driven run: its steps are those of its plan, whatever other requests do
--- (RFC 8489, section 6.2.1).
-use Rattle.std.specs.Prelude.{ℕ, ◌≡◌, ◌≤◌, List, [], ◌∷◌, ◌++◌, None}
-use Rattle.std.specs.List.{AllByRecursion}
+-- The schedule of a request: the plan that it keeps if nothing disturbs it, and what disturbs it (RFC 8489, sections 6.2.1 and 6.2.2).
+use Rattle.std.specs.Prelude.{ℕ, ◌≡◌, ◌+◌, ◌≤◌, nat_le, List, [], ◌∷◌, ◌++◌, map, filter, None}
+use Rattle.std.specs.List.{AllByRecursion, range_with_len}
 use Rattle.std.specs.declared.net.socket_addr.SocketAddr.{SocketAddr}
 use Rattle.stun_base.specs.Header.{transaction_id_field}
 use Rattle.stun_base.specs.MessageType.{IsResponse}
+use Rattle.stun_base.specs.Moments.{moment_after}
+use Rattle.stun_base.specs.declared.transport.TransportType.{TransportType}
 use Rattle.stun_types.specs.Message.{refusal}
-use Rattle.stun_agent.specs.Agent.{Agent, class_of_bytes, request_refusal}
+use Rattle.stun_agent.specs.Agent.{class_of_bytes}
+use Rattle.stun_agent.specs.Timing.{Settings, sum_of_timeouts, slots, final_wait}
 use Rattle.stun_proto.specs.declared.replay.event.AgentEvent.{AgentEvent}
 use Rattle.stun_proto.specs.declared.replay.event.AgentEvent.TheVariants.{Send, SendRequest, Receive, Cancel, CancelRetransmissions, Configure, ValidatePeer}
-use Rattle.stun_proto.specs.Plan.{plan, end, cut}
-use Rattle.stun_proto.specs.Run.{Run, IsDriven}
-use Rattle.stun_proto.specs.Steps.{Step, own}
-use Rattle.std.specs.Global.{Vec}
+use Rattle.stun_proto.specs.Steps.{Step, Transmitted, TimedOut, moment_of}
 
+-- ---- the plan
+-- the moment of transmission k, counted from 0: the timeouts before it have passed since the first moment
+abbrev pub transmission : ℕ → Settings → ℕ → ℕ
+transmission start settings k = moment_after start (sum_of_timeouts settings k)
+
+-- the moment of the end: all timeouts, and the final wait
+abbrev pub end : ℕ → Settings → TransportType → ℕ
+end start settings transport = moment_after start (sum_of_timeouts settings (slots transport settings) + final_wait transport settings)
+
+-- a request that is first sent at `start`: a transmission at the start and at the end of each timeout, then the end
+abbrev pub plan : TransportType → ℕ → Settings → ℕ → SocketAddr → List ℕ → List Step
+plan transport start settings id to bytes =
+    map (λ k. Transmitted (transmission start settings k) id to bytes) (range_with_len 0 (slots transport settings + 1))
+    ++ TimedOut (end start settings transport) id ∷ []
+
+-- the steps up to a moment
+abbrev pub cut : ℕ → List Step → List Step
+cut until steps = filter (λ s. nat_le (moment_of s) until) steps
+
+-- ---- what disturbs it
 -- the event asks the agent to send a request of this id
 abbrev pub Asks : ℕ → AgentEvent → Type 0
 Asks id (Send bytes to) = ⊥
@@ -43,26 +62,3 @@ IsUndisturbed id last events = AllByRecursion (λ e. e.0 ≤ last → IsAimedAt 
 abbrev pub AreInOrder : ℕ → ℕ → List (ℕ × AgentEvent) → Type 0
 AreInOrder until from [] = Unit {0}
 AreInOrder until from (e ∷ es) = (from ≤ e.0) × (e.0 ≤ until) × AreInOrder until e.0 es
-
--- a request of a run: the agent that it comes to, and the steps before it and from it on. If it is accepted, and nothing
--- disturbs it, then from there on the steps of its transaction are those of its plan, as far as the run goes
-pub record KeepsItsPlan (until : ℕ) (a : Agent) (earlier later : List (ℕ × AgentEvent)) (start : ℕ) (bytes : List ℕ) (to : SocketAddr) (steps : List Step) : Type 0 where
-  pub agent : Agent
-  pub before : List Step
-  pub after : List Step
-  pub divided : steps ≡ before ++ after
-  pub comes : Run start 0 a earlier before agent
-  pub keeps : request_refusal agent bytes ≡ None
-      → IsUndisturbed (transaction_id_field bytes) (end start agent.settings agent.transport) later
-      → own (transaction_id_field bytes) after ≡ cut until (plan agent.transport start agent.settings (transaction_id_field bytes) to bytes)
-
--- and so does each request of a run, wherever it stands among the events
-abbrev pub KeepPlans : ℕ → Agent → List (ℕ × AgentEvent) → List Step → Type 0
-KeepPlans until a events steps =
-    (earlier later : List (ℕ × AgentEvent)) (start : ℕ) (bytes : Vec ℕ) (to : SocketAddr)
-    → events ≡ earlier ++ (start, SendRequest bytes to) ∷ later → KeepsItsPlan until a earlier later start bytes.items to steps
-
--- events have one run: its steps and the agent after it are determined
-abbrev pub IsDetermined : Type 0
-IsDetermined = (until : ℕ) (a b c : Agent) (events : List (ℕ × AgentEvent)) (steps more : List Step) → IsDriven until a events steps b → IsDriven until a events more c
-    → (steps ≡ more) × (b ≡ c)

@@ -1,23 +1,35 @@
 //! Laws of runs: what holds of the definitions alone, and what equalities are.
-ghost use Rattle.std.specs.Prelude.{◌≡◌, ◌≤◌, ◌↔◌, IsTrue, List, ℕ};
+ghost use Rattle.std.specs.Prelude.{◌≡◌, ◌≤◌, ◌↔◌, IsTrue, List, [], ℕ};
+ghost use Rattle.std.specs.declared.net.socket_addr.SocketAddr.{SocketAddr as Address};
 ghost use Rattle.stun_base.specs.Moments.{last_moment};
-ghost use Rattle.stun_agent.specs.Agent.{Agent};
+ghost use Rattle.stun_base.specs.declared.transport.TransportType.{TransportType as Transport};
+ghost use Rattle.stun_base.specs.declared.transport.TransportType.TheVariants.{Udp, Tcp};
+ghost use Rattle.stun_agent.specs.Agent.{Agent, new_agent};
+ghost use Rattle.stun_agent.specs.Timing.{default_settings};
 ghost use Rattle.stun_agent.specs.Transactions.{IsAscending};
 ghost use Rattle.stun_auth.specs.Reading.{Reading};
 ghost use Rattle.stun_auth.specs.Server.{Sight};
 ghost use Rattle.stun_auth.specs.Validation.{answer};
 ghost use Rattle.stun_proto.specs.Best.{BestIsStrongest};
-ghost use Rattle.stun_proto.specs.Headline.{SendsByPlan, ValidatesOneCall};
+ghost use Rattle.stun_proto.specs.Examples.{binding_request, udp_steps, tcp_steps};
+ghost use Rattle.stun_proto.specs.Headline.{IsAskedOnce, SendsByPlan, ValidatesOneCall};
 ghost use Rattle.stun_proto.specs.Run.{IsDriven};
-ghost use Rattle.stun_proto.specs.Schedule.{AreInOrder, IsDetermined};
+ghost use Rattle.stun_proto.specs.RunLaws.{EventsHaveRuns, IsDetermined, IsDeterminedThroughout};
+ghost use Rattle.stun_proto.specs.Schedule.{AreInOrder, plan};
 ghost use Rattle.stun_proto.specs.Steps.{Step};
 ghost use Rattle.stun_proto.specs.declared.replay.event.AgentEvent.{AgentEvent as TheEvent};
 
 use crate::replay::{NegotiateError, Outcome, Stopped, WordSource};
 
-/// Events have one run: its steps and the agent after it are determined.
+/// Events have one run at most: its steps and the agent after it are determined, up to every moment, and from every moment on.
 pub fn runs_are_determined()
-    ensures { IsDetermined }
+    ensures driven { IsDetermined }
+    ensures throughout { IsDeterminedThroughout }
+{}
+
+/// Each list of events whose moments do not go back has a run.
+pub fn events_have_runs()
+    ensures { EventsHaveRuns }
 {}
 
 /// Whoever drives an agent in this way, a request that is asked once and is undisturbed is sent by its plan, and times out once.
@@ -25,6 +37,15 @@ pub fn runs_send_by_plan()
     ensures { (until : ℕ) (a b : Agent) (events : List (ℕ × TheEvent)) (steps : List Step)
         → until ≤ last_moment → IsAscending a.transactions → AreInOrder until 0 events
         → IsDriven until a events steps b → SendsByPlan until a events steps }
+{}
+
+/// The plan of one request, spelled out. With the default settings, over UDP: a transmission at 0, 500, 1500, 3500, 7500, 15500 and
+/// 31500 ms, and its time-out at 39500 ms. Over TCP: one transmission, and the time-out at the same moment (RFC 8489, sections
+/// 6.2.1 and 6.2.2). A new agent that is asked this request and nothing else meets the premise of `runs_send_by_plan`.
+pub fn plan_of_a_request()
+    ensures udp { (to : Address) → plan Udp 0 default_settings 7 to binding_request ≡ udp_steps to }
+    ensures tcp { (to : Address) → plan Tcp 0 default_settings 7 to binding_request ≡ tcp_steps to }
+    ensures asked { (transport : Transport) (here : Address) → IsAskedOnce (new_agent transport here) 7 0 binding_request [] [] }
 {}
 
 /// The answer to one request or indication is `Validated` if and only if the message is accepted (RFC 8489, section 9.2.4).

@@ -4,7 +4,8 @@ ghost use Rattle.stun_proto.specs.Begun.{TurnsBegin, EventBegins, HasBegun};
 ghost use Rattle.stun_proto.specs.code.Calls.{HasPassed, TakesTurns, TakesWhole};
 ghost use Rattle.stun_proto.specs.Headline.{SendsByPlan};
 ghost use Rattle.stun_proto.specs.Run.{IsDriven};
-ghost use Rattle.stun_proto.specs.Schedule.{AreInOrder, KeepPlans};
+ghost use Rattle.stun_proto.specs.RunLaws.{KeepPlans};
+ghost use Rattle.stun_proto.specs.Schedule.{AreInOrder};
 ghost use Rattle.stun_proto.specs.Steps.{steps_of};
 
 use crate::replay::apply::apply;

@@ -1,5 +1,8 @@
-use Rattle.stun_proto.proofs.RunLemmas.{driven_same}
+use Rattle.stun_proto.proofs.RunLemmas.{driven_same, run_determined}
 use Rattle.stun_proto.proofs.laws.runs_are_determined.Goals as goal
 
-pub returns : goal.returns
-returns c = driven_same
+pub returns-clause-driven : goal.returns-clause-driven
+returns-clause-driven c = driven_same
+
+pub returns-clause-throughout : goal.returns-clause-throughout
+returns-clause-throughout c = run_determined

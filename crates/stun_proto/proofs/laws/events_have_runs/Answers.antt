@@ -1,0 +1,5 @@
+use Rattle.stun_proto.proofs.Existence.{events_have_runs}
+use Rattle.stun_proto.proofs.laws.events_have_runs.Goals as goal
+
+pub returns : goal.returns
+returns c = events_have_runs

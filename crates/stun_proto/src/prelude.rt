@@ -1,4 +1,1 @@
-//! The traits of attributes and of writers.
-pub use stun_types::prelude::{
-    Attribute, AttributeFromRaw, AttributeStaticType, MessageWrite, MessageWriteExt,
-};
+//! Empty, as in the Rust crate: the traits of attributes and of writers stand in `types::prelude`.

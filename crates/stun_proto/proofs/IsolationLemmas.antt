@@ -161,7 +161,7 @@ own_reply a (Call.SetExpiry expiry) s t h alike = refl
 -- ---- a list of calls
 
 -- the replies to an address are those of a run over its own calls alone, from any server that looks the same to it
-isolated_from : (a : SocketAddr) (calls : List ServerCall) (s t : ServerSeen) → sight s a ≡ sight t a → own_replies a calls (replies s calls) ≡ replies t (own a calls)
+pub isolated_from : (a : SocketAddr) (calls : List ServerCall) (s t : ServerSeen) → sight s a ≡ sight t a → own_replies a calls (replies s calls) ≡ replies t (own a calls)
 isolated_from a [] s t alike = refl
 isolated_from a (call ∷ calls) s t alike =
     elim (concerns a call) as (λ b. concerns a call ≡ b → cond b (reply s call ∷ own_replies a calls (replies (after_call s call) calls)) (own_replies a calls (replies (after_call s call) calls)) ≡ replies t (cond b (call ∷ own a calls) (own a calls))) [

@@ -25,6 +25,7 @@ pub mod RunLemmas
 pub mod Runs
 pub mod ScheduleLaw
 pub mod ServedCalls
+pub mod ShardsLemmas
 pub mod Sights
 pub mod Signed
 pub mod SignedRuns

@@ -26,11 +26,11 @@ use Rattle.stun_proto.specs.declared.replay.negotiation.NegotiateError.{Negotiat
 use Rattle.stun_proto.specs.declared.replay.negotiation.NegotiateError.TheVariants.{Memory}
 use Rattle.stun_proto.specs.declared.replay.negotiation.Outcome.{Outcome}
 use Rattle.stun_proto.specs.declared.replay.negotiation.Outcome.TheVariants.{Validated, ClientRefused}
-use Rattle.stun_proto.specs.Accepting as each
 use Rattle.stun_proto.specs.Best.{HashIsRefused, IsShared, IsStrongestShared}
 use Rattle.stun_proto.specs.Honest.{IsReady}
-use Rattle.stun_proto.specs.Isolation.{IsIsolated}
+use Rattle.stun_proto.specs.Isolation.{IsolatedBy}
 use Rattle.stun_proto.specs.Negotiation.{Meeting}
+use Rattle.stun_proto.specs.Replies.{Reads, ValidatesByReplies}
 use Rattle.stun_proto.specs.Schedule.{Asks, IsUndisturbed, plan, end, cut}
 use Rattle.stun_proto.specs.Serving.{Reply}
 use Rattle.stun_proto.specs.Steps.{Step, is_of}
@@ -43,12 +43,15 @@ use Rattle.stun_proto.specs.Steps.{Step, is_of}
 abbrev pub ValidatesOneCall : Sight → ℕ → List ℕ → Reading → Answer → Type 0
 ValidatesOneCall = one.ValidatesAccepted
 
--- Every list of calls: `serve`, clause `headline`
-pub record ValidatesEachCall (start : ServerSeen) (calls : List ServerCall) (given : List Reply) : Type 0 where
-  -- at each index the same, at the nonce that the earlier calls of the same address have left
-  pub accepted : each.ValidatesAccepted start calls given
+-- Every list of calls: `serve`, clause `headline`, at what messages say (`message_read`) and at this server's run (`replies`). The
+-- sentence holds whatever the replies are made of
+pub record ValidatesEachCall (read : Reads) (run : ServerSeen → List ServerCall → List Reply) (start : ServerSeen) (calls : List ServerCall) (given : List Reply) : Type 0 where
+  -- the replies are those of the run
+  pub replied : given ≡ run start calls
+  -- at each index the same as of one call, at the nonce that the earlier calls of the same address, and the replies to them, have left
+  pub validated : ValidatesByReplies read start calls given
   -- whatever other addresses do: the replies to an address are those of the run of its own calls and of those on users and settings
-  pub isolated : IsIsolated start calls given
+  pub isolated : IsolatedBy run start calls given
 
 -- ---- 2. The client (sections 9.2.3 to 9.2.6)
 
@@ -100,7 +103,8 @@ SendsByPlan until a events steps =
 -- ---- Where the words are
 -- realm, current nonce, algorithms, user, digest   IsAccepted, standing, agreed, named   stun_auth/specs/Server.antt
 -- what a message says; whose digest it is          reading_of, stands_under              stun_auth/specs/Reading.antt
--- an address's own calls, and what they leave      own, sight_over                       Isolation.antt
+-- an address's own calls                           concerns, own                         Isolation.antt
+-- what they leave, by the replies to them          sight_by_replies                      Replies.antt
 -- strongest that both support                      IsStrongestShared                     Best.antt
 -- ready                                            IsReady                               Honest.antt
 -- plan, prefix sums, end                           plan, transmission, end               Schedule.antt

@@ -71,6 +71,10 @@ abbrev pub sight_over : Sight → List ServerCall → Sight
 sight_over s [] = s
 sight_over s (call ∷ calls) = sight_over (sight_after s call) calls
 
--- the replies to each address are those of the run over its own calls alone, from the same start
+-- the replies to each address are those of the run over its own calls alone, from the same start: whatever the run is
+abbrev pub IsolatedBy : (ServerSeen → List ServerCall → List Reply) → ServerSeen → List ServerCall → List Reply → Type 0
+IsolatedBy run start calls given = (a : SocketAddr) → own_replies a calls given ≡ run start (own a calls)
+
+-- the run of this library's server
 abbrev pub IsIsolated : ServerSeen → List ServerCall → List Reply → Type 0
-IsIsolated start calls given = (a : SocketAddr) → own_replies a calls given ≡ replies start (own a calls)
+IsIsolated = IsolatedBy replies

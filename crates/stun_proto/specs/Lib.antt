@@ -8,6 +8,8 @@ pub mod Replies
 pub mod Accepting
 -- sentence 1: whatever other addresses do
 pub mod Isolation
+-- addresses that are dealt out to several servers
+pub mod Shards
 -- what a server answers to a list of calls (RFC 8489, section 9.2.4)
 pub mod Serving
 -- what signing a message for an address comes to

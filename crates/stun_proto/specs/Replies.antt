@@ -1,5 +1,5 @@
--- What one address can tell of a run by its own calls and the replies to them, so that a reader need not know when a signing
--- succeeds.
+-- What one address can tell of a run by its own calls and the replies to them: so a reader need not know when a signing succeeds,
+-- nor why a message is refused.
 use Rattle.std.specs.Prelude.{◌≡◌, ◌↔◌, ℕ, List, [], ◌∷◌, take, slice_get, Bool, true, false, if◌then◌else◌, Option, None, Some}
 use Rattle.std.specs.Option.{option_map, option_map_or}
 use Rattle.std.specs.declared.net.socket_addr.SocketAddr.{SocketAddr}
@@ -7,17 +7,35 @@ use Rattle.std.specs.declared.vec.Vec.{Vec}
 use Rattle.std.specs.declared.alloc.Global.{Global}
 use Rattle.stun_base.specs.Credentials.{NameAndPassword}
 use Rattle.stun_base.specs.declared.algorithm.IntegrityAlgorithm.{IntegrityAlgorithm}
+use Rattle.stun_base.specs.declared.error.StunParseError.{StunParseError}
 use Rattle.stun_types.specs.Message.{refusal}
 use Rattle.stun_auth.specs.Places.{with_client}
-use Rattle.stun_auth.specs.Reading.{Reading, class_in, is_response, reading_of}
+use Rattle.stun_auth.specs.Reading.{Reading, is_response, reading_of}
 use Rattle.stun_auth.specs.Seen.{PlaceSeen}
 use Rattle.stun_auth.specs.Server.{Sight, named, standing}
 use Rattle.stun_auth.specs.Validation.{AcceptedWith, ServerSeen, needs_nonce, sight}
 use Rattle.stun_proto.specs.declared.replay.call.ServerCall.{ServerCall}
 use Rattle.stun_proto.specs.declared.replay.call.ServerCall.TheVariants as Call
-use Rattle.stun_proto.specs.Isolation.{concerns, place_unless}
+use Rattle.stun_proto.specs.Isolation.{concerns}
 use Rattle.stun_proto.specs.Serving.{Reply, NotAMessage, Validated, Refused, Signed, SignRefused, Done, TooShort, expiry_after, feature_after, registered_after}
 use Rattle.stun_proto.specs.Signing.{place_offered}
+
+-- ---- what bytes say
+
+-- what bytes say, where they are a message. The definitions below take it as an argument: they hang on what is read of a message, and
+-- not on how it is read of its bytes
+abbrev pub Reads : Type 0
+Reads = List ℕ → Option Reading
+
+abbrev pub read_unless : Option StunParseError → Reading → Option Reading
+read_unless (Some error) r = None
+read_unless None r = Some r
+
+-- how this library reads
+abbrev pub message_read : Reads
+message_read bytes = read_unless (refusal bytes) (reading_of bytes)
+
+-- ---- what replies say
 
 -- whether a message was signed
 abbrev pub is_signed : Reply → Bool
@@ -45,42 +63,50 @@ abbrev pub place_by_answer : Sight → ℕ → List ℕ → Reading → Reply �
 place_by_answer s now words m r =
     if needs_nonce m then Some (client_by_reply (standing s now words) (named s.registered s.feature m) r) else s.place
 
+-- the same, where the bytes are a message
+abbrev pub place_by_message : Sight → ℕ → List ℕ → Option Reading → Reply → Option PlaceSeen
+place_by_message s now words None r = s.place
+place_by_message s now words (Some m) r = place_by_answer s now words m r
+
+-- the place after a message that was signed: what a response offered is kept
+abbrev pub place_by_signing : Sight → Option Reading → Option PlaceSeen
+place_by_signing s None = s.place
+place_by_signing s (Some m) = place_offered s (is_response m.class)
+
 -- what a call of its own makes of an address's place: a message that needs a nonce, a response that was signed, and the call that
 -- forgets the client
-abbrev pub place_by_reply : Sight → ServerCall → Reply → Option PlaceSeen
-place_by_reply s (Call.Validate from now message words) r =
-    place_unless (refusal message.items) s.place (place_by_answer s now words (reading_of message.items) r)
-place_by_reply s (Call.Sign to message) r = if is_signed r then place_offered s (is_response (class_in message.items)) else s.place
-place_by_reply s (Call.AddUser name password) r = s.place
-place_by_reply s (Call.RemoveUser name) r = s.place
-place_by_reply s (Call.AddIntegrity algorithm) r = s.place
-place_by_reply s (Call.SetIntegrity algorithm) r = s.place
-place_by_reply s (Call.SetAnonymous feature) r = s.place
-place_by_reply s (Call.RemoveClient address) r = option_map (with_client None) s.place
-place_by_reply s (Call.SetExpiry expiry) r = s.place
+abbrev pub place_by_reply : Reads → Sight → ServerCall → Reply → Option PlaceSeen
+place_by_reply read s (Call.Validate from now message words) r = place_by_message s now words (read message.items) r
+place_by_reply read s (Call.Sign to message) r = if is_signed r then place_by_signing s (read message.items) else s.place
+place_by_reply read s (Call.AddUser name password) r = s.place
+place_by_reply read s (Call.RemoveUser name) r = s.place
+place_by_reply read s (Call.AddIntegrity algorithm) r = s.place
+place_by_reply read s (Call.SetIntegrity algorithm) r = s.place
+place_by_reply read s (Call.SetAnonymous feature) r = s.place
+place_by_reply read s (Call.RemoveClient address) r = option_map (with_client None) s.place
+place_by_reply read s (Call.SetExpiry expiry) r = s.place
 
 -- what a call of its own, or one on users and settings, makes of what an address can tell
-abbrev pub sight_by_reply : Sight → ServerCall → Reply → Sight
-sight_by_reply s call r = record {
+abbrev pub sight_by_reply : Reads → Sight → ServerCall → Reply → Sight
+sight_by_reply read s call r = record {
   registered = registered_after s.registered call;
   feature = feature_after s.feature call;
   expiry = expiry_after s.expiry call;
-  place = place_by_reply s call r;
+  place = place_by_reply read s call r;
 }
 
 -- what an address can tell after calls and the replies to them: a call of another address leaves it
-abbrev pub sight_by_replies : SocketAddr → Sight → List ServerCall → List Reply → Sight
-sight_by_replies a s [] replies = s
-sight_by_replies a s (call ∷ calls) [] = s
-sight_by_replies a s (call ∷ calls) (r ∷ replies) =
-    if concerns a call then sight_by_replies a (sight_by_reply s call r) calls replies else sight_by_replies a s calls replies
+abbrev pub sight_by_replies : Reads → SocketAddr → Sight → List ServerCall → List Reply → Sight
+sight_by_replies read a s [] replies = s
+sight_by_replies read a s (call ∷ calls) [] = s
+sight_by_replies read a s (call ∷ calls) (r ∷ replies) =
+    if concerns a call then sight_by_replies read a (sight_by_reply read s call r) calls replies else sight_by_replies read a s calls replies
 
 -- At each index of the list: a request or an indication is validated with an algorithm if and only if it is accepted by what its
 -- address can tell there
-abbrev pub ValidatesByReplies : ServerSeen → List ServerCall → List Reply → Type 0
-ValidatesByReplies start calls given =
-    (i : ℕ) (a : SocketAddr) (now : ℕ) (message : Vec ℕ Global) (words : List ℕ) (algorithm : IntegrityAlgorithm)
-    → slice_get calls i ≡ Some (Call.Validate a now message words)
-    → refusal message.items ≡ None → is_response (class_in message.items) ≡ false
+abbrev pub ValidatesByReplies : Reads → ServerSeen → List ServerCall → List Reply → Type 0
+ValidatesByReplies read start calls given =
+    (i : ℕ) (a : SocketAddr) (now : ℕ) (message : Vec ℕ Global) (words : List ℕ) (m : Reading) (algorithm : IntegrityAlgorithm)
+    → slice_get calls i ≡ Some (Call.Validate a now message words) → read message.items ≡ Some m → is_response m.class ≡ false
     → (slice_get given i ≡ Some (Validated algorithm))
-    ↔ AcceptedWith (sight_by_replies a (sight start a) (take i calls) given) now words (reading_of message.items) algorithm
+    ↔ AcceptedWith (sight_by_replies read a (sight start a) (take i calls) given) now words m algorithm

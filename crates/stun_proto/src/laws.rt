@@ -16,6 +16,7 @@ ghost use Rattle.stun_proto.specs.Headline.{IsAskedOnce, SendsByPlan, ValidatesO
 ghost use Rattle.stun_proto.specs.Run.{IsDriven};
 ghost use Rattle.stun_proto.specs.RunLaws.{EventsHaveRuns, IsDetermined, IsDeterminedThroughout};
 ghost use Rattle.stun_proto.specs.Schedule.{AreInOrder, plan};
+ghost use Rattle.stun_proto.specs.Shards.{ShardsServeAsOne};
 ghost use Rattle.stun_proto.specs.Steps.{Step};
 ghost use Rattle.stun_proto.specs.declared.replay.event.AgentEvent.{AgentEvent as TheEvent};
 
@@ -59,6 +60,13 @@ pub fn one_call_validates()
 /// none, or where the client must send a hash of its name and the server takes none.
 pub fn best_is_strongest()
     ensures { BestIsStrongest }
+{}
+
+/// Addresses can be dealt out to any number of servers that start alike, each of which takes the calls of its addresses and all
+/// calls on users and settings: each address then gets the replies that one server that takes all calls would give it, and the
+/// same is kept for it.
+pub fn shards_serve_as_one()
+    ensures { ShardsServeAsOne }
 {}
 
 /// What meetings come to is equal as values.

@@ -9,7 +9,7 @@ ghost use Rattle.stun_auth.specs.Validation.{after_message, answer, sight};
 ghost use Rattle.stun_proto.specs.Accepting.{ValidatesAccepted};
 ghost use Rattle.stun_proto.specs.Headline.{ValidatesEachCall};
 ghost use Rattle.stun_proto.specs.Isolation.{IsIsolated, own, sight_over};
-ghost use Rattle.stun_proto.specs.Replies.{ValidatesByReplies};
+ghost use Rattle.stun_proto.specs.Replies.{message_read};
 ghost use Rattle.stun_proto.specs.Serving.{after_call, after_calls, places_unless, replies, replies_of, reply, reply_of, reply_of_answer, reply_unless};
 
 use crate::replay::call::{ServerCall, ServerReply};
@@ -42,8 +42,7 @@ pub fn serve<A: Allocator + Copy>(
     server: &mut LongTermServerAuth<A>,
     calls: &[ServerCall],
 ) -> Result<Vec<ServerReply<A>, A>, Stopped>
-    ensures headline { IfOk result (λ given. ValidatesEachCall server.old calls.now (replies_of given.items)) }
-    ensures by_replies { IfOk result (λ given. ValidatesByReplies server.old calls.now (replies_of given.items)) }
+    ensures headline { IfOk result (λ given. ValidatesEachCall message_read replies server.old calls.now (replies_of given.items)) }
     ensures replies { IfOk result (λ given. replies_of given.items ≡ replies server.old calls.now) }
     ensures server { OnOk result (server.new ≡ after_calls server.old calls.now) }
     ensures isolated { IfOk result (λ given. IsIsolated server.old calls.now (replies_of given.items)) }

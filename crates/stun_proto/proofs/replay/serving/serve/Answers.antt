@@ -3,7 +3,7 @@ use Rattle.std.proofs.lemmas.List.{map-append}
 use Rattle.stun_auth.specs.Validation.{sight}
 use Rattle.stun_proto.specs.Accepting.{ValidatesAccepted}
 use Rattle.stun_proto.specs.Isolation.{IsIsolated}
-use Rattle.stun_proto.specs.Replies.{ValidatesByReplies}
+use Rattle.stun_proto.specs.Replies.{ValidatesByReplies, message_read}
 use Rattle.stun_proto.specs.Serving.{replies_of, reply_of}
 use Rattle.stun_proto.proofs.AcceptingLemmas.{validates_accepted}
 use Rattle.stun_proto.proofs.IsolationLemmas.{is_isolated, sight-after_calls}
@@ -23,14 +23,16 @@ returns-clause-accepted g c =
     (validates_accepted c.accepted_messages_are_validated.ensures c.args.server.now c.args.calls.now)
 
 pub returns-clause-headline : goal.returns-clause-headline
-returns-clause-headline g c = record { accepted = returns-clause-accepted g c; isolated = returns-clause-isolated g c }
-
-pub returns-clause-by_replies : goal.returns-clause-by_replies
-returns-clause-by_replies g c =
-    let told = told_all c.args.server.now c.loop-done.server _ c.args.calls.now c.loop-done.done (omega arith) c.loop-done.invariant.told in
-    subst (ValidatesByReplies c.args.server.now c.args.calls.now) (sym told)
-    (validates_by_replies c.args.server.now c.args.calls.now
-    (validates_accepted c.accepted_messages_are_validated.ensures c.args.server.now c.args.calls.now))
+returns-clause-headline g c =
+    let s = c.args.server.now in
+    let calls = c.args.calls.now in
+    let told = told_all s c.loop-done.server _ calls c.loop-done.done (omega arith) c.loop-done.invariant.told in
+    record {
+      replied = told;
+      validated =
+          subst (ValidatesByReplies message_read s calls) (sym told) (validates_by_replies s calls (validates_accepted c.accepted_messages_are_validated.ensures s calls));
+      isolated = returns-clause-isolated g c;
+    }
 
 pub returns-clause-place : goal.returns-clause-place
 returns-clause-place g c =

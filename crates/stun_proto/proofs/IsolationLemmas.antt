@@ -26,6 +26,7 @@ use Rattle.stun_proto.specs.Serving.{reply_of_answer, reply_of_signing, reply_un
 use Rattle.stun_proto.specs.Isolation.{IsIsolated, concerns, own, own_place_after, own_replies, place_unless, sight_after, sight_over}
 use Rattle.stun_proto.specs.declared.replay.call.ServerCall.{ServerCall}
 use Rattle.stun_proto.specs.declared.replay.call.ServerCall.TheVariants as Call
+use Rattle.stun_auth.proofs.Forgotten.{get-places_kept}
 use Rattle.stun_proto.proofs.Addresses.{address_total, address_exact}
 
 is_equal : (o : Ordering) → is_eq o ≡ true → o ≡ Equal
@@ -121,6 +122,7 @@ own_place a (Call.RemoveClient b) s h =
     let P : SocketAddr → Type 0 = λ x. fin.get (after_call s (Call.RemoveClient x)).places a ≡ own_place_after (sight s a) (Call.RemoveClient x) in
     subst P (sym same) (here s.places (fin.get s.places a) a (with_client None) refl)
 own_place a (Call.SetExpiry expiry) s h = refl
+own_place a (Call.ForgetExpired now) s h = get-places_kept now s.places a
 
 -- an own call does to what an address can tell what it does to the server
 pub own_step : (a : SocketAddr) (call : ServerCall) (s : ServerSeen) → concerns a call ≡ true → sight (after_call s call) a ≡ sight_after (sight s a) call
@@ -141,6 +143,7 @@ other_step a (Call.SetIntegrity algorithm) s h = cc
 other_step a (Call.SetAnonymous feature) s h = cc
 other_step a (Call.RemoveClient b) s h = ap (λ (o : Option PlaceSeen). record (sight s a) { place = o }) (elsewhere s.places (fin.get s.places b) b a (with_client None) h)
 other_step a (Call.SetExpiry expiry) s h = cc
+other_step a (Call.ForgetExpired now) s h = cc
 
 -- the reply to an own call is a function of what the address can tell
 own_reply : (a : SocketAddr) (call : ServerCall) (s t : ServerSeen) → concerns a call ≡ true → sight s a ≡ sight t a → reply s call ≡ reply t call
@@ -157,6 +160,7 @@ own_reply a (Call.SetIntegrity algorithm) s t h alike = refl
 own_reply a (Call.SetAnonymous feature) s t h alike = refl
 own_reply a (Call.RemoveClient b) s t h alike = refl
 own_reply a (Call.SetExpiry expiry) s t h alike = refl
+own_reply a (Call.ForgetExpired now) s t h alike = refl
 
 -- ---- a list of calls
 

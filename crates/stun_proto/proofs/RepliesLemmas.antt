@@ -77,6 +77,7 @@ own_place_told a (Call.SetIntegrity algorithm) s h = refl
 own_place_told a (Call.SetAnonymous feature) s h = refl
 own_place_told a (Call.RemoveClient b) s h = refl
 own_place_told a (Call.SetExpiry expiry) s h = refl
+own_place_told a (Call.ForgetExpired now) s h = refl
 
 abbrev with_place : Sight → ServerCall → Option PlaceSeen → Sight
 with_place s call place = record {
@@ -117,7 +118,7 @@ validates_by_replies s calls accepted i a now message words m algorithm at reads
     ap is_response (sym (class_read message.items) ∙ ap (λ (x : Reading). x.class) is.1) ∙ asks in
     let exact = accepted i a now message words algorithm at is.0 plain in (
       (λ got. subst (λ (x : Reading). AcceptedWith (sight_by_replies message_read a (sight s a) (take i calls) (replies s calls)) now words x algorithm) is.1
-      (subst (λ v. AcceptedWith v now words (reading_of message.items) algorithm) same (exact.0 got))),
+          (subst (λ v. AcceptedWith v now words (reading_of message.items) algorithm) same (exact.0 got))),
       (λ given. exact.1 (subst (λ v. AcceptedWith v now words (reading_of message.items) algorithm) (sym same)
-      (subst (λ (x : Reading). AcceptedWith (sight_by_replies message_read a (sight s a) (take i calls) (replies s calls)) now words x algorithm) (sym is.1) given))),
+          (subst (λ (x : Reading). AcceptedWith (sight_by_replies message_read a (sight s a) (take i calls) (replies s calls)) now words x algorithm) (sym is.1) given))),
     )

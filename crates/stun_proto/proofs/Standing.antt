@@ -2,6 +2,7 @@
 use Rattle.std.proofs.Common.{◌≡◌, ℕ, suc, List, [], ◌∷◌, Option, Some, None, Bool, true, false, refl, sym, ◌∙◌, ap, Ok, Err, arith}
 use Rattle.std.specs.Prelude.{cond, nat_le}
 use Rattle.std.specs.Option.{option_map}
+use Rattle.std.proofs.lemmas.Bool.{le-ltb, leb-true}
 use Rattle.std.specs.declared.net.socket_addr.SocketAddr.{SocketAddr}
 use Rattle.std.specs.declared.result.Result.{Result}
 use Rattle.stun_base.specs.Moments.{moment_after}
@@ -10,6 +11,7 @@ use Rattle.stun_base.specs.declared.error.StunWriteError.{StunWriteError}
 use Rattle.stun_types.specs.Message.{refusal}
 use Rattle.stun_auth.specs.declared.feature.Feature.{Feature}
 use Rattle.stun_auth.specs.Additions.{Page}
+use Rattle.stun_auth.specs.Forgetting.{place_kept}
 use Rattle.stun_auth.specs.Nonces.{nonce_of}
 use Rattle.stun_auth.specs.Places.{with_offer}
 use Rattle.stun_auth.specs.Reading.{Reading, class_in, is_response, reading_of}
@@ -77,6 +79,10 @@ module _ (users : Registered) (feature : Feature) (expiry : ℕ) (address : Sock
   signed_there (Ok page) known left is = is
   signed_there (Err reason) known left is = refl
 
+  not_forgotten : (known : Option ClientSeen) (now : ℕ) → nat_le now end ≡ true → place_kept now (Some (place_of known)) ≡ Some (place_of known)
+  not_forgotten None now h = ap (λ b. cond b None (Some (place_of None))) (le-ltb end now (leb-true now end h))
+  not_forgotten (Some user) now h = refl
+
   with_place : (place : Option PlaceSeen) → (next : Option ClientSeen) × (place ≡ Some (place_of next)) → (next : Option ClientSeen) × (seen place ≡ seen (Some (place_of next)))
   with_place place left = (left.0, ap seen left.1)
 
@@ -95,6 +101,8 @@ module _ (users : Registered) (feature : Feature) (expiry : ℕ) (address : Sock
   own_leaves (Call.SetAnonymous setting) known own h = cc
   own_leaves (Call.RemoveClient removed) known own h = (None, refl)
   own_leaves (Call.SetExpiry time) known own h = cc
+  own_leaves (Call.ForgetExpired now) known own h =
+      with_place _ (known, not_forgotten known now h)
 
   call_leaves : (s : ServerSeen) (call : ServerCall) → leaves_nonce address end call ≡ true → Stands s → Stands (after_call s call)
   call_leaves s call h stands =

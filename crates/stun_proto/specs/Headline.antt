@@ -50,13 +50,13 @@ pub record ValidatesEachCall (read : Reads) (run : ServerSeen → List ServerCal
   pub replied : given ≡ run start calls
   -- at each index the same as of one call, at the nonce that the earlier calls of the same address, and the replies to them, have left
   pub validated : ValidatesByReplies read start calls given
-  -- whatever other addresses do: the replies to an address are those of the run of its own calls and of those on users and settings
+  -- whatever other addresses do: the replies to an address are those of the run of its own calls and of those that concern all
   pub isolated : IsolatedBy run start calls given
 
 -- ---- 2. The client (sections 9.2.3 to 9.2.6)
 
 -- A client that has read nothing yet and is ready: it has the credentials of a registered user, its address is new to the server,
--- the calls between are those of other addresses, and its second request comes while the nonce is current. Its realm and its user
+-- the calls between are those of other addresses alone, and its second request comes while the nonce is current. Its realm and its user
 -- name fit their attributes (sections 14.9 and 14.3)
 pub record IsReadyClient (state : ClientState) (m : Meeting) (who : NameAndPassword) (server : ServerSeen) : Type 0 where
   pub new : state ≡ initial

@@ -30,7 +30,8 @@ pub record IsReady (m : Meeting) (who : NameAndPassword) (server : ServerSeen) :
   pub present : map.get server.registered.passwords who.username ≡ Some who.password
   pub hashes : HaveOwnHashes server.registered
   pub new_address : map.get server.places m.from ≡ None
-  -- the calls between are those of others: settings, users and the address's place stay
+  -- the calls between are those of other addresses: none is on users or settings, none forgets expired nonces, and the address's
+  -- place stays
   pub others_first : AreOfOthers m.from m.first.before
   pub others_second : AreOfOthers m.from m.second.before
   -- the second request is read while the nonce stands

@@ -5,6 +5,7 @@ use Rattle.std.specs.declared.net.socket_addr.SocketAddr.{SocketAddr}
 use Rattle.stun_base.specs.Address.{same_address}
 use Rattle.stun_base.specs.declared.error.StunParseError.{StunParseError}
 use Rattle.stun_types.specs.Message.{refusal}
+use Rattle.stun_auth.specs.Forgetting.{place_kept}
 use Rattle.stun_auth.specs.Places.{with_client}
 use Rattle.stun_auth.specs.Reading.{class_in, is_response, reading_of}
 use Rattle.stun_auth.specs.Seen.{PlaceSeen}
@@ -15,7 +16,7 @@ use Rattle.stun_proto.specs.declared.replay.call.ServerCall.TheVariants as Call
 use Rattle.stun_proto.specs.Signing.{if_signed, place_offered, signing}
 use Rattle.stun_proto.specs.Serving.{Reply, registered_after, feature_after, expiry_after, replies}
 
--- whether a call is one of the address, or one on users and settings
+-- whether a call is one of the address, or one that concerns every address: on users and settings, and forgetting
 abbrev pub concerns : SocketAddr → ServerCall → Bool
 concerns a (Call.Validate from now message words) = same_address from a
 concerns a (Call.Sign to message) = same_address to a
@@ -26,17 +27,18 @@ concerns a (Call.SetIntegrity algorithm) = true
 concerns a (Call.SetAnonymous feature) = true
 concerns a (Call.RemoveClient address) = same_address address a
 concerns a (Call.SetExpiry expiry) = true
+concerns a (Call.ForgetExpired now) = true
 
--- the calls of an address and all calls on users and settings, in their order
+-- the calls of an address and all calls that concern every address, in their order
 abbrev pub own : SocketAddr → List ServerCall → List ServerCall
 own a [] = []
 own a (call ∷ calls) = if concerns a call then call ∷ own a calls else own a calls
 
 -- the replies to them
 abbrev pub own_replies : SocketAddr → List ServerCall → List Reply → List Reply
-own_replies a [] replies = []
+own_replies a [] given = []
 own_replies a (call ∷ calls) [] = []
-own_replies a (call ∷ calls) (r ∷ replies) = if concerns a call then r ∷ own_replies a calls replies else own_replies a calls replies
+own_replies a (call ∷ calls) (r ∷ given) = if concerns a call then r ∷ own_replies a calls given else own_replies a calls given
 
 -- the place, where the bytes are a message
 abbrev pub place_unless : Option StunParseError → Option PlaceSeen → Option PlaceSeen → Option PlaceSeen
@@ -56,8 +58,9 @@ own_place_after s (Call.SetIntegrity algorithm) = s.place
 own_place_after s (Call.SetAnonymous feature) = s.place
 own_place_after s (Call.RemoveClient address) = option_map (with_client None) s.place
 own_place_after s (Call.SetExpiry expiry) = s.place
+own_place_after s (Call.ForgetExpired now) = place_kept now s.place
 
--- what a call of its own, or one on users and settings, makes of what an address can tell
+-- what a call of its own, or one that concerns every address, makes of what an address can tell
 abbrev pub sight_after : Sight → ServerCall → Sight
 sight_after s call = record {
   registered = registered_after s.registered call;

@@ -17,7 +17,7 @@ use Rattle.stun_auth.specs.Signed.{hashed_name, plain_name}
 use Rattle.stun_proto.specs.Isolation.{concerns}
 use Rattle.stun_proto.specs.declared.replay.call.ServerCall.{ServerCall}
 
--- calls that leave an address, the users and the settings alone
+-- calls of other addresses alone: none of this one, none on users or settings, and none that forgets expired nonces
 abbrev pub AreOfOthers : SocketAddr → List ServerCall → Type 0
 AreOfOthers a calls = All (λ call. concerns a call ≡ false) calls
 

@@ -92,7 +92,8 @@ pub record IsTold (s : Sight) (telling : Page) : Type 0 where
 
 -- ---- the law
 
--- whether a call leaves users, settings and the nonce of an address: messages from there are read while it stands
+-- whether a call leaves users, settings and the nonce of an address: messages from there are read, and nonces are forgotten, up to its
+-- end
 abbrev pub leaves_nonce : SocketAddr → ℕ → ServerCall → Bool
 leaves_nonce a end (Call.Validate from now message words) = if same_address from a then nat_le now end else true
 leaves_nonce a end (Call.Sign to message) = true
@@ -103,6 +104,7 @@ leaves_nonce a end (Call.SetIntegrity algorithm) = false
 leaves_nonce a end (Call.SetAnonymous feature) = false
 leaves_nonce a end (Call.RemoveClient address) = true
 leaves_nonce a end (Call.SetExpiry expiry) = false
+leaves_nonce a end (Call.ForgetExpired now) = nat_le now end
 
 abbrev pub LeaveNonce : SocketAddr → ℕ → List ServerCall → Type 0
 LeaveNonce a end calls = All (λ call. leaves_nonce a end call ≡ true) calls

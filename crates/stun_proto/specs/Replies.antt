@@ -9,6 +9,7 @@ use Rattle.stun_base.specs.Credentials.{NameAndPassword}
 use Rattle.stun_base.specs.declared.algorithm.IntegrityAlgorithm.{IntegrityAlgorithm}
 use Rattle.stun_base.specs.declared.error.StunParseError.{StunParseError}
 use Rattle.stun_types.specs.Message.{refusal}
+use Rattle.stun_auth.specs.Forgetting.{place_kept}
 use Rattle.stun_auth.specs.Places.{with_client}
 use Rattle.stun_auth.specs.Reading.{Reading, is_response, reading_of}
 use Rattle.stun_auth.specs.Seen.{PlaceSeen}
@@ -73,8 +74,8 @@ abbrev pub place_by_signing : Sight → Option Reading → Option PlaceSeen
 place_by_signing s None = s.place
 place_by_signing s (Some m) = place_offered s (is_response m.class)
 
--- what a call of its own makes of an address's place: a message that needs a nonce, a response that was signed, and the call that
--- forgets the client
+-- what a call makes of an address's place: a message that needs a nonce, a response that was signed, the call that removes its
+-- client, and the one that forgets expired nonces where no client is known
 abbrev pub place_by_reply : Reads → Sight → ServerCall → Reply → Option PlaceSeen
 place_by_reply read s (Call.Validate from now message words) r = place_by_message s now words (read message.items) r
 place_by_reply read s (Call.Sign to message) r = if is_signed r then place_by_signing s (read message.items) else s.place
@@ -85,8 +86,9 @@ place_by_reply read s (Call.SetIntegrity algorithm) r = s.place
 place_by_reply read s (Call.SetAnonymous feature) r = s.place
 place_by_reply read s (Call.RemoveClient address) r = option_map (with_client None) s.place
 place_by_reply read s (Call.SetExpiry expiry) r = s.place
+place_by_reply read s (Call.ForgetExpired now) r = place_kept now s.place
 
--- what a call of its own, or one on users and settings, makes of what an address can tell
+-- what a call of its own, or one that concerns every address, makes of what an address can tell
 abbrev pub sight_by_reply : Reads → Sight → ServerCall → Reply → Sight
 sight_by_reply read s call r = record {
   registered = registered_after s.registered call;
@@ -97,10 +99,10 @@ sight_by_reply read s call r = record {
 
 -- what an address can tell after calls and the replies to them: a call of another address leaves it
 abbrev pub sight_by_replies : Reads → SocketAddr → Sight → List ServerCall → List Reply → Sight
-sight_by_replies read a s [] replies = s
+sight_by_replies read a s [] given = s
 sight_by_replies read a s (call ∷ calls) [] = s
-sight_by_replies read a s (call ∷ calls) (r ∷ replies) =
-    if concerns a call then sight_by_replies read a (sight_by_reply read s call r) calls replies else sight_by_replies read a s calls replies
+sight_by_replies read a s (call ∷ calls) (r ∷ given) =
+    if concerns a call then sight_by_replies read a (sight_by_reply read s call r) calls given else sight_by_replies read a s calls given
 
 -- At each index of the list: a request or an indication is validated with an algorithm if and only if it is accepted by what its
 -- address can tell there

@@ -13,6 +13,7 @@ use Rattle.stun_auth.specs.declared.server_reason.LongTermServerAuthErrorReason.
 use Rattle.stun_auth.specs.declared.server_reason.LongTermServerValidation.TheVariants as Validation
 use Rattle.stun_auth.specs.Additions.{Page}
 use Rattle.stun_auth.specs.Algorithms.{only, with_algorithm}
+use Rattle.stun_auth.specs.Forgetting.{places_kept}
 use Rattle.stun_auth.specs.Places.{PlacesSeen, with_change, with_client}
 use Rattle.stun_auth.specs.Reading.{class_in, is_response, reading_of}
 use Rattle.stun_auth.specs.Registered.{Registered, with_user, without_user}
@@ -78,6 +79,7 @@ registered_after r (Call.SetIntegrity algorithm) = record r { algorithms = only 
 registered_after r (Call.SetAnonymous feature) = r
 registered_after r (Call.RemoveClient address) = r
 registered_after r (Call.SetExpiry expiry) = r
+registered_after r (Call.ForgetExpired now) = r
 
 -- whether names may be hashed
 abbrev pub feature_after : Feature → ServerCall → Feature
@@ -90,6 +92,7 @@ feature_after f (Call.SetIntegrity algorithm) = f
 feature_after f (Call.SetAnonymous feature) = feature
 feature_after f (Call.RemoveClient address) = f
 feature_after f (Call.SetExpiry expiry) = f
+feature_after f (Call.ForgetExpired now) = f
 
 -- whether a nonce would stand for less than 30 seconds, which a server does not take
 abbrev pub is_too_short : Duration → Bool
@@ -106,6 +109,7 @@ expiry_after e (Call.SetIntegrity algorithm) = e
 expiry_after e (Call.SetAnonymous feature) = e
 expiry_after e (Call.RemoveClient address) = e
 expiry_after e (Call.SetExpiry expiry) = if is_too_short expiry then e else as_nanos expiry
+expiry_after e (Call.ForgetExpired now) = e
 
 -- the places, where the bytes are a message
 abbrev pub places_unless : Option StunParseError → PlacesSeen → PlacesSeen → PlacesSeen
@@ -126,6 +130,7 @@ places_after s (Call.SetIntegrity algorithm) = s.places
 places_after s (Call.SetAnonymous feature) = s.places
 places_after s (Call.RemoveClient address) = with_change s.places address (with_client None)
 places_after s (Call.SetExpiry expiry) = s.places
+places_after s (Call.ForgetExpired now) = places_kept now s.places
 
 -- ---- one call
 
@@ -140,6 +145,7 @@ reply s (Call.SetIntegrity algorithm) = Done
 reply s (Call.SetAnonymous feature) = Done
 reply s (Call.RemoveClient address) = Done
 reply s (Call.SetExpiry expiry) = if is_too_short expiry then TooShort else Done
+reply s (Call.ForgetExpired now) = Done
 
 abbrev pub after_call : ServerSeen → ServerCall → ServerSeen
 after_call s call = record {

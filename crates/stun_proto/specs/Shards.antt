@@ -18,6 +18,7 @@ takes deal k (Call.SetIntegrity algorithm) = true
 takes deal k (Call.SetAnonymous feature) = true
 takes deal k (Call.RemoveClient address) = deal address == k
 takes deal k (Call.SetExpiry expiry) = true
+takes deal k (Call.ForgetExpired now) = true
 
 -- the calls that it takes, in their order
 abbrev pub share : (SocketAddr → ℕ) → ℕ → List ServerCall → List ServerCall

@@ -63,7 +63,7 @@ pub fn best_is_strongest()
 {}
 
 /// Addresses can be dealt out to any number of servers that start alike, each of which takes the calls of its addresses and all
-/// calls on users and settings: each address then gets the replies that one server that takes all calls would give it, and the
+/// calls that concern every address (users, settings, forgetting): each address then gets the replies that one server that takes all calls would give it, and the
 /// same is kept for it.
 pub fn shards_serve_as_one()
     ensures { ShardsServeAsOne }

@@ -50,6 +50,8 @@ pub enum ServerCall {
     RemoveClient(SocketAddr),
     /// How long nonces stand is set.
     SetExpiry(Duration),
+    /// Each address without a client whose nonce ended before this moment is forgotten.
+    ForgetExpired(Instant),
 }
 
 /// What a server replies to a call.

@@ -95,7 +95,8 @@ impl From<Stopped> for NegotiateError {
 ///
 /// An honest client is accepted with its second request and with the strongest algorithm that both sides support; the server
 /// knows it then, and it the server. Where there is none, it answers `UnsupportedFeature` and keeps nothing (RFC 8489, section
-/// 9.2).
+/// 9.2). The calls between the steps of an honest meeting are those of other addresses alone: none is on users or settings, and
+/// none is a `ForgetExpired`, which concerns every address.
 ///
 /// The answer is the outcome that ends the run: a first request that is accepted, a refusal of the server other than
 /// `Unauthorized` to the first request, a refusal of the client, an answer of the client to the 401 other than
@@ -213,7 +214,8 @@ pub fn short_names_are_signed()
 /// A request of an authenticated client whose nonce has run out is answered `StaleNonce`, unless the old nonce was drawn again.
 /// Once the client has read one error of code 438 that the server signed, its request is accepted while the new nonce stands
 /// (RFC 8489, sections 9.2.4 and 9.2.6). The messages are of any method, and have any attributes of their own but those that
-/// signing adds. Between them users and settings stay, and messages of the client's address are read while the nonce stands.
+/// signing adds. Between them users and settings stay, and messages of the
+/// client's address are read, and expired nonces forgotten, while the nonce is current.
 pub fn nonce_is_renewed()
     ensures { NonceIsRenewed }
 {

@@ -30,12 +30,12 @@ use stun_types::message::Message;
 
 /// Makes the calls in their order, and answers the reply to each.
 ///
-/// The replies to an address are those of a run over its own calls and the calls on users and settings alone: no call of
-/// another address has a part in them. A request or an indication is validated exactly where it carries a realm, the nonce
-/// that stands for its address, algorithms that agree, and the digest under the key of the present user whom it names (RFC
-/// 8489, section 9.2.4), at the place that its address's own earlier calls leave.
+/// The replies to an address are those of a run over its own calls and those that concern every address (on users and settings, and
+/// `ForgetExpired`): no call of another address has a part in them. A request or an indication is validated if and only if it has a
+/// realm, the nonce that is current at its address, consistent algorithms, and the digest under the key of the registered user whom
+/// it names (RFC 8489, section 9.2.4), at the place that its address's own earlier calls leave.
 ///
-/// The one error is that memory is wanting: the server then stands behind the first `done` calls. The call that wanted memory
+/// The one error is that an allocation failed: the server is then as after the first `done` calls. The call whose allocation failed
 /// is none of them, unless it was complete and only its reply found no room.
 pub fn serve<A: Allocator + Copy>(
     alloc: A,
@@ -109,6 +109,10 @@ fn serve_call<A: Allocator + Copy>(
             Ok(ServerReply::Done)
         }
         ServerCall::SetExpiry(expiry) => Ok(set_expiry(server, *expiry)),
+        ServerCall::ForgetExpired(now) => {
+            server.forget_expired(*now);
+            Ok(ServerReply::Done)
+        }
     }
 }
 

@@ -2,6 +2,7 @@
 
 ghost use Rattle.std.specs.Prelude.{◌≡◌, ◌≤◌, length, IfOk, IsOk, Some, codes, string_bytes};
 ghost use Rattle.std.specs.Cmp.{partial_equiv_from_equiv};
+ghost use Rattle.std.specs.Fmt.{WritesOnOk, WritesStyledOnOk};
 ghost use Rattle.stun_base.specs.Credentials.{same_text, same_user, same_text_equivalence, same_user_equivalence};
 ghost use Rattle.stun_base.specs.Keys.{long_term_key_of};
 
@@ -68,7 +69,12 @@ impl<A: Allocator + Copy> Clone for ShortTermCredentials<A> {
 impl<A: Allocator> fmt::Debug for ShortTermCredentials<A> {
     ghost debug_output = { λ _. Some (codes "ShortTermCredentials { .. }") };
 
-    fn fmt<W: fmt::Write>(&self, f: &mut fmt::Formatter<W>) -> fmt::Result {
+    fn fmt<W: fmt::Write>(&self, f: &mut fmt::Formatter<W>) -> fmt::Result
+        ensures writes { WritesOnOk W.write_str_gives f.old result (codes "ShortTermCredentials { .. }") f.new }
+
+        // So it is whatever width, precision or other option is asked.
+        ensures styled { WritesStyledOnOk W.write_str_gives f.old result (codes "ShortTermCredentials { .. }") f.new }
+    {
         f.write_str("ShortTermCredentials { .. }")
     }
 }
@@ -188,7 +194,12 @@ impl<A: Allocator + Copy> Clone for LongTermCredentials<A> {
 impl<A: Allocator> fmt::Debug for LongTermCredentials<A> {
     ghost debug_output = { λ _. Some (codes "LongTermCredentials { .. }") };
 
-    fn fmt<W: fmt::Write>(&self, f: &mut fmt::Formatter<W>) -> fmt::Result {
+    fn fmt<W: fmt::Write>(&self, f: &mut fmt::Formatter<W>) -> fmt::Result
+        ensures writes { WritesOnOk W.write_str_gives f.old result (codes "LongTermCredentials { .. }") f.new }
+
+        // So it is whatever width, precision or other option is asked.
+        ensures styled { WritesStyledOnOk W.write_str_gives f.old result (codes "LongTermCredentials { .. }") f.new }
+    {
         f.write_str("LongTermCredentials { .. }")
     }
 }
@@ -288,7 +299,12 @@ impl<A: Allocator + Copy> Clone for LongTermKeyCredentials<A> {
 impl<A: Allocator> fmt::Debug for LongTermKeyCredentials<A> {
     ghost debug_output = { λ _. Some (codes "LongTermKeyCredentials { .. }") };
 
-    fn fmt<W: fmt::Write>(&self, f: &mut fmt::Formatter<W>) -> fmt::Result {
+    fn fmt<W: fmt::Write>(&self, f: &mut fmt::Formatter<W>) -> fmt::Result
+        ensures writes { WritesOnOk W.write_str_gives f.old result (codes "LongTermKeyCredentials { .. }") f.new }
+
+        // So it is whatever width, precision or other option is asked.
+        ensures styled { WritesStyledOnOk W.write_str_gives f.old result (codes "LongTermKeyCredentials { .. }") f.new }
+    {
         f.write_str("LongTermKeyCredentials { .. }")
     }
 }
@@ -352,7 +368,12 @@ impl<A: Allocator> fmt::Debug for MessageIntegrityCredentials<A> {
 
     ghost debug_output = { λ credentials. Some (kind_shown credentials) };
 
-    fn fmt<W: fmt::Write>(&self, f: &mut fmt::Formatter<W>) -> fmt::Result {
+    fn fmt<W: fmt::Write>(&self, f: &mut fmt::Formatter<W>) -> fmt::Result
+        ensures writes { WritesOnOk W.write_str_gives f.old result (kind_shown self.now) f.new }
+
+        // So it is whatever width, precision or other option is asked.
+        ensures styled { WritesStyledOnOk W.write_str_gives f.old result (kind_shown self.now) f.new }
+    {
         match self {
             MessageIntegrityCredentials::ShortTerm(_) => f.write_str("ShortTerm(..)"),
             MessageIntegrityCredentials::LongTerm(_) => f.write_str("LongTerm(..)"),
@@ -400,7 +421,12 @@ impl<'a, A: Allocator> CredentialsKey<'a, A> {
 impl<'a, A: Allocator> fmt::Debug for CredentialsKey<'a, A> {
     ghost debug_output = { λ _. Some (codes "CredentialsKey { .. }") };
 
-    fn fmt<W: fmt::Write>(&self, f: &mut fmt::Formatter<W>) -> fmt::Result {
+    fn fmt<W: fmt::Write>(&self, f: &mut fmt::Formatter<W>) -> fmt::Result
+        ensures writes { WritesOnOk W.write_str_gives f.old result (codes "CredentialsKey { .. }") f.new }
+
+        // So it is whatever width, precision or other option is asked.
+        ensures styled { WritesStyledOnOk W.write_str_gives f.old result (codes "CredentialsKey { .. }") f.new }
+    {
         f.write_str("CredentialsKey { .. }")
     }
 }

@@ -1,6 +1,7 @@
 //! Keys of message integrity (RFC 8489, sections 9.1.1 and 9.2.2), and hashes of user names (14.4).
 
 ghost use Rattle.std.specs.Prelude.{◌≡◌, ◌≤◌, ◌↔◌, [], length, true, IfOk, IsOk, Some, IfSome, IsSome, codes};
+ghost use Rattle.std.specs.Fmt.{WritesOnOk, WritesStyledOnOk};
 ghost use Rattle.std.specs.Str.{is_utf8};
 ghost use Rattle.stun_base.specs.Keys as spec;
 
@@ -92,7 +93,12 @@ impl<A: Allocator + Copy> Clone for IntegrityKey<A> {
 impl<A: Allocator> fmt::Debug for IntegrityKey<A> {
     ghost debug_output = { λ _. Some (codes "IntegrityKey { .. }") };
 
-    fn fmt<W: fmt::Write>(&self, f: &mut fmt::Formatter<W>) -> fmt::Result {
+    fn fmt<W: fmt::Write>(&self, f: &mut fmt::Formatter<W>) -> fmt::Result
+        ensures writes { WritesOnOk W.write_str_gives f.old result (codes "IntegrityKey { .. }") f.new }
+
+        // So it is whatever width, precision or other option is asked.
+        ensures styled { WritesStyledOnOk W.write_str_gives f.old result (codes "IntegrityKey { .. }") f.new }
+    {
         f.write_str("IntegrityKey { .. }")
     }
 }

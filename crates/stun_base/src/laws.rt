@@ -2,7 +2,8 @@
 //!
 //! Each function does in one line what its users do, and its contract says what comes of it.
 
-ghost use Rattle.std.specs.Prelude.{◌≡◌, ◌<◌, ◌↔◌, ◌^◌, ◌-◌, ◌∷◌, [], IsTrue, Some, map};
+ghost use Rattle.std.specs.Prelude.{◌≡◌, ◌<◌, ◌↔◌, ◌^◌, ◌-◌, ◌∷◌, [], IsTrue, Ok, Some, map};
+ghost use Rattle.std.specs.Ordering.{nat_cmp};
 ghost use Rattle.stun_base.specs.Algorithm.{strength};
 ghost use Rattle.stun_base.specs.MessageType.{type_number};
 
@@ -15,7 +16,8 @@ use crate::instant::Instant;
 use crate::message_type::{BINDING, MessageClass, MessageType, Method};
 use crate::transaction_id::TransactionId;
 use crate::transport::TransportType;
-use std::alloc::Allocator;
+use std::alloc::{AllocError, Allocator};
+use std::cmp::Ordering;
 
 /// HMAC-SHA1 is below HMAC-SHA256.
 pub fn is_weaker(one: IntegrityAlgorithm, other: IntegrityAlgorithm) -> bool
@@ -36,6 +38,27 @@ pub fn is_below(one: TransactionId, other: TransactionId) -> bool
     ensures { IsTrue result ↔ (one < other) }
 {
     one < other
+}
+
+/// Algorithms are compared by their strength.
+pub fn order_of_algorithms(one: IntegrityAlgorithm, other: IntegrityAlgorithm) -> Ordering
+    ensures { result ≡ nat_cmp (strength one) (strength other) }
+{
+    one.cmp(&other)
+}
+
+/// Ids are compared as numbers.
+pub fn order_of_ids(one: TransactionId, other: TransactionId) -> Ordering
+    ensures { result ≡ nat_cmp one other }
+{
+    one.cmp(&other)
+}
+
+/// Moments are compared as numbers of nanoseconds.
+pub fn order_of_moments(one: Instant, other: Instant) -> Ordering
+    ensures { result ≡ nat_cmp one other }
+{
+    one.cmp(&other)
 }
 
 /// Ids are equal as numbers.
@@ -161,6 +184,62 @@ pub fn attribute_types() -> [AttributeType; 11]
         AttributeType::PASSWORD_ALGORITHMS,
         AttributeType::FINGERPRINT,
     ]
+}
+
+/// Copies of the parts of a header are the same values.
+pub fn copied_header_parts(
+    header: &MessageHeader,
+    id: &TransactionId,
+    message_type: &MessageType,
+    class: &MessageClass,
+    method: &Method,
+) -> Result<
+    (
+        MessageHeader,
+        TransactionId,
+        MessageType,
+        MessageClass,
+        Method,
+    ),
+    AllocError,
+>
+    ensures { result ≡ Ok (header.now, id.now, message_type.now, class.now, method.now) }
+{
+    Ok((
+        header.clone()?,
+        id.clone()?,
+        message_type.clone()?,
+        class.clone()?,
+        method.clone()?,
+    ))
+}
+
+/// Copies of the other small types are the same values.
+pub fn copied_parts(
+    algorithm: &IntegrityAlgorithm,
+    kind: &AttributeType,
+    moment: &Instant,
+    transport: &TransportType,
+) -> Result<(IntegrityAlgorithm, AttributeType, Instant, TransportType), AllocError>
+    ensures { result ≡ Ok (algorithm.now, kind.now, moment.now, transport.now) }
+{
+    Ok((
+        algorithm.clone()?,
+        kind.clone()?,
+        moment.clone()?,
+        transport.clone()?,
+    ))
+}
+
+/// Copies of errors are the same values.
+pub fn copied_errors(
+    parse: &StunParseError,
+    validate: &ValidateError,
+    write: &StunWriteError,
+) -> Result<(StunParseError, ValidateError, StunWriteError), AllocError>
+    ensures { result ≡ Ok (parse.now, validate.now, write.now) }
+{
+    Ok((parse.clone()?, validate.clone()?, write.clone()?))
 }
 
 /// Short-term credentials are equal where their passwords are the same bytes.

@@ -3,6 +3,7 @@
 
 pub mod algorithm;
 pub mod attribute_type;
+pub mod compare;
 pub mod credentials;
 pub mod data;
 pub mod error;

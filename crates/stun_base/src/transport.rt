@@ -17,10 +17,13 @@ pub enum TransportType {
 impl fmt::Display for TransportType {
     ghost output = { λ transport. Some (name_of transport) };
 
+    // No option of the formatter changes it.
+    ghost styled_output = { λ transport _. Some (name_of transport) };
+
     fn fmt<W: fmt::Write>(&self, f: &mut fmt::Formatter<W>) -> fmt::Result {
         match self {
-            TransportType::Udp => write!(f, "UDP"),
-            TransportType::Tcp => write!(f, "TCP"),
+            TransportType::Udp => f.write_str("UDP"),
+            TransportType::Tcp => f.write_str("TCP"),
         }
     }
 }

@@ -1,6 +1,7 @@
 -- Where the deciding attribute stands.
 use Rattle.std.proofs.Common.{◌≡◌, ℕ, zero, suc, ◌+◌, ◌-◌, ◌≤◌, Bool, true, false, cond, List, [], ◌∷◌, length, take, drop, Some, None, refl, sym, subst, arith, append_assoc}
-use Rattle.std.specs.Prelude.{find, IfSome, Option, ◌==◌}
+use Rattle.std.specs.Prelude.{find, IfSome, IsTrue, Option, nat_eq, ◌==◌, ◌↔◌}
+use Rattle.std.specs.Cmp.Lexicographic.{other_text, pointwise, same_text}
 use Rattle.std.specs.Option.{option_or}
 use Rattle.std.specs.List.{AllByRecursion}
 use Rattle.std.proofs.lemmas.List.{append-nil, drop-take}
@@ -76,3 +77,13 @@ covered_pieces bytes place count behind =
     let sum : 4 + (place - 4) ≡ place = omega arith in
     let back : drop 4 (take place bytes) ≡ take (place - 4) (drop 4 bytes) = rw sum at (drop-take 4 (place - 4) bytes) in
     rw (front, back, append-nil) (sym (append_assoc (take 2 bytes) (big_bytes 2 (place + 4 + count - 20)) (take (place - 4) (drop 4 bytes))))
+
+-- a test that holds of two texts if and only if they are equal is the test of their bytes one by one
+pub test_of_texts : (r : Bool) (xs ys : List ℕ) → IsTrue r ↔ (xs ≡ ys) → r ≡ pointwise nat_eq xs ys
+test_of_texts r xs ys told = by r (pointwise nat_eq xs ys) refl told.0 told.1
+  where
+    by : (r b : Bool) → b ≡ pointwise nat_eq xs ys → (IsTrue r → xs ≡ ys) → (xs ≡ ys → IsTrue r) → r ≡ b
+    by true true is there back = refl
+    by true false is there back = absurd (other_text xs ys is (there refl))
+    by false true is there back = back (same_text xs ys is)
+    by false false is there back = refl

@@ -11,6 +11,7 @@ use crate::attribute::{ATTRIBUTE_HEADER_LENGTH, AttributeType, RawAttribute};
 use crate::message::{Message, StunParseError, ValidateError};
 use std::alloc::Allocator;
 use stun_base::algorithm::IntegrityAlgorithm;
+use stun_base::compare::is_same_text;
 use stun_base::credentials::MessageIntegrityCredentials;
 use stun_base::header::HEADER_LENGTH;
 use stun_base::hmac::{SHA1_LENGTH, SHA256_LENGTH, hmac_sha1, hmac_sha256};
@@ -116,9 +117,10 @@ fn is_digest(message: &[u8], key: &[u8], place: usize, attribute: &RawAttribute<
 {
     let length = covered_length(place, attribute.length()).to_be_bytes();
     let pieces = [&message[..2], &length, &message[4..place]];
+    let claimed = attribute.value();
     match algorithm_of(attribute) {
-        IntegrityAlgorithm::Sha1 => attribute.value() == hmac_sha1(key, &pieces).as_slice(),
-        IntegrityAlgorithm::Sha256 => attribute.value() == hmac_sha256(key, &pieces).as_slice(),
+        IntegrityAlgorithm::Sha1 => is_same_text(claimed, &hmac_sha1(key, &pieces)),
+        IntegrityAlgorithm::Sha256 => is_same_text(claimed, &hmac_sha256(key, &pieces)),
     }
 }
 

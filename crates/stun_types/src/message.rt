@@ -27,7 +27,7 @@ pub use stun_base::error::{StunParseError, StunWriteError, ValidateError};
 pub use stun_base::header::MessageHeader;
 use stun_base::header::{HEADER_LENGTH, MAGIC_COOKIE};
 pub use stun_base::hmac::{hmac_sha1, hmac_sha256};
-pub use stun_base::key::IntegrityKey;
+pub use stun_base::key::{IntegrityKey, long_term_key};
 pub use stun_base::message_type::{BINDING, MessageClass, MessageType, Method};
 pub use stun_base::transaction_id::TransactionId;
 
@@ -283,6 +283,10 @@ impl<'a> Message<'a> {
 
     /// The first visible attribute of its type, read: `MissingAttribute` where there is none, `InvalidAttributeData` where
     /// it is malformed.
+    ///
+    /// It is not for asking who signed a message. A type may occur more than once, and those who validate a message read
+    /// the last of a type, this call the first: a request with two USERNAMEs is validated as the user that the last one
+    /// names, and read here as the first. Ask the call that validated the message.
     pub fn attribute<A: AttributeFromRaw<'a> + AttributeStaticType>(
         &self,
     ) -> Result<A, StunParseError>

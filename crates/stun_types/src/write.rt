@@ -40,8 +40,9 @@ pub trait MessageWrite: Drop {
         ensures value { result ≡ room self.now }
         ensures reserved { reserved self.now ≤ room self.now };
 
-    /// Makes sure that so many bytes can be appended: `TooSmall` where the room is less, else `OutOfMemory` where memory is
-    /// refused. Bytes and room stay as they were, and what was reserved before is never refused.
+    /// Makes sure that so many bytes can be appended: `TooSmall` where the room is less, else `OutOfMemory` where an
+    /// allocation fails. Bytes and room stay as they were, what was reserved before is never refused, and it stays reserved
+    /// whatever the answer is.
     fn reserve(&mut self, additional: usize) -> Result<(), StunWriteError>
         ensures bytes { bytes self.new ≡ bytes self.old }
         ensures room { room self.new ≡ room self.old }
@@ -51,7 +52,7 @@ pub trait MessageWrite: Drop {
 
         // What is reserved already is not refused.
         ensures reserved { additional ≤ reserved self.old → IsOk result }
-        ensures kept { OnOk result (reserved self.old ≤ reserved self.new) };
+        ensures kept { reserved self.old ≤ reserved self.new };
 
     /// Appends bytes, which were reserved.
     fn append(&mut self, tail: &[u8])

@@ -85,7 +85,7 @@ pub trait MessageWriteExt: MessageWrite {
     /// It refuses by the first of these: a type that this call does not write (`NotAllowed`: the two integrity attributes and
     /// FINGERPRINT), an integrity attribute stands there (`MessageIntegrityExists`), the type stands there
     /// (`AttributeExists`), the message would be longer than 65532 bytes behind its header (`TooLarge`), no room
-    /// (`TooSmall`), no memory (`OutOfMemory`). A refusal leaves the bytes and the room.
+    /// (`TooSmall`), no memory (`OutOfMemory`). A refusal leaves the bytes, the room and what was reserved.
     final fn add_attribute<A: Attribute>(&mut self, attribute: &A) -> Result<(), StunWriteError>
     where
         Self: Sized,
@@ -108,6 +108,7 @@ pub trait MessageWriteExt: MessageWrite {
         ensures room { OnOk result (Self.room self.new + attribute_length (length (A.value attribute.now)) ≡ Self.room self.old) }
         ensures reserved { OnOk result (Self.reserved self.old ≤ Self.reserved self.new + attribute_length (length (A.value attribute.now))) }
         ensures err { OnErr result ((Self.bytes self.new ≡ Self.bytes self.old) × (Self.room self.new ≡ Self.room self.old)) }
+        ensures kept { OnErr result (Self.reserved self.old ≤ Self.reserved self.new) }
     {
         let kind = attribute.get_type();
         if is_set_apart(kind) {
@@ -149,6 +150,7 @@ pub trait MessageWriteExt: MessageWrite {
         ensures stands { OnOk result (IsOpen (Self.bytes self.old) → (keys : IntegrityAlgorithm → List ℕ) → keys algorithm ≡ (keys_of credentials.now algorithm) → stands_by keys (Self.bytes self.new) ≡ Some algorithm) }
         ensures room { OnOk result (Self.room self.new + attribute_length (digest_length algorithm) ≡ Self.room self.old) }
         ensures err { OnErr result ((Self.bytes self.new ≡ Self.bytes self.old) × (Self.room self.new ≡ Self.room self.old)) }
+        ensures kept { OnErr result (Self.reserved self.old ≤ Self.reserved self.new) }
     {
         add_integrity(self, credentials.key(algorithm).as_bytes(), algorithm)
     }
@@ -157,7 +159,7 @@ pub trait MessageWriteExt: MessageWrite {
     ///
     /// It refuses by the first of these: an integrity attribute stands there (`MessageIntegrityExists`), the message would be
     /// longer than 65532 bytes behind its header (`TooLarge`), no room (`TooSmall`), no memory (`OutOfMemory`). A refusal
-    /// leaves the bytes and the room.
+    /// leaves the bytes, the room and what was reserved.
     final fn add_message_integrity_with_key<A: Allocator>(
         &mut self,
         key: &IntegrityKey<A>,
@@ -175,6 +177,7 @@ pub trait MessageWriteExt: MessageWrite {
         ensures stands { OnOk result (IsOpen (Self.bytes self.old) → (keys : IntegrityAlgorithm → List ℕ) → keys algorithm ≡ key.now → stands_by keys (Self.bytes self.new) ≡ Some algorithm) }
         ensures room { OnOk result (Self.room self.new + attribute_length (digest_length algorithm) ≡ Self.room self.old) }
         ensures err { OnErr result ((Self.bytes self.new ≡ Self.bytes self.old) × (Self.room self.new ≡ Self.room self.old)) }
+        ensures kept { OnErr result (Self.reserved self.old ≤ Self.reserved self.new) }
     {
         add_integrity(self, key.as_bytes(), algorithm)
     }
@@ -197,6 +200,7 @@ pub trait MessageWriteExt: MessageWrite {
         ensures stands { OnOk result (IsOpen (Self.bytes self.old) → (keys : IntegrityAlgorithm → List ℕ) → keys algorithm ≡ key.now → stands_by keys (Self.bytes self.new) ≡ Some algorithm) }
         ensures room { OnOk result (Self.room self.new + attribute_length (digest_length algorithm) ≡ Self.room self.old) }
         ensures err { OnErr result ((Self.bytes self.new ≡ Self.bytes self.old) × (Self.room self.new ≡ Self.room self.old)) }
+        ensures kept { OnErr result (Self.reserved self.old ≤ Self.reserved self.new) }
     {
         add_integrity(self, key, algorithm)
     }
@@ -223,6 +227,7 @@ pub trait MessageWriteExt: MessageWrite {
         ensures stands { OnOk result (IsOpen (Self.bytes self.old) → (keys : IntegrityAlgorithm → List ℕ) → keys algorithm ≡ key.now → stands_by keys (Self.bytes self.new) ≡ Some algorithm) }
         ensures room { OnOk result (Self.room self.new + attribute_length (digest_length algorithm) ≡ Self.room self.old) }
         ensures err { OnErr result ((Self.bytes self.new ≡ Self.bytes self.old) × (Self.room self.new ≡ Self.room self.old)) }
+        ensures kept { OnErr result (Self.reserved self.old ≤ Self.reserved self.new) }
     {
         sign(self, key.as_bytes(), algorithm)
     }
@@ -278,6 +283,7 @@ fn add_integrity<W: MessageWrite>(
     ensures stands { OnOk result (IsOpen (W.bytes writer.old) → (keys : IntegrityAlgorithm → List ℕ) → keys algorithm ≡ key.now → stands_by keys (W.bytes writer.new) ≡ Some algorithm) }
     ensures room { OnOk result (W.room writer.new + attribute_length (digest_length algorithm) ≡ W.room writer.old) }
     ensures err { OnErr result ((W.bytes writer.new ≡ W.bytes writer.old) × (W.room writer.new ≡ W.room writer.old)) }
+    ensures kept { OnErr result (W.reserved writer.old ≤ W.reserved writer.new) }
 {
     if has_integrity(writer.data()) {
         return Err(StunWriteError::MessageIntegrityExists);
@@ -308,6 +314,7 @@ fn sign<W: MessageWrite>(
     ensures stands { OnOk result (IsOpen (W.bytes writer.old) → (keys : IntegrityAlgorithm → List ℕ) → keys algorithm ≡ key.now → stands_by keys (W.bytes writer.new) ≡ Some algorithm) }
     ensures room { OnOk result (W.room writer.new + attribute_length (digest_length algorithm) ≡ W.room writer.old) }
     ensures err { OnErr result ((W.bytes writer.new ≡ W.bytes writer.old) × (W.room writer.new ≡ W.room writer.old)) }
+    ensures kept { OnErr result (W.reserved writer.old ≤ W.reserved writer.new) }
 {
     let padded_length = integrity_length(algorithm);
     let message_length = length_with(writer.data(), padded_length);

@@ -1,6 +1,6 @@
 //! Laws on attributes: what is written is read again, what is reserved is ignored, constants are those of the RFC, and equal
 //! attributes are the same values.
-ghost use Rattle.std.specs.Prelude.{◌≡◌, ◌<◌, ◌^◌, ◌↔◌, ◌∷◌, [], ℕ, IsTrue, List, slice_index};
+ghost use Rattle.std.specs.Prelude.{◌≡◌, ◌<◌, ◌^◌, ◌↔◌, ◌∷◌, [], ℕ, IsTrue, List, Ok, map, slice_index};
 ghost use Rattle.std.specs.Net.Socket.{socket_flowinfo, socket_ip, socket_port, socket_scope_id};
 ghost use Rattle.stun_types.specs.Attribute.{TypedValue};
 ghost use Rattle.stun_types.specs.AttributeLaws.{IgnoresFirstByte, IgnoresReservedBits, ReadsSpelledEntries, TakesWhatIsSpelled, WritesFirstZero, WritesReservedZeros};
@@ -10,9 +10,11 @@ ghost use Rattle.stun_types.specs.XorMappedAddress.{XoredAddress};
 ghost use Rattle.stun_types.specs.declared.attribute.password_algorithm.PasswordAlgorithmValue.{PasswordAlgorithmValue};
 
 use crate::attribute::{
-    ErrorCode, MessageIntegritySha256, Nonce, PasswordAlgorithmValue, RawAttribute, Realm,
+    AttributeStaticType, AttributeType, ErrorCode, MessageIntegrity, MessageIntegritySha256, Nonce,
+    PasswordAlgorithm, PasswordAlgorithmValue, PasswordAlgorithms, RawAttribute, Realm, Userhash,
     Username, XorMappedAddress,
 };
+use std::alloc::AllocError;
 use std::net::{IpAddr, SocketAddr};
 use stun_base::algorithm::IntegrityAlgorithm;
 use stun_base::transaction_id::TransactionId;
@@ -74,6 +76,81 @@ pub fn error_codes() -> [u16; 3]
         ErrorCode::UNAUTHORIZED,
         ErrorCode::STALE_NONCE,
     ]
+}
+
+/// The numbers of the constants `TYPE` (RFC 8489, section 18.3), in ascending order.
+pub fn static_types() -> [AttributeType; 10]
+    ensures { map (λ kind. kind.0) result ≡
+        0x0006 ∷ 0x0008 ∷ 0x0009 ∷ 0x0014 ∷ 0x0015 ∷ 0x001C ∷ 0x001D ∷ 0x001E ∷ 0x0020 ∷ 0x8002 ∷ [] }
+{
+    [
+        Username::TYPE,
+        MessageIntegrity::TYPE,
+        ErrorCode::TYPE,
+        Realm::TYPE,
+        Nonce::TYPE,
+        MessageIntegritySha256::TYPE,
+        PasswordAlgorithm::TYPE,
+        Userhash::TYPE,
+        XorMappedAddress::TYPE,
+        PasswordAlgorithms::TYPE,
+    ]
+}
+
+/// Algorithms of passwords are equal as values.
+pub fn is_same_algorithm(one: PasswordAlgorithmValue, other: PasswordAlgorithmValue) -> bool
+    ensures { IsTrue result ↔ (one ≡ other) }
+{
+    one == other
+}
+
+/// Choices of an algorithm are equal where the algorithms are.
+pub fn is_same_choice(one: PasswordAlgorithm, other: PasswordAlgorithm) -> bool
+    ensures { IsTrue result ↔ (one ≡ other) }
+{
+    one == other
+}
+
+/// Hashes of user names are equal where their bytes are.
+pub fn is_same_userhash(one: Userhash, other: Userhash) -> bool
+    ensures { IsTrue result ↔ (one ≡ other) }
+{
+    one == other
+}
+
+/// Digests of HMAC-SHA1 are equal where their bytes are.
+pub fn is_same_sha1_digest(one: MessageIntegrity, other: MessageIntegrity) -> bool
+    ensures { IsTrue result ↔ (one ≡ other) }
+{
+    one == other
+}
+
+/// Copies of attributes that are copied are the same values.
+pub fn copies(
+    address: &XorMappedAddress,
+    digest: &MessageIntegrity,
+    hash: &Userhash,
+    choice: &PasswordAlgorithm,
+    algorithm: &PasswordAlgorithmValue,
+) -> Result<
+    (
+        XorMappedAddress,
+        MessageIntegrity,
+        Userhash,
+        PasswordAlgorithm,
+        PasswordAlgorithmValue,
+    ),
+    AllocError,
+>
+    ensures { result ≡ Ok (address.now, digest.now, hash.now, choice.now, algorithm.now) }
+{
+    Ok((
+        address.clone()?,
+        digest.clone()?,
+        hash.clone()?,
+        choice.clone()?,
+        algorithm.clone()?,
+    ))
 }
 
 /// Raw attributes are equal where type and value are.

@@ -1,12 +1,12 @@
 -- A server of some addresses takes each call that concerns one of them, so the run of that address is the same.
-use Rattle.std.proofs.Common.{◌≡◌, ℕ, List, [], ◌∷◌, Bool, true, false, refl, sym, ◌∙◌, ap}
+use Rattle.std.proofs.Common.{◌≡◌, ℕ, List, [], ◌∷◌, true, false, refl, sym, ◌∙◌, ap}
 use Rattle.std.specs.Prelude.{cond, ◌==◌}
 use Rattle.std.proofs.lemmas.Bool.{eq-eqb}
 use Rattle.std.specs.declared.net.socket_addr.SocketAddr.{SocketAddr}
-use Rattle.stun_auth.specs.Validation.{ServerSeen, sight}
-use Rattle.stun_proto.specs.Isolation.{concerns, own, own_replies, sight_over}
-use Rattle.stun_proto.specs.Serving.{after_calls, replies}
-use Rattle.stun_proto.specs.Shards.{ServesAsOne, ShardsServeAsOne, share, takes}
+use Rattle.stun_auth.specs.Validation.{sight}
+use Rattle.stun_proto.specs.Isolation.{concerns, own, sight_over}
+use Rattle.stun_proto.specs.Serving.{replies}
+use Rattle.stun_proto.specs.Shards.{ShardsServeAsOne, share, takes}
 use Rattle.stun_proto.specs.declared.replay.call.ServerCall.{ServerCall}
 use Rattle.stun_proto.specs.declared.replay.call.ServerCall.TheVariants as Call
 use Rattle.stun_proto.proofs.IsolationLemmas.{is_isolated, isolated_from, one_address, sight-after_calls}

@@ -40,6 +40,8 @@ pub mod Examples
 pub mod RunLaws
 -- a run that is broken off
 pub mod Begun
+-- a call of a server as a value: what its equality compares, and what is shown of it
+pub mod CallValues
 -- words that are handed in, as a source of random words
 pub mod Words
 -- what no clause of a public call says: codings of models, views of structs, steps of the code

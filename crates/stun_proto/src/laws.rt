@@ -12,15 +12,18 @@ ghost use Rattle.stun_auth.specs.Server.{Sight};
 ghost use Rattle.stun_auth.specs.Validation.{answer};
 ghost use Rattle.stun_proto.specs.Best.{BestIsStrongest};
 ghost use Rattle.stun_proto.specs.Examples.{binding_request, udp_steps, tcp_steps};
+ghost use Rattle.stun_proto.specs.CallValues.{value_of};
 ghost use Rattle.stun_proto.specs.Headline.{IsAskedOnce, SendsByPlan, ValidatesOneCall};
 ghost use Rattle.stun_proto.specs.Run.{IsDriven};
 ghost use Rattle.stun_proto.specs.RunLaws.{EventsHaveRuns, IsDetermined, IsDeterminedThroughout};
 ghost use Rattle.stun_proto.specs.Schedule.{AreInOrder, plan};
+ghost use Rattle.stun_proto.specs.Serving.{reply_of};
 ghost use Rattle.stun_proto.specs.Shards.{ShardsServeAsOne};
 ghost use Rattle.stun_proto.specs.Steps.{Step};
 ghost use Rattle.stun_proto.specs.declared.replay.event.AgentEvent.{AgentEvent as TheEvent};
 
-use crate::replay::{NegotiateError, Outcome, Stopped, WordSource};
+use crate::replay::{NegotiateError, Outcome, ServerCall, ServerReply, Stopped, WordSource};
+use std::alloc::Allocator;
 
 /// Events have one run at most: its steps and the agent after it are determined, up to every moment, and from every moment on.
 pub fn runs_are_determined()
@@ -79,6 +82,20 @@ pub fn is_same_outcome(one: Outcome, other: Outcome) -> bool
 /// Reasons why a meeting came to nothing are equal as values.
 pub fn is_same_negotiate_error(one: NegotiateError, other: NegotiateError) -> bool
     ensures { IsTrue result ↔ (one ≡ other) }
+{
+    one == other
+}
+
+/// Replies are equal as values: errors, algorithms and reasons as they are, and signed messages by their bytes.
+pub fn is_same_reply<A: Allocator>(one: &ServerReply<A>, other: &ServerReply<A>) -> bool
+    ensures { IsTrue result ↔ (reply_of one.now ≡ reply_of other.now) }
+{
+    one == other
+}
+
+/// Calls are equal as values: messages by their bytes, names and passwords by theirs.
+pub fn is_same_call(one: &ServerCall, other: &ServerCall) -> bool
+    ensures { IsTrue result ↔ (value_of one.now ≡ value_of other.now) }
 {
     one == other
 }

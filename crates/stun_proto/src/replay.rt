@@ -4,6 +4,7 @@ mod apply;
 mod call;
 mod driven;
 mod event;
+mod judging;
 mod negotiation;
 mod serving;
 mod signing;

@@ -1,6 +1,11 @@
 //! The calls of a server, and what it replies.
 
+ghost use Rattle.std.specs.Prelude.{Some};
+ghost use Rattle.std.specs.Fmt.{WritesOnOk, WritesStyledOnOk};
+ghost use Rattle.stun_proto.specs.CallValues.{call_shown};
+
 use std::alloc::{Allocator, Global};
+use std::fmt;
 use std::net::SocketAddr;
 use std::time::Duration;
 use stun_auth::auth::{Feature, LongTermServerAuthErrorReason};
@@ -8,9 +13,9 @@ use stun_base::algorithm::IntegrityAlgorithm;
 use stun_base::error::{StunParseError, StunWriteError};
 use stun_base::instant::Instant;
 
-/// A call of a server. `Debug` leaves a user's password out.
+/// A call of a server. `Debug` shows which call it is and none of its values, whatever options a formatter has: a password is one.
 #[derive(Drop)]
-#[derive_where(Debug, PartialEq, Eq)]
+#[derive_where(PartialEq, Eq)]
 pub enum ServerCall {
     /// A message came, and is to be validated.
     Validate {
@@ -35,7 +40,6 @@ pub enum ServerCall {
         /// The name of the user.
         name: String,
         /// The password from here on.
-        #[derive_where(skip(Debug))]
         password: String,
     },
     /// The user of this name is removed.
@@ -52,6 +56,30 @@ pub enum ServerCall {
     SetExpiry(Duration),
     /// Each address without a client whose nonce ended before this moment is forgotten.
     ForgetExpired(Instant),
+}
+
+impl fmt::Debug for ServerCall {
+    ghost debug_output = { λ call. Some (call_shown call) };
+
+    fn fmt<W: fmt::Write>(&self, f: &mut fmt::Formatter<W>) -> fmt::Result
+        ensures writes { WritesOnOk W.write_str_gives f.old result (call_shown self.now) f.new }
+
+        // So it is whatever width, precision or other option is asked.
+        ensures styled { WritesStyledOnOk W.write_str_gives f.old result (call_shown self.now) f.new }
+    {
+        match self {
+            ServerCall::Validate { .. } => f.write_str("Validate { .. }"),
+            ServerCall::Sign { .. } => f.write_str("Sign { .. }"),
+            ServerCall::AddUser { .. } => f.write_str("AddUser { .. }"),
+            ServerCall::RemoveUser(_) => f.write_str("RemoveUser(..)"),
+            ServerCall::AddIntegrity(_) => f.write_str("AddIntegrity(..)"),
+            ServerCall::SetIntegrity(_) => f.write_str("SetIntegrity(..)"),
+            ServerCall::SetAnonymous(_) => f.write_str("SetAnonymous(..)"),
+            ServerCall::RemoveClient(_) => f.write_str("RemoveClient(..)"),
+            ServerCall::SetExpiry(_) => f.write_str("SetExpiry(..)"),
+            ServerCall::ForgetExpired(_) => f.write_str("ForgetExpired(..)"),
+        }
+    }
 }
 
 /// What a server replies to a call.

@@ -4,7 +4,6 @@ ghost use Rattle.std.specs.Prelude.{◌≡◌, ◌≢◌, ◌≤◌, None, Ok, E
 ghost use Rattle.std.specs.declared.net.socket_addr.SocketAddr.{SocketAddr as TheAddress};
 ghost use Rattle.stun_types.specs.Message.{refusal};
 ghost use Rattle.stun_auth.specs.Reading.{reading_of};
-ghost use Rattle.stun_auth.specs.Reasons.{ForReason};
 ghost use Rattle.stun_auth.specs.Validation.{after_message, answer, sight};
 ghost use Rattle.stun_proto.specs.Accepting.{ValidatesAccepted};
 ghost use Rattle.stun_proto.specs.Headline.{ValidatesEachCall};
@@ -14,15 +13,12 @@ ghost use Rattle.stun_proto.specs.Serving.{after_call, after_calls, places_unles
 
 use crate::replay::call::{ServerCall, ServerReply};
 use crate::replay::event::Stopped;
+use crate::replay::judging::judged;
 use crate::replay::signing::sign;
-use crate::replay::words::WordSource;
 use std::alloc::{AllocError, Allocator};
 use std::net::SocketAddr;
 use std::time::Duration;
-use stun_auth::auth::{
-    LongTermServerAuth, LongTermServerAuthErrorReason, LongTermServerValidation,
-    minimum_nonce_expiry_duration,
-};
+use stun_auth::auth::{LongTermServerAuth, minimum_nonce_expiry_duration};
 use stun_auth::laws;
 use stun_base::credentials::LongTermCredentials;
 use stun_base::instant::Instant;
@@ -133,31 +129,9 @@ fn validate<A: Allocator + Copy>(
         Ok(message) => message,
         Err(error) => return Ok(ServerReply::NotAMessage(error)),
     };
-    let mut source = WordSource::new(words);
-    match server.validate_incoming_message(&message, from, now, &mut source) {
-        Ok(validation) => Ok(validated(validation)),
-        Err(error) => refused(error.reason()),
-    }
-}
-
-fn validated<A: Allocator>(validation: LongTermServerValidation) -> ServerReply<A>
-    ensures { reply_of result ≡ reply_of_answer (Ok validation) }
-{
-    match validation {
-        LongTermServerValidation::Validated(algorithm) => ServerReply::Validated(algorithm),
-    }
-}
-
-/// The reply to a refusal, where it is not want of memory.
-fn refused<A: Allocator>(
-    reason: LongTermServerAuthErrorReason,
-) -> Result<ServerReply<A>, AllocError>
-    ensures { ForReason reason (IsOkAnd result (λ given. reply_of given ≡ reply_of_answer (Err reason))) (IsErr result) }
-{
-    if reason == LongTermServerAuthErrorReason::OutOfMemory {
-        Err(AllocError)
-    } else {
-        Ok(ServerReply::Refused(reason))
+    match judged(server, &message, from, now, words)? {
+        Ok(algorithm) => Ok(ServerReply::Validated(algorithm)),
+        Err(reason) => Ok(ServerReply::Refused(reason)),
     }
 }
 

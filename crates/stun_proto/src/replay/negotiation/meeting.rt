@@ -13,7 +13,8 @@ ghost use Rattle.stun_proto.specs.Sides.{behind_challenge, behind_second, behind
 ghost use Rattle.stun_proto.specs.code.Sides.{IsRun};
 
 use crate::replay::call::ServerCall;
-use crate::replay::negotiation::messages::{challenge, judged, message_in, read, request, success};
+use crate::replay::judging::judged;
+use crate::replay::negotiation::messages::{challenge, message_in, read, request, success};
 use crate::replay::negotiation::{NegotiateError, Outcome};
 use crate::replay::serving::serve;
 use std::alloc::Allocator;

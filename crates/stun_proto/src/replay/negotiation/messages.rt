@@ -8,24 +8,18 @@ ghost use Rattle.stun_types.specs.Writing.{IsOpen};
 ghost use Rattle.stun_auth.specs.Additions.{UnlessMemory};
 ghost use Rattle.stun_auth.specs.ClientStep.{ForReason as ForClientReason, IsResend, UNAUTHORIZED, client_step};
 ghost use Rattle.stun_auth.specs.Reading.{class_in, is_response, reading_of};
-ghost use Rattle.stun_auth.specs.Reasons.{ForReason as ForServerReason};
 ghost use Rattle.stun_auth.specs.ServerSigning.{after_signing};
-ghost use Rattle.stun_auth.specs.Validation.{after_message, answer, sight};
-ghost use Rattle.stun_proto.specs.code.FirstAnswers.{answer_of};
+ghost use Rattle.stun_auth.specs.Validation.{sight};
 ghost use Rattle.stun_proto.specs.Negotiation.{BINDING as BINDING_METHOD, asked, failure, responded, success};
 ghost use Rattle.stun_proto.specs.code.Signed.{signed_page, written_message};
 
-use crate::replay::words::WordSource;
 use std::alloc::{AllocError, Allocator};
 use std::net::SocketAddr;
 use stun_auth::auth::{
-    LongTermClientAuth, LongTermClientAuthErrorReason, LongTermClientValidation,
-    LongTermServerAuth, LongTermServerAuthErrorReason, LongTermServerValidation,
+    LongTermClientAuth, LongTermClientAuthErrorReason, LongTermClientValidation, LongTermServerAuth,
 };
 use stun_auth::laws;
-use stun_base::algorithm::IntegrityAlgorithm;
 use stun_base::error::StunWriteError;
-use stun_base::instant::Instant;
 use stun_base::transaction_id::TransactionId;
 use stun_types::attribute::ErrorCode;
 use stun_types::message::{BINDING, Message, MessageWriteVec};
@@ -122,48 +116,6 @@ pub(crate) fn message_in(bytes: &[u8]) -> Message<'_>
     ensures { result ≡ bytes.now }
 {
     Message::from_bytes(bytes).unwrap()
-}
-
-/// What the server makes of a request: the algorithm with which it is accepted, or why it is refused. The one error is that
-/// memory is wanting; the server is then as before.
-pub(crate) fn judged<A: Allocator + Copy>(
-    server: &mut LongTermServerAuth<A>,
-    request: &Message<'_>,
-    from: SocketAddr,
-    now: Instant,
-    words: [u32; 16],
-) -> Result<Result<IntegrityAlgorithm, LongTermServerAuthErrorReason>, AllocError>
-    ensures answer { IfOk result (λ a. answer_of a ≡ answer (sight server.old from) now words (reading_of request.now)) }
-    ensures server { OnOk result (server.new ≡ after_message server.old from now words (reading_of request.now)) }
-    ensures err { OnErr result (server.new ≡ server.old) }
-{
-    let mut source = WordSource::new(words);
-    match server.validate_incoming_message(request, from, now, &mut source) {
-        Ok(validation) => Ok(Ok(algorithm_of(validation))),
-        Err(error) => server_refusal(error.reason()),
-    }
-}
-
-/// The algorithm with which a message is accepted.
-fn algorithm_of(validation: LongTermServerValidation) -> IntegrityAlgorithm
-    ensures { LongTermServerValidation.Validated result ≡ validation }
-{
-    match validation {
-        LongTermServerValidation::Validated(algorithm) => algorithm,
-    }
-}
-
-/// A refusal of the server, where it is not want of memory.
-fn server_refusal(
-    reason: LongTermServerAuthErrorReason,
-) -> Result<Result<IntegrityAlgorithm, LongTermServerAuthErrorReason>, AllocError>
-    ensures { ForServerReason reason (result ≡ Ok (Err reason)) (IsErr result) }
-{
-    if reason == LongTermServerAuthErrorReason::OutOfMemory {
-        Err(AllocError)
-    } else {
-        Ok(Err(reason))
-    }
 }
 
 /// What the client makes of a response. The one error is that memory is wanting, which it can be only where a challenge is to be

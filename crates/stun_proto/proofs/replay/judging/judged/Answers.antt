@@ -8,26 +8,26 @@ use Rattle.stun_proto.specs.code.FirstAnswers.{answer_of}
 use Rattle.stun_proto.proofs.DrawnWords.{next_words-source}
 use Rattle.stun_proto.proofs.Heard.{off_told, off_untold, on_told, on_untold, told_as, untold_as}
 use Rattle.stun_proto.proofs.ValidateLemmas.{either}
-use Rattle.stun_proto.proofs.replay.negotiation.messages.judged.Goals as goal
+use Rattle.stun_proto.proofs.replay.judging.judged.Goals as goal
 
 pub returns-in-Ok-clause-answer : goal.returns-in-Ok-clause-answer
 returns-in-Ok-clause-answer g c =
     let drawn = next_words-source 16 c.new-source.result c.new-source.ensures.count ∙ c.new-source.ensures.words in
-    ap Ok c.algorithm_of.ensures ∙ c.in-Ok.ensures.answer ∙ ap (λ ws. answer (sight c.args.server.now c.args.from) c.args.now ws (reading_of c.args.request.now)) drawn
+    ap Ok c.algorithm_of.ensures ∙ c.in-Ok.ensures.answer ∙ ap (λ ws. answer (sight c.args.server.now c.args.from) c.args.now ws (reading_of c.args.message.now)) drawn
 
 pub returns-in-Ok-clause-server : goal.returns-in-Ok-clause-server
 returns-in-Ok-clause-server g c =
     let drawn = next_words-source 16 c.new-source.result c.new-source.ensures.count ∙ c.new-source.ensures.words in
-    c.in-Ok.ensures.state ∙ ap (λ ws. after_message c.args.server.now c.args.from c.args.now ws (reading_of c.args.request.now)) drawn
+    c.in-Ok.ensures.state ∙ ap (λ ws. after_message c.args.server.now c.args.from c.args.now ws (reading_of c.args.message.now)) drawn
 
 pub returns-in-Err-clause-answer : goal.returns-in-Err-clause-answer
 returns-in-Err-clause-answer g c =
     let drawn = next_words-source 16 c.new-source.result c.new-source.ensures.count ∙ c.new-source.ensures.words in
     let reason = c.in-Err.error in
-    let right : Answer = answer (sight c.args.server.now c.args.from) c.args.now c.args.words (reading_of c.args.request.now) in
+    let right : Answer = answer (sight c.args.server.now c.args.from) c.args.now c.args.words (reading_of c.args.message.now) in
     let P : LongTermServerAuthErrorReason → Type 0 = λ r. ForReason r (c.server_refusal.result ≡ Ok (Err r)) (IsErr c.server_refusal.result) in
     either reason
-    (λ given is. told_as answer_of c.server_refusal.result (Err reason) right given (is ∙ ap (λ ws. answer (sight c.args.server.now c.args.from) c.args.now ws (reading_of c.args.request.now)) drawn))
+    (λ given is. told_as answer_of c.server_refusal.result (Err reason) right given (is ∙ ap (λ ws. answer (sight c.args.server.now c.args.from) c.args.now ws (reading_of c.args.message.now)) drawn))
     (λ none is. untold_as answer_of c.server_refusal.result right none)
     (subst P c.reason.ensures c.server_refusal.ensures) c.in-Err.ensures.answer
 
@@ -37,7 +37,7 @@ returns-in-Err-clause-server g c =
     let reason = c.in-Err.error in
     let P : LongTermServerAuthErrorReason → Type 0 = λ r. ForReason r (c.server_refusal.result ≡ Ok (Err r)) (IsErr c.server_refusal.result) in
     either reason
-    (λ given is. on_told c.server_refusal.result (Err reason) _ given (is ∙ ap (λ ws. after_message c.args.server.now c.args.from c.args.now ws (reading_of c.args.request.now)) drawn))
+    (λ given is. on_told c.server_refusal.result (Err reason) _ given (is ∙ ap (λ ws. after_message c.args.server.now c.args.from c.args.now ws (reading_of c.args.message.now)) drawn))
     (λ none is. on_untold c.server_refusal.result _ none)
     (subst P c.reason.ensures c.server_refusal.ensures) c.in-Err.ensures.state
 

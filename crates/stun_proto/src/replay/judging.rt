@@ -1,0 +1,59 @@
+//! What a server makes of one message, with the random words of a nonce that are handed in.
+
+ghost use Rattle.std.specs.Prelude.{◌≡◌, IfOk, OnOk, OnErr, IsErr, Ok, Err};
+ghost use Rattle.stun_auth.specs.Reading.{reading_of};
+ghost use Rattle.stun_auth.specs.Reasons.{ForReason};
+ghost use Rattle.stun_auth.specs.Validation.{after_message, answer, sight};
+ghost use Rattle.stun_proto.specs.code.FirstAnswers.{answer_of};
+
+use crate::replay::words::WordSource;
+use std::alloc::{AllocError, Allocator};
+use std::net::SocketAddr;
+use stun_auth::auth::{
+    LongTermServerAuth, LongTermServerAuthErrorReason, LongTermServerValidation,
+};
+use stun_base::algorithm::IntegrityAlgorithm;
+use stun_base::instant::Instant;
+use stun_types::message::Message;
+
+/// What a server makes of a message: the algorithm with which it is accepted, or why it is refused. The one
+/// error is that an allocation failed; the server is then as before.
+pub(crate) fn judged<A: Allocator + Copy>(
+    server: &mut LongTermServerAuth<A>,
+    message: &Message<'_>,
+    from: SocketAddr,
+    now: Instant,
+    words: [u32; 16],
+) -> Result<Result<IntegrityAlgorithm, LongTermServerAuthErrorReason>, AllocError>
+    ensures answer { IfOk result (λ a. answer_of a ≡ answer (sight server.old from) now words (reading_of message.now)) }
+    ensures server { OnOk result (server.new ≡ after_message server.old from now words (reading_of message.now)) }
+    ensures err { OnErr result (server.new ≡ server.old) }
+{
+    let mut source = WordSource::new(words);
+    match server.validate_incoming_message(message, from, now, &mut source) {
+        Ok(validation) => Ok(Ok(algorithm_of(validation))),
+        Err(error) => server_refusal(error.reason()),
+    }
+}
+
+/// The algorithm with which a message is accepted.
+fn algorithm_of(validation: LongTermServerValidation) -> IntegrityAlgorithm
+    ensures { LongTermServerValidation.Validated result ≡ validation }
+{
+    match validation {
+        LongTermServerValidation::Validated(algorithm) => algorithm,
+    }
+}
+
+/// A refusal of the server, where it is not that an allocation failed.
+fn server_refusal(
+    reason: LongTermServerAuthErrorReason,
+) -> Result<Result<IntegrityAlgorithm, LongTermServerAuthErrorReason>, AllocError>
+    ensures { ForReason reason (result ≡ Ok (Err reason)) (IsErr result) }
+{
+    if reason == LongTermServerAuthErrorReason::OutOfMemory {
+        Err(AllocError)
+    } else {
+        Ok(Err(reason))
+    }
+}

@@ -1,6 +1,7 @@
 //! The check of a message's integrity (RFC 8489, sections 14.5, 14.6 and 9.2.4).
-ghost use Rattle.std.specs.Prelude.{◌≡◌, ◌+◌, ◌-◌, ◌^◌, ◌<◌, ◌≤◌, List, ℕ, length, IfOk, OnOk, IfErr, IfSome, Some, None};
+ghost use Rattle.std.specs.Prelude.{◌≡◌, ◌+◌, ◌-◌, ◌^◌, ◌<◌, ◌≤◌, List, ℕ, length, IfOk, OnOk, IfErr, IfSome, Some, None, ◌==◌, ◌||◌, ◌&&◌};
 ghost use Rattle.stun_base.specs.Algorithm.{digest_length};
+ghost use Rattle.stun_base.specs.Attributes.{MESSAGE_INTEGRITY, MESSAGE_INTEGRITY_SHA256};
 ghost use Rattle.stun_base.specs.Header.{HEADER_LENGTH as header_length};
 ghost use Rattle.stun_base.specs.Keys.OfCredentials.{keys_of};
 ghost use Rattle.stun_types.specs.Visible.{visible};
@@ -121,6 +122,19 @@ fn is_digest(message: &[u8], key: &[u8], place: usize, attribute: &RawAttribute<
     match algorithm_of(attribute) {
         IntegrityAlgorithm::Sha1 => is_same_text(claimed, &hmac_sha1(key, &pieces)),
         IntegrityAlgorithm::Sha256 => is_same_text(claimed, &hmac_sha256(key, &pieces)),
+    }
+}
+
+impl RawAttribute<'_> {
+    /// Whether it is a MESSAGE-INTEGRITY or MESSAGE-INTEGRITY-SHA256 whose value has a length that its type may have
+    /// (RFC 8489, sections 14.5 and 14.6).
+    pub fn is_integrity(&self) -> bool
+        ensures { result ≡ (((self.now.kind == MESSAGE_INTEGRITY) || (self.now.kind == MESSAGE_INTEGRITY_SHA256)) && is_well_formed self.now) }
+    {
+        let kind = self.get_type();
+        (kind == AttributeType::MESSAGE_INTEGRITY
+            || kind == AttributeType::MESSAGE_INTEGRITY_SHA256)
+            && is_well_formed(self)
     }
 }
 

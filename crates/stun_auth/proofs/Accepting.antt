@@ -21,7 +21,8 @@ use Rattle.stun_auth.specs.Registered.{Registered, key_at, key_if, key_of, user_
 use Rattle.stun_auth.specs.Seen.{ClientSeen}
 use Rattle.stun_auth.specs.Server.{Sight, IsAccepted, agreed, nonce_refusal, standing, verdict}
 use Rattle.stun_auth.specs.Validation.{AcceptedWith, ValidatesAccepted, answer, answer_to, client_verified, is_complete, is_malformed, validated_or_failed, verdict_at}
-use Rattle.stun_auth.specs.code.VerdictSteps.{by_attributes, by_choice, by_digest, by_name, name_by, name_in}
+use Rattle.stun_auth.specs.code.Judging.{name_by, name_in}
+use Rattle.stun_auth.proofs.VerdictSteps.{by_attributes, by_choice, by_digest, by_name}
 use Rattle.stun_auth.proofs.VerdictLemmas.{by_steps-verdict, user_of}
 
 -- ---- from the verdict

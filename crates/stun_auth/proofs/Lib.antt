@@ -7,6 +7,7 @@ pub mod Growth
 pub mod HashedNames
 pub mod JoinedLemmas
 pub mod JoinedReading
+pub mod JudgingLemmas
 pub mod LeastNames
 pub mod ListSteps
 pub mod Maps
@@ -26,3 +27,4 @@ pub mod SignedSides
 pub mod Unchanged
 pub mod UserMaps
 pub mod VerdictLemmas
+pub mod VerdictSteps

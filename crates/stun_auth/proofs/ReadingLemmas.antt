@@ -1,9 +1,14 @@
 -- The last member of a type, step by step, and what is there where a test holds.
-use Rattle.std.proofs.Common.{◌≡◌, Bool, true, false, Option, Some, None, refl}
-use Rattle.std.specs.Prelude.{cond}
-use Rattle.std.specs.Option.{is_some, option_map, option_or}
+use Rattle.std.proofs.Common.{◌≡◌, ℕ, List, [], ◌∷◌, Bool, true, false, Option, Some, None, refl, sym, ◌∙◌, ap}
+use Rattle.std.specs.Prelude.{cond, ◌==◌, ◌||◌}
+use Rattle.std.specs.List.{find}
+use Rattle.std.specs.Option.{is_some, option_and_then, option_map, option_or}
+use Rattle.stun_base.specs.Attributes.{ERROR_CODE, NONCE, PASSWORD_ALGORITHM, PASSWORD_ALGORITHMS, REALM, USERHASH, USERNAME}
 use Rattle.stun_types.specs.Attribute.{TypedValue}
 use Rattle.stun_types.specs.Walk.{Member}
+use Rattle.stun_auth.specs.Reading.{is_integrity, last_of}
+use Rattle.stun_auth.specs.declared.reading.LastAttributes.{LastAttributes}
+use Rattle.stun_auth.specs.code.LastAttributes.{last_attributes, with_attribute}
 
 -- one member more is passed
 pub last_of-passed : (matches : Bool) (m : Member) (rest : Option Member) (found : Option TypedValue)
@@ -15,3 +20,76 @@ last_of-passed matches m (Some other) found = refl
 pub is_some-cond : {X : Type 0} (b : Bool) (x : X) → is_some (cond b (Some x) None) ≡ b
 is_some-cond true x = refl
 is_some-cond false x = refl
+
+found-passed : (matches : Bool) (m : Member) (rest : Option Member) (before : Bool) → (is_some (cond matches (Some m) rest) || before) ≡ (is_some rest || (matches || before))
+found-passed true m None before = refl
+found-passed true m (Some other) before = refl
+found-passed false m None before = refl
+found-passed false m (Some other) before = refl
+
+-- what was noted, with the members that are left: the last of each type is among them, or else was noted before
+abbrev pub noted_from : LastAttributes → List Member → LastAttributes
+noted_from last members = record {
+  error_code = option_or (option_map (λ m. m.1) (last_of ERROR_CODE members)) last.error_code;
+  realm = option_or (option_map (λ m. m.1) (last_of REALM members)) last.realm;
+  nonce = option_or (option_map (λ m. m.1) (last_of NONCE members)) last.nonce;
+  username = option_or (option_map (λ m. m.1) (last_of USERNAME members)) last.username;
+  userhash = option_or (option_map (λ m. m.1) (last_of USERHASH members)) last.userhash;
+  password_algorithms = option_or (option_map (λ m. m.1) (last_of PASSWORD_ALGORITHMS members)) last.password_algorithms;
+  password_algorithm = option_or (option_map (λ m. m.1) (last_of PASSWORD_ALGORITHM members)) last.password_algorithm;
+  has_integrity = is_some (find (λ m. is_integrity m.1) members) || last.has_integrity;
+}
+
+passed : (kind : ℕ) (m : Member) (members : List Member) (found : Option TypedValue)
+    → option_or (option_map (λ x. x.1) (last_of kind (m ∷ members))) found ≡ option_or (option_map (λ x. x.1) (last_of kind members)) (cond (m.1.kind == kind) (Some m.1) found)
+passed kind m members found = last_of-passed (m.1.kind == kind) m (last_of kind members) found
+
+pub noted-passed : (last : LastAttributes) (m : Member) (members : List Member) → noted_from last (m ∷ members) ≡ noted_from (with_attribute last m.1) members
+noted-passed last m members = λ i. record {
+  error_code = passed ERROR_CODE m members last.error_code i;
+  realm = passed REALM m members last.realm i;
+  nonce = passed NONCE m members last.nonce i;
+  username = passed USERNAME m members last.username i;
+  userhash = passed USERHASH m members last.userhash i;
+  password_algorithms = passed PASSWORD_ALGORITHMS m members last.password_algorithms i;
+  password_algorithm = passed PASSWORD_ALGORITHM m members last.password_algorithm i;
+  has_integrity = found-passed (is_integrity m.1) m (find (λ x. is_integrity x.1) members) last.has_integrity i;
+}
+
+or_none : {X : Type 0} (o : Option X) → option_or o None ≡ o
+or_none None = refl
+or_none (Some x) = refl
+
+or_false : (b : Bool) → (b || false) ≡ b
+or_false true = refl
+or_false false = refl
+
+abbrev pub nothing_noted : LastAttributes
+nothing_noted = record {
+  error_code = None;
+  realm = None;
+  nonce = None;
+  username = None;
+  userhash = None;
+  password_algorithms = None;
+  password_algorithm = None;
+  has_integrity = false;
+}
+
+-- before the first member nothing is noted
+pub noted-first : (members : List Member) → noted_from nothing_noted members ≡ last_attributes members
+noted-first members = λ i. record {
+  error_code = or_none (option_map (λ m. m.1) (last_of ERROR_CODE members)) i;
+  realm = or_none (option_map (λ m. m.1) (last_of REALM members)) i;
+  nonce = or_none (option_map (λ m. m.1) (last_of NONCE members)) i;
+  username = or_none (option_map (λ m. m.1) (last_of USERNAME members)) i;
+  userhash = or_none (option_map (λ m. m.1) (last_of USERHASH members)) i;
+  password_algorithms = or_none (option_map (λ m. m.1) (last_of PASSWORD_ALGORITHMS members)) i;
+  password_algorithm = or_none (option_map (λ m. m.1) (last_of PASSWORD_ALGORITHM members)) i;
+  has_integrity = or_false (is_some (find (λ m. is_integrity m.1) members)) i;
+}
+
+-- reading the attribute of a member
+pub and_then-map : {X Y Z : Type 0} (f : Y → Option Z) (g : X → Y) (o : Option X) → option_and_then f (option_map g o) ≡ option_and_then (λ x. f (g x)) o
+and_then-map f g None = refl
+and_then-map f g (Some x) = refl

@@ -17,9 +17,6 @@ use Rattle.stun_auth.specs.Server.{Sight, standing, standing_of, stands_at}
 use Rattle.stun_auth.specs.Validation.{ChangesNothing, ServerSeen, sight, with_accepted, put_place, needs_nonce, after_message, verdict_at}
 use Rattle.stun_auth.specs.declared.server_reason.LongTermServerAuthErrorReason.{LongTermServerAuthErrorReason}
 use Rattle.stun_auth.specs.declared.server_reason.LongTermServerAuthErrorReason.TheVariants.{Unauthorized, IntegrityFailed, UnsupportedFeature, BadRequest, StaleNonce, OutOfMemory}
-use Rattle.stun_auth.specs.code.VerdictSteps.{answered, place_left}
-use Rattle.stun_auth.specs.declared.server.validation.Acceptance.{Acceptance}
-use Rattle.stun_auth.specs.declared.server.validation.Acceptance.TheVariants.{Known, New}
 use Rattle.stun_auth.specs.Nonces.{nonce_of}
 use Rattle.std.specs.declared.result.Result.{Result}
 use Rattle.std.specs.declared.result.Result.TheVariants.{Ok, Err}
@@ -71,19 +68,6 @@ after_needless s from now words r h =
     ap (λ m. record s { places = m }) (sym (put_place-same s.places from))
     ∙ ap (λ b. record s { places = put_place s.places from (cond b (Some left) (fin.get s.places from)) }) (sym h)
 
-not_standing : (o : Option PlaceSeen) (nonce : List ℕ) (now end : ℕ) → stands_at now o ≡ false → standing_of o nonce now end ≡ renewed o nonce end None
-not_standing None nonce now end h = refl
-not_standing (Some p) nonce now end h = ap (λ b. cond b p (renewed (Some p) nonce end None)) h
-
--- a message that needs a nonce where none stands leaves the renewed place
-pub after_renewal : (s : ServerSeen) (from : SocketAddr) (now : ℕ) (words : List ℕ) (r : Reading) (nonce : List ℕ) → needs_nonce r ≡ true → stands_at now (fin.get s.places from) ≡ false → nonce ≡ nonce_of s.registered.algorithms s.feature words → record s { places = fin.insert s.places from (with_accepted (renewed (fin.get s.places from) nonce (moment_after now s.expiry) None) (verdict_at (sight s from) (renewed (fin.get s.places from) nonce (moment_after now s.expiry) None) r)) } ≡ after_message s from now words r
-after_renewal s from now words r nonce needs expired made =
-    let at : PlaceSeen → PlaceSeen = λ place. with_accepted place (verdict_at (sight s from) place r) in
-    let o = fin.get s.places from in
-    ap (λ n. record s { places = fin.insert s.places from (at (renewed o n (moment_after now s.expiry) None)) }) made
-    ∙ ap (λ place. record s { places = fin.insert s.places from (at place) }) (sym (not_standing o (nonce_of s.registered.algorithms s.feature words) now (moment_after now s.expiry) expired))
-    ∙ ap (λ b. record s { places = put_place s.places from (cond b (Some (at (standing (sight s from) now words))) o) }) (sym needs)
-
 -- ---- messages that change nothing
 
 needed-false : (needed : Bool) → (needed && false) ≡ false
@@ -120,22 +104,3 @@ pub repeated-unchanged : (s : Sight) (now : ℕ) (words : List ℕ) (r : Reading
     → verdict_at s place r ≡ Ok client → place.client ≡ Some client → ChangesNothing s now words r
 repeated-unchanged s now words r place client there stands accepted known =
     kept-unchanged s now words r place there stands (ap (with_accepted place) accepted ∙ ap (λ c. record place { client = c }) (sym known))
-
--- ---- what a message came to at a place
-
-pub of-some : {V : Type 0} (v w : V) → Some v ≡ Some w → v ≡ w
-of-some v w is = cc
-
--- what a message came to at a place is put there, unless memory ran out
-pub settled : {A : Type 0} (X : Type 0) (s new : ServerSeen) (from : SocketAddr) (place w : PlaceSeen) (judged : Result (Acceptance A) LongTermServerAuthErrorReason)
-    → new ≡ record s { places = fin.insert s.places from (place_left place judged) } → fin.get s.places from ≡ Some place
-    → OrMemory judged (X × (place_left place judged ≡ w)) ⊤
-    → OrMemory (answered judged) (new ≡ record s { places = fin.insert s.places from w }) (new ≡ s)
-settled X s new from place w (Ok (Known a)) is here left = is ∙ ap (λ p. record s { places = fin.insert s.places from p }) left.1
-settled X s new from place w (Ok (New client)) is here left = is ∙ ap (λ p. record s { places = fin.insert s.places from p }) left.1
-settled X s new from place w (Err Unauthorized) is here left = is ∙ ap (λ p. record s { places = fin.insert s.places from p }) left.1
-settled X s new from place w (Err IntegrityFailed) is here left = is ∙ ap (λ p. record s { places = fin.insert s.places from p }) left.1
-settled X s new from place w (Err UnsupportedFeature) is here left = is ∙ ap (λ p. record s { places = fin.insert s.places from p }) left.1
-settled X s new from place w (Err BadRequest) is here left = is ∙ ap (λ p. record s { places = fin.insert s.places from p }) left.1
-settled X s new from place w (Err StaleNonce) is here left = is ∙ ap (λ p. record s { places = fin.insert s.places from p }) left.1
-settled X s new from place w (Err OutOfMemory) is here left = is ∙ ap (λ m. record s { places = m }) (insert-same s.places from place here)

@@ -22,7 +22,8 @@ use Rattle.stun_auth.specs.Reading.{Reading, stands_under}
 use Rattle.stun_auth.specs.Registered.{Registered, key_of, name_with_hash, user_named, user_with_hash}
 use Rattle.stun_auth.specs.Seen.{ClientSeen}
 use Rattle.stun_auth.specs.Server.{agreed, client_of, named, named_by, nonce_refusal, or_refused, proven, stands_for, their_nonce, verdict}
-use Rattle.stun_auth.specs.code.VerdictSteps.{by_attributes, by_choice, by_name, by_steps, name_by, name_in}
+use Rattle.stun_auth.specs.code.Judging.{name_by, name_in}
+use Rattle.stun_auth.proofs.VerdictSteps.{by_attributes, by_choice, by_name, by_steps}
 
 -- ---- lists of password algorithms
 

@@ -7,8 +7,11 @@ pub mod Client
 pub mod ClientKept
 pub mod ClientStep
 pub mod Feature
+pub mod Judging
+pub mod LastAttributes
 pub mod NameIndex
 pub mod Places
+pub mod ReadingSeen
 pub mod Reasons
 pub mod Registered
 pub mod Seen
@@ -16,4 +19,3 @@ pub mod ShortTermKept
 pub mod Supported
 pub mod Users
 pub mod Validation
-pub mod VerdictSteps

@@ -3,6 +3,7 @@ ghost use Rattle.std.specs.Prelude.{◌≡◌, ◌∷◌, [], Some, OnErr, map, 
 ghost use Rattle.stun_auth.specs.Reading.{reading_of};
 ghost use Rattle.stun_auth.specs.Client.{new_client};
 ghost use Rattle.stun_auth.specs.ClientStep.{IsResend, OrMemory, after_challenge, after_digest, after_stale, client_step, is_authenticated, is_code, is_repeated, reason_of, standing_digest, taken_up};
+ghost use Rattle.stun_auth.specs.code.ReadingSeen.{reading_seen};
 ghost use Rattle.stun_auth.specs.code.ClientKept.{challenge_seen, offer_seen, state_seen};
 ghost use Rattle.stun_auth.specs.Supported.{added};
 ghost use Rattle.stun_auth.specs.code.Supported.{in_order};
@@ -14,7 +15,7 @@ use crate::client_answer::{
     LongTermClientAuthError, LongTermClientAuthErrorReason, LongTermClientValidation,
 };
 use crate::feature::Feature;
-use crate::reading;
+use crate::reading::Reading;
 use crate::supported::Supported;
 use std::alloc::{Allocator, Global};
 use std::marker::Model;
@@ -180,13 +181,13 @@ impl<A: Allocator> LongTermClientAuth<A> {
     }
 
     /// The algorithm whose digest stands under the kept key.
-    fn standing_digest(&self, message: &Message) -> Option<IntegrityAlgorithm>
-        ensures { result ≡ standing_digest self.now.state (reading_of message.now) }
+    fn standing_digest(&self, reading: &Reading<'_, '_>) -> Option<IntegrityAlgorithm>
+        ensures { result ≡ standing_digest self.now.state (reading_seen reading.now) }
     {
         match &self.state {
             State::Initial => None,
-            State::Authenticating(kept) => reading::stands_under(message, &kept.key),
-            State::Authenticated(kept) => reading::stands_under(message, &kept.key),
+            State::Authenticating(kept) => reading.stands_under(&kept.key),
+            State::Authenticated(kept) => reading.stands_under(&kept.key),
         }
     }
 
@@ -204,23 +205,23 @@ impl<A: Allocator> LongTermClientAuth<A> {
     }
 
     /// The challenge that a message brings, or the reason to refuse it.
-    fn offer<'a, 'm>(&'a self, message: &Message<'m>) -> Result<Offer<'a, 'm>, Refusal>
-        ensures { offer_seen self.now.settings.feature result ≡ taken_up self.now.settings self.now.state self.now.settings.credentials
-            (reading_of message.now).realm (reading_of message.now).nonce (reading_of message.now).algorithms }
+    fn offer<'a, 'm>(&'a self, reading: Reading<'m, '_>) -> Result<Offer<'a, 'm>, Refusal>
+        ensures { let r = reading_seen reading.entry in
+            offer_seen self.now.settings.feature result ≡ taken_up self.now.settings self.now.state self.now.settings.credentials r.realm r.nonce r.algorithms }
     {
         let Some(user) = &self.credentials else {
             return Err(Refusal::Unauthorized);
         };
-        let Some(realm) = reading::realm(message) else {
+        let Some(realm) = reading.realm else {
             return Err(Refusal::Unauthorized);
         };
-        let Some(nonce) = reading::nonce(message) else {
+        let Some(nonce) = reading.nonce else {
             return Err(Refusal::Unauthorized);
         };
         if self.is_repeated(realm, nonce) {
             return Err(Refusal::Unauthorized);
         }
-        let list = reading::algorithms(message);
+        let list = reading.algorithms;
         match choose(self.supported, self.feature, nonce, &list) {
             Err(refusal) => Err(refusal),
             Ok(algorithm) => Ok(Offer {
@@ -276,32 +277,32 @@ impl<A: Allocator + Copy> LongTermClientAuth<A> {
             (self.new ≡ self.old) }
         ensures refused { OnErr result (self.new ≡ self.old) }
     {
-        let digest = self.standing_digest(message);
-        let error = reading::error(message);
-        if is_code(ErrorCode::UNAUTHORIZED, error) && !self.is_authenticated() {
-            return self.take_up(message, digest);
+        let reading = Reading::of(message);
+        let digest = self.standing_digest(&reading);
+        if is_code(ErrorCode::UNAUTHORIZED, reading.error) && !self.is_authenticated() {
+            return self.take_up(reading, digest);
         }
-        if is_code(ErrorCode::STALE_NONCE, error) {
-            return self.renew(message, digest);
+        if is_code(ErrorCode::STALE_NONCE, reading.error) {
+            return self.renew(&reading, digest);
         }
-        self.settle(reading::is_success(message), digest)
+        self.settle(reading.is_success(), digest)
     }
 
     /// Takes up a challenge.
     fn take_up(
         &mut self,
-        message: &Message,
+        reading: Reading<'_, '_>,
         digest: Option<IntegrityAlgorithm>,
     ) -> Result<LongTermClientValidation, LongTermClientAuthError>
-        ensures answer { let step = after_challenge self.old.state digest (taken_up self.old.settings self.old.state self.old.settings.credentials
-            (reading_of message.now).realm (reading_of message.now).nonce (reading_of message.now).algorithms) in
+        ensures answer { let r = reading_seen reading.entry in
+            let step = after_challenge self.old.state digest (taken_up self.old.settings self.old.state self.old.settings.credentials r.realm r.nonce r.algorithms) in
             OrMemory result (result ≡ step.answer) (IsResend step.answer) }
-        ensures state { let step = after_challenge self.old.state digest (taken_up self.old.settings self.old.state self.old.settings.credentials
-            (reading_of message.now).realm (reading_of message.now).nonce (reading_of message.now).algorithms) in
+        ensures state { let r = reading_seen reading.entry in
+            let step = after_challenge self.old.state digest (taken_up self.old.settings self.old.state self.old.settings.credentials r.realm r.nonce r.algorithms) in
             OrMemory result (self.new ≡ record self.old { state = step.state }) (self.new ≡ self.old) }
         ensures refused { OnErr result (self.new ≡ self.old) }
     {
-        let kept = match self.offer(message) {
+        let kept = match self.offer(reading) {
             Err(refusal) => return Err(refused(refusal)),
             Ok(offer) => offer.kept(self.alloc, self.feature),
         };
@@ -317,19 +318,19 @@ impl<A: Allocator + Copy> LongTermClientAuth<A> {
     /// Takes the realm and nonce that come with a stale nonce.
     fn renew(
         &mut self,
-        message: &Message,
+        reading: &Reading<'_, '_>,
         digest: Option<IntegrityAlgorithm>,
     ) -> Result<LongTermClientValidation, LongTermClientAuthError>
-        ensures answer { let step = after_stale self.old.state digest (reading_of message.now).realm (reading_of message.now).nonce in
+        ensures answer { let step = after_stale self.old.state digest (reading_seen reading.now).realm (reading_seen reading.now).nonce in
             OrMemory result (result ≡ step.answer) (IsResend step.answer) }
-        ensures state { let step = after_stale self.old.state digest (reading_of message.now).realm (reading_of message.now).nonce in
+        ensures state { let step = after_stale self.old.state digest (reading_seen reading.now).realm (reading_seen reading.now).nonce in
             OrMemory result (self.new ≡ record self.old { state = step.state }) (self.new ≡ self.old) }
         ensures refused { OnErr result (self.new ≡ self.old) }
     {
-        let Some(realm) = reading::realm(message) else {
+        let Some(realm) = reading.realm else {
             return self.settle(false, digest);
         };
-        let Some(nonce) = reading::nonce(message) else {
+        let Some(nonce) = reading.nonce else {
             return self.settle(false, digest);
         };
         let Ok(realm) = String::from_str(self.alloc, realm) else {

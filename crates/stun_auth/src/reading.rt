@@ -1,71 +1,105 @@
-//! What an authenticator reads of a message: the last visible attribute of each kind, where it is well formed.
+//! What an authenticator reads of a message, in one walk: the last visible attribute of each kind, where it is well formed.
 //!
-//! Nothing here takes memory.
+//! Nothing here allocates.
 
 ghost use Rattle.std.specs.Prelude.{◌≡◌, Option, map};
-ghost use Rattle.std.specs.List.{find};
-ghost use Rattle.std.specs.Option.{is_some, option_copied, option_map};
-ghost use Rattle.stun_types.specs.Integrity.{stands as stands_in};
-ghost use Rattle.stun_types.specs.PasswordAlgorithms.{integrity_of};
+ghost use Rattle.std.specs.Option.{is_some, option_and_then, option_copied, option_map};
+ghost use Rattle.stun_base.specs.Attributes.{NONCE, REALM, USERNAME};
+ghost use Rattle.stun_types.specs.ErrorCode.{CodeAndReason, error_of};
+ghost use Rattle.stun_types.specs.PasswordAlgorithms.{algorithm_of, algorithms_of, integrity_of};
+ghost use Rattle.stun_types.specs.Text.{text_of};
+ghost use Rattle.stun_types.specs.Userhash.{hash_of};
 ghost use Rattle.stun_types.specs.Visible.{visible};
-ghost use Rattle.stun_auth.specs.Reading.{class_in, error_code as error_code_in, has_integrity as has_integrity_in, is_error, is_integrity, is_response, is_success, last as last_in, last_of as last_member_of, reading_of, stands_under};
+ghost use Rattle.stun_auth.specs.Reading.{is_response, is_success, reading_of, stands_under};
+ghost use Rattle.stun_auth.specs.Validation.{is_complete, is_malformed};
+ghost use Rattle.stun_auth.specs.code.LastAttributes.{last_attributes, with_attribute};
+ghost use Rattle.stun_auth.specs.code.ReadingSeen.{error_in, reading_seen};
 
 use std::alloc::Allocator;
 use stun_base::algorithm::IntegrityAlgorithm;
 use stun_base::key::IntegrityKey;
 use stun_types::attribute::{
-    AttributeType, ErrorCode, MessageIntegrity, MessageIntegritySha256, Nonce, PasswordAlgorithm,
-    PasswordAlgorithms, RawAttribute, Realm, Userhash, Username,
+    AttributeType, ErrorCode, Nonce, PasswordAlgorithm, PasswordAlgorithms, RawAttribute, Realm,
+    Userhash, Username,
 };
 use stun_types::message::{Message, MessageClass};
-use stun_types::prelude::{AttributeFromRaw, AttributeStaticType};
+use stun_types::prelude::AttributeFromRaw;
 
-/// The last visible attribute of a type.
-fn last_of<'a>(message: &Message<'a>, kind: AttributeType) -> Option<RawAttribute<'a>>
-    ensures { result ≡ option_map (λ m. m.1) (last_member_of kind.0 (visible message.now)) }
-{
-    let mut last = None;
-    for (_, attribute) in message.iter_attributes() {
-        if attribute.get_type() == kind {
-            last = Some(attribute);
-        }
-    }
-    last
+/// The last visible attribute of each type that is read, and whether a well-formed integrity attribute is visible.
+#[derive(Drop)]
+struct LastAttributes<'a> {
+    error_code: Option<RawAttribute<'a>>,
+    realm: Option<RawAttribute<'a>>,
+    nonce: Option<RawAttribute<'a>>,
+    username: Option<RawAttribute<'a>>,
+    userhash: Option<RawAttribute<'a>>,
+    password_algorithms: Option<RawAttribute<'a>>,
+    password_algorithm: Option<RawAttribute<'a>>,
+    has_integrity: bool,
 }
 
-/// The last visible attribute of its type, read.
-fn last<'a, A: AttributeFromRaw<'a> + AttributeStaticType>(message: &Message<'a>) -> Option<A>
-    ensures { result ≡ last_in A.reading A.static_kind message.now }
+impl<'a> LastAttributes<'a> {
+    /// Those of a message, in one walk of it.
+    fn of(message: &Message<'a>) -> Self
+        ensures { result ≡ last_attributes (visible message.now) }
+    {
+        let mut last = LastAttributes {
+            error_code: None,
+            realm: None,
+            nonce: None,
+            username: None,
+            userhash: None,
+            password_algorithms: None,
+            password_algorithm: None,
+            has_integrity: false,
+        };
+        for (_, attribute) in message.iter_attributes() {
+            last.note(attribute);
+        }
+        last
+    }
+
+    /// Takes one attribute more, which is then the last of its type.
+    fn note(&mut self, attribute: RawAttribute<'a>)
+        ensures { self.new ≡ with_attribute self.old attribute.entry }
+    {
+        let kind = attribute.get_type();
+        if kind == AttributeType::USERNAME {
+            self.username = Some(attribute);
+        } else if kind == AttributeType::REALM {
+            self.realm = Some(attribute);
+        } else if kind == AttributeType::NONCE {
+            self.nonce = Some(attribute);
+        } else if kind == AttributeType::USERHASH {
+            self.userhash = Some(attribute);
+        } else if kind == AttributeType::PASSWORD_ALGORITHM {
+            self.password_algorithm = Some(attribute);
+        } else if kind == AttributeType::PASSWORD_ALGORITHMS {
+            self.password_algorithms = Some(attribute);
+        } else if kind == AttributeType::ERROR_CODE {
+            self.error_code = Some(attribute);
+        } else if attribute.is_integrity() {
+            self.has_integrity = true;
+        }
+    }
+}
+
+/// What an attribute reads as, where it is there and well formed.
+fn read<'a, A: AttributeFromRaw<'a>>(attribute: Option<RawAttribute<'a>>) -> Option<A>
+    ensures { result ≡ option_and_then A.reading attribute.entry }
 {
-    match last_of(message, A::static_type()) {
+    match attribute {
         Some(attribute) => A::from_raw(attribute).ok(),
         None => None,
     }
 }
 
-/// Whether the message is a response.
-#[tactic(auto, unfolding(crate::specs::Reading::reading_of))]
-pub(crate) fn is_response(message: &Message<'_>) -> bool
-    ensures { result ≡ is_response (reading_of message.now).class }
-{
-    matches!(message.class(), MessageClass::Success | MessageClass::Error)
-}
-
-/// Whether the message is a success response.
-#[tactic(auto, unfolding(crate::specs::Reading::reading_of))]
-pub(crate) fn is_success(message: &Message<'_>) -> bool
-    ensures { result ≡ is_success (reading_of message.now).class }
-{
-    matches!(message.class(), MessageClass::Success)
-}
-
 /// The code of an error response.
-#[tactic(auto, unfolding(crate::specs::Reading::reading_of))]
-pub(crate) fn error(message: &Message<'_>) -> Option<u16>
-    ensures { result ≡ (reading_of message.now).error }
+fn error(class: MessageClass, attribute: Option<RawAttribute<'_>>) -> Option<u16>
+    ensures { result ≡ error_in class attribute.entry }
 {
-    match message.class() {
-        MessageClass::Error => match last::<ErrorCode<'_>>(message) {
+    match class {
+        MessageClass::Error => match read::<ErrorCode<'_>>(attribute) {
             Some(error) => Some(error.code()),
             None => None,
         },
@@ -73,115 +107,138 @@ pub(crate) fn error(message: &Message<'_>) -> Option<u16>
     }
 }
 
-/// The realm.
-#[tactic(auto, unfolding(crate::specs::Reading::reading_of))]
-pub(crate) fn realm<'a>(message: &Message<'a>) -> Option<&'a str>
-    ensures { option_copied result ≡ (reading_of message.now).realm }
+/// The text of a REALM.
+fn realm<'a>(attribute: Option<RawAttribute<'a>>) -> Option<&'a str>
+    ensures { option_copied result ≡ option_and_then (text_of REALM 763) attribute.entry }
 {
-    match last::<Realm<'a>>(message) {
+    match read::<Realm<'a>>(attribute) {
         Some(realm) => Some(realm.realm()),
         None => None,
     }
 }
 
-/// The nonce.
-#[tactic(auto, unfolding(crate::specs::Reading::reading_of))]
-pub(crate) fn nonce<'a>(message: &Message<'a>) -> Option<&'a str>
-    ensures { option_copied result ≡ (reading_of message.now).nonce }
+/// The text of a NONCE.
+fn nonce<'a>(attribute: Option<RawAttribute<'a>>) -> Option<&'a str>
+    ensures { option_copied result ≡ option_and_then (text_of NONCE 763) attribute.entry }
 {
-    match last::<Nonce<'a>>(message) {
+    match read::<Nonce<'a>>(attribute) {
         Some(nonce) => Some(nonce.nonce()),
         None => None,
     }
 }
 
-/// The user name.
-#[tactic(auto, unfolding(crate::specs::Reading::reading_of))]
-pub(crate) fn username<'a>(message: &Message<'a>) -> Option<&'a str>
-    ensures { option_copied result ≡ (reading_of message.now).username }
+/// The text of a USERNAME.
+fn username<'a>(attribute: Option<RawAttribute<'a>>) -> Option<&'a str>
+    ensures { option_copied result ≡ option_and_then (text_of USERNAME 513) attribute.entry }
 {
-    match last::<Username<'a>>(message) {
+    match read::<Username<'a>>(attribute) {
         Some(username) => Some(username.username()),
         None => None,
     }
 }
 
-/// The hash of the user name.
-#[tactic(auto, unfolding(crate::specs::Reading::reading_of))]
-pub(crate) fn userhash(message: &Message<'_>) -> Option<[u8; 32]>
-    ensures { result ≡ (reading_of message.now).userhash }
+/// The hash of a USERHASH.
+fn userhash(attribute: Option<RawAttribute<'_>>) -> Option<[u8; 32]>
+    ensures { result ≡ option_and_then hash_of attribute.entry }
 {
-    match last::<Userhash>(message) {
+    match read::<Userhash>(attribute) {
         Some(userhash) => Some(*userhash.hash()),
         None => None,
     }
 }
 
-/// The list of password algorithms.
-#[tactic(auto, unfolding(crate::specs::Reading::reading_of))]
-pub(crate) fn algorithms<'a>(message: &Message<'a>) -> Option<PasswordAlgorithms<'a>>
-    ensures { option_map (map integrity_of) result ≡ (reading_of message.now).algorithms }
-{
-    last::<PasswordAlgorithms<'a>>(message)
-}
-
 /// The algorithm whose key the chosen password algorithm makes.
-#[tactic(auto, unfolding(crate::specs::Reading::reading_of))]
-pub(crate) fn algorithm(message: &Message<'_>) -> Option<IntegrityAlgorithm>
-    ensures { result ≡ (reading_of message.now).algorithm }
+fn algorithm(attribute: Option<RawAttribute<'_>>) -> Option<IntegrityAlgorithm>
+    ensures { result ≡ option_map integrity_of (option_and_then algorithm_of attribute.entry) }
 {
-    match last::<PasswordAlgorithm>(message) {
+    match read::<PasswordAlgorithm>(attribute) {
         Some(chosen) => Some(chosen.algorithm().as_integrity()),
         None => None,
     }
 }
 
-/// Whether an attribute is a well-formed MESSAGE-INTEGRITY or MESSAGE-INTEGRITY-SHA256.
-fn is_integrity(attribute: &RawAttribute<'_>) -> bool
-    ensures { result ≡ is_integrity attribute.now }
-{
-    let kind = attribute.get_type();
-    let length = attribute.length();
-    if kind == AttributeType::MESSAGE_INTEGRITY_SHA256 {
-        length >= 16 && length <= 32 && length % 4 == 0
-    } else {
-        kind == AttributeType::MESSAGE_INTEGRITY && length == 20
+/// What is read of a message (RFC 8489, sections 9.2.4 and 9.2.5): each attribute is its last visible one, where that is well
+/// formed. It borrows the message.
+#[derive(Drop)]
+pub(crate) struct Reading<'a, 'm> {
+    message: &'m Message<'a>,
+    class: MessageClass,
+    /// The code of an error response.
+    pub(crate) error: Option<u16>,
+    pub(crate) realm: Option<&'a str>,
+    pub(crate) nonce: Option<&'a str>,
+    pub(crate) username: Option<&'a str>,
+    pub(crate) userhash: Option<[u8; 32]>,
+    /// The list of password algorithms.
+    pub(crate) algorithms: Option<PasswordAlgorithms<'a>>,
+    /// The algorithm whose key the chosen password algorithm makes.
+    pub(crate) algorithm: Option<IntegrityAlgorithm>,
+    /// Whether a well-formed integrity attribute is visible.
+    pub(crate) has_integrity: bool,
+}
+
+impl<'a, 'm> Reading<'a, 'm> {
+    /// Reads a message, in one walk of its attributes.
+    #[tactic(auto, unfolding(crate::specs::Reading::reading_of))]
+    pub(crate) fn of(message: &'m Message<'a>) -> Self
+        ensures { reading_seen result ≡ reading_of message.now }
+    {
+        let last = LastAttributes::of(message);
+        let class = message.class();
+        Reading {
+            message,
+            class,
+            error: error(class, last.error_code),
+            realm: realm(last.realm),
+            nonce: nonce(last.nonce),
+            username: username(last.username),
+            userhash: userhash(last.userhash),
+            algorithms: read::<PasswordAlgorithms<'a>>(last.password_algorithms),
+            algorithm: algorithm(last.password_algorithm),
+            has_integrity: last.has_integrity,
+        }
     }
-}
 
-/// The first well-formed visible integrity attribute, with its place.
-fn first_integrity<'a>(message: &Message<'a>) -> Option<(usize, RawAttribute<'a>)>
-    ensures { result ≡ find (λ m. is_integrity m.1) (visible message.now) }
-{
-    message
-        .iter_attributes()
-        .find(|found| is_integrity(&found.1))
-}
-
-/// Whether the message has a well-formed visible integrity attribute.
-fn shows_integrity(message: &Message<'_>) -> bool
-    ensures { result ≡ has_integrity_in message.now }
-{
-    first_integrity(message).is_some()
-}
-
-/// Whether the message has a well-formed visible integrity attribute.
-pub(crate) fn has_integrity(message: &Message<'_>) -> bool
-    ensures { result ≡ is_some (reading_of message.now).integrity }
-{
-    shows_integrity(message)
-}
-
-/// The algorithm whose digest stands under a key.
-#[tactic(auto, unfolding(crate::specs::Reading::reading_of))]
-pub(crate) fn stands_under<A: Allocator>(
-    message: &Message<'_>,
-    key: &IntegrityKey<A>,
-) -> Option<IntegrityAlgorithm>
-    ensures { result ≡ stands_under (reading_of message.now) key.now }
-{
-    if !shows_integrity(message) {
-        return None;
+    /// Whether it is of a response.
+    pub(crate) fn is_response(&self) -> bool
+        ensures { result ≡ is_response (reading_seen self.now).class }
+    {
+        matches!(self.class, MessageClass::Success | MessageClass::Error)
     }
-    message.validate_integrity_with_key(key).ok()
+
+    /// Whether it is of a success response.
+    pub(crate) fn is_success(&self) -> bool
+        ensures { result ≡ is_success (reading_seen self.now).class }
+    {
+        matches!(self.class, MessageClass::Success)
+    }
+
+    /// Whether REALM, NONCE and a name are there.
+    pub(crate) fn is_complete(&self) -> bool
+        ensures { result ≡ is_complete (reading_seen self.now) }
+    {
+        self.realm.is_some()
+            && self.nonce.is_some()
+            && (self.userhash.is_some() || self.username.is_some())
+    }
+
+    /// Whether integrity is there, and one of REALM, NONCE and the name is not.
+    pub(crate) fn is_malformed(&self) -> bool
+        ensures { result ≡ is_malformed (reading_seen self.now) }
+    {
+        self.has_integrity && !self.is_complete()
+    }
+
+    /// The algorithm whose digest verifies under a key.
+    pub(crate) fn stands_under<A: Allocator>(
+        &self,
+        key: &IntegrityKey<A>,
+    ) -> Option<IntegrityAlgorithm>
+        ensures { result ≡ stands_under (reading_seen self.now) key.now }
+    {
+        if !self.has_integrity {
+            return None;
+        }
+        self.message.validate_integrity_with_key(key).ok()
+    }
 }

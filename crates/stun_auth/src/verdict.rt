@@ -4,44 +4,26 @@ ghost use Rattle.std.specs.Prelude.{◌≡◌, Option, None, Some, map};
 ghost use Rattle.std.specs.Option.{option_copied};
 ghost use Rattle.stun_auth.specs.Algorithms.{has as is_among, offered_list, same_list};
 ghost use Rattle.stun_auth.specs.Nonces.{security_bits};
-ghost use Rattle.stun_auth.specs.Reading.{reading_of};
 ghost use Rattle.stun_auth.specs.Server.{agreed, bits_differ, nonce_refusal, verdict};
-ghost use Rattle.stun_auth.specs.code.VerdictSteps.{by_steps, judged, name_in};
-ghost use Rattle.stun_auth.specs.Validation.{is_complete, is_malformed};
+ghost use Rattle.stun_auth.specs.code.Judging.{judged, name_in};
+ghost use Rattle.stun_auth.specs.code.ReadingSeen.{reading_seen};
 ghost use Rattle.stun_types.specs.PasswordAlgorithms.{integrity_of};
 
 use crate::algorithm_set::AlgorithmSet;
 use crate::feature::Feature;
 use crate::nonce::{NonceSecurityBits, asks_for_algorithms};
-use crate::reading;
+use crate::reading::Reading;
 use crate::registry::Registry;
 use crate::server_reason::Refusal;
 use std::alloc::Allocator;
 use stun_base::algorithm::IntegrityAlgorithm;
 use stun_types::attribute::{PasswordAlgorithmValue, PasswordAlgorithms};
-use stun_types::message::Message;
 
 /// Who is accepted.
 #[derive(Clone, Copy)]
 pub(crate) struct Accepted<'a> {
     pub(crate) name: &'a str,
     pub(crate) algorithm: IntegrityAlgorithm,
-}
-
-/// Whether REALM, NONCE and a name are there.
-fn is_complete(message: &Message<'_>) -> bool
-    ensures { result ≡ is_complete (reading_of message.now) }
-{
-    reading::realm(message).is_some()
-        && reading::nonce(message).is_some()
-        && (reading::userhash(message).is_some() || reading::username(message).is_some())
-}
-
-/// Whether integrity is there, and one of REALM, NONCE and the name is not.
-pub(crate) fn is_malformed(message: &Message<'_>) -> bool
-    ensures { result ≡ is_malformed (reading_of message.now) }
-{
-    reading::has_integrity(message) && !is_complete(message)
 }
 
 /// The password algorithms that were offered, the strongest first.
@@ -73,24 +55,24 @@ fn is_offered(algorithm: IntegrityAlgorithm, offered: Option<AlgorithmSet>) -> b
 
 /// The algorithm that both sides mean.
 fn agreed(
-    message: &Message<'_>,
+    reading: &Reading<'_, '_>,
     nonce: &str,
     offered: Option<AlgorithmSet>,
 ) -> Option<IntegrityAlgorithm>
-    ensures { result ≡ agreed (reading_of message.now) nonce.now offered }
+    ensures { result ≡ agreed (reading_seen reading.now) nonce.now offered }
 {
     if !asks_for_algorithms(nonce) {
         return Some(IntegrityAlgorithm::Sha1);
     }
-    match reading::algorithms(message) {
-        None => match reading::algorithm(message) {
+    match &reading.algorithms {
+        None => match reading.algorithm {
             None => Some(IntegrityAlgorithm::Sha1),
             Some(_) => None,
         },
-        Some(list) => match reading::algorithm(message) {
+        Some(list) => match reading.algorithm {
             None => None,
             Some(algorithm) => {
-                if is_offered_list(&list, offered) && is_offered(algorithm, offered) {
+                if is_offered_list(list, offered) && is_offered(algorithm, offered) {
                     Some(algorithm)
                 } else {
                     None
@@ -128,68 +110,56 @@ fn nonce_refusal(ours: &str, theirs: &str) -> Refusal
 fn name_in<'a, A: Allocator + Copy>(
     registry: &'a Registry<A>,
     feature: Feature,
-    message: &Message<'a>,
+    reading: &Reading<'a, '_>,
 ) -> Option<&'a str>
-    ensures { option_copied result ≡ name_in registry.now feature (reading_of message.now) }
+    ensures { option_copied result ≡ name_in registry.now feature (reading_seen reading.now) }
 {
-    match reading::userhash(message) {
+    match &reading.userhash {
         Some(hash) => {
             if feature.is_possible() {
-                registry.name_with_hash(&hash)
+                registry.name_with_hash(hash)
             } else {
                 None
             }
         }
-        None => reading::username(message),
+        None => reading.username,
     }
 }
 
-/// Who is accepted where this nonce stands and these algorithms were offered, or the first refusal that holds.
+/// Who is accepted where this nonce is current and these algorithms were offered, or the first refusal that holds.
 ///
-/// It takes no memory and derives no key.
+/// It does not allocate and derives no key.
 pub(crate) fn verdict<'a, A: Allocator + Copy>(
     registry: &'a Registry<A>,
     feature: Feature,
-    message: &Message<'a>,
+    reading: &Reading<'a, '_>,
     nonce: &str,
     offered: Option<AlgorithmSet>,
 ) -> Result<Accepted<'a>, Refusal>
-    ensures { judged result ≡ verdict registry.now feature nonce.now offered (reading_of message.now) }
+    ensures { judged result ≡ verdict registry.now feature nonce.now offered (reading_seen reading.now) }
 {
-    by_steps(registry, feature, message, nonce, offered)
-}
-
-fn by_steps<'a, A: Allocator + Copy>(
-    registry: &'a Registry<A>,
-    feature: Feature,
-    message: &Message<'a>,
-    nonce: &str,
-    offered: Option<AlgorithmSet>,
-) -> Result<Accepted<'a>, Refusal>
-    ensures { judged result ≡ by_steps registry.now feature nonce.now offered (reading_of message.now) }
-{
-    if !reading::has_integrity(message) {
+    if !reading.has_integrity {
         return Err(Refusal::Unauthorized);
     }
-    if !is_complete(message) {
+    if !reading.is_complete() {
         return Err(Refusal::BadRequest);
     }
-    let Some(theirs) = reading::nonce(message) else {
+    let Some(theirs) = reading.nonce else {
         return Err(Refusal::BadRequest);
     };
-    let Some(algorithm) = agreed(message, theirs, offered) else {
+    let Some(algorithm) = agreed(reading, theirs, offered) else {
         return Err(Refusal::BadRequest);
     };
     if theirs != nonce {
         return Err(nonce_refusal(nonce, theirs));
     }
-    let Some(name) = name_in(registry, feature, message) else {
+    let Some(name) = name_in(registry, feature, reading) else {
         return Err(Refusal::Unauthorized);
     };
     let Some(key) = registry.key(name, algorithm) else {
         return Err(Refusal::Unauthorized);
     };
-    match reading::stands_under(message, key) {
+    match reading.stands_under(key) {
         Some(_) => Ok(Accepted { name, algorithm }),
         None => Err(Refusal::Unauthorized),
     }

@@ -1,29 +1,28 @@
 //! How a server judges the messages that come to it (RFC 8489, section 9.2.4).
 
-ghost use Rattle.std.specs.Prelude.{◌≡◌, ⊤, Option, None, Some, IfOk, Ok, if◌then◌else◌, option_and_then};
+ghost use Rattle.std.specs.Prelude.{◌≡◌, ◌↔◌, ⊤, true, IsTrue, Option, None, Some, IfOk, IsOk, IfNone, Ok, if◌then◌else◌, option_and_then};
 ghost use Rattle.std.specs.FinMap as map;
-ghost use Rattle.std.specs.String.{string_bytes};
-ghost use Rattle.stun_base.specs.Moments.{moment_after};
+ghost use Rattle.std.specs.Option.{option_copied, option_map};
 ghost use Rattle.stun_base.specs.Words.{next_words, after_words};
 ghost use Rattle.stun_auth.specs.Reading.{reading_of};
-ghost use Rattle.stun_auth.specs.Seen.{PlaceSeen, renewed};
-ghost use Rattle.stun_auth.specs.Places.{with_change};
-ghost use Rattle.stun_auth.specs.code.Places.{place_seen};
+ghost use Rattle.stun_auth.specs.Seen.{PlaceSeen};
+ghost use Rattle.stun_auth.specs.code.Places.{client_seen, place_seen};
 ghost use Rattle.stun_auth.specs.Reasons.{OrMemory};
-ghost use Rattle.stun_auth.specs.Server.{stands_at, verdict};
-ghost use Rattle.stun_auth.specs.Validation.{ChangesNothing, ValidatesAccepted, after_message, answer, answer_to, client_verified, draws, sight, validated_or_failed, verdict_at, with_accepted};
-ghost use Rattle.stun_auth.specs.code.VerdictSteps.{answered, place_left, verdict_seen};
+ghost use Rattle.stun_auth.specs.Server.{stands_at};
+ghost use Rattle.stun_auth.specs.Validation.{ChangesNothing, ValidatesAccepted, after_message, answer, client_verified, draws, sight, validated_or_failed};
+ghost use Rattle.stun_auth.specs.code.Judging.{ChangesNoPlace, IsJudged, answered, new_nonce, place_with, places_left, renewal_seen};
+ghost use Rattle.stun_auth.specs.code.ReadingSeen.{reading_seen};
 
 use crate::algorithm_set::AlgorithmSet;
 use crate::nonce::make_nonce;
 use crate::places::{Client, Place};
-use crate::reading;
+use crate::reading::Reading;
 use crate::server::LongTermServerAuth;
 use crate::server_reason::{
     LongTermServerAuthError, LongTermServerAuthErrorReason, LongTermServerValidation, Refusal,
     refused,
 };
-use crate::verdict::{is_malformed, verdict};
+use crate::verdict::{Accepted, verdict};
 use rand_core::Rng;
 use std::alloc::{AllocError, Allocator};
 use std::net::SocketAddr;
@@ -31,13 +30,94 @@ use stun_base::algorithm::IntegrityAlgorithm;
 use stun_base::instant::Instant;
 use stun_types::message::Message;
 
-/// An acceptance at a place whose nonce stands.
+/// A nonce that was made for an address, with its end.
 #[derive(Drop)]
-enum Acceptance<A: Allocator> {
+struct Renewal<A: Allocator> {
+    nonce: String<A>,
+    expires: Instant,
+}
+
+/// What a message comes to where it needs a nonce.
+#[derive(Drop)]
+enum Judgement<A: Allocator> {
+    /// Nobody is accepted.
+    Refused(Refusal),
     /// The place's client is accepted again, with this algorithm.
     Known(IntegrityAlgorithm),
     /// Another client is accepted.
     New(Client<A>),
+}
+
+impl<A: Allocator> Judgement<A> {
+    ghost use Rattle.stun_auth.specs.code.Judging.{answered, client_in};
+
+    /// The answer that is told.
+    fn answer(&self) -> Result<LongTermServerValidation, LongTermServerAuthErrorReason>
+        ensures { result ≡ answered self.now }
+    {
+        match self {
+            Judgement::Refused(refusal) => Err(refusal.reason()),
+            Judgement::Known(algorithm) => Ok(LongTermServerValidation::Validated(*algorithm)),
+            Judgement::New(client) => Ok(LongTermServerValidation::Validated(client.algorithm)),
+        }
+    }
+
+    /// The client who is not kept yet.
+    fn into_client(self) -> Option<Client<A>>
+        ensures { option_map client_seen result ≡ client_in self }
+    {
+        match self {
+            Judgement::Refused(_) | Judgement::Known(_) => None,
+            Judgement::New(client) => Some(client),
+        }
+    }
+}
+
+/// Whether the nonce of a place is current: up to its end, that moment included.
+fn nonce_stands<A: Allocator>(place: Option<&Place<A>>, now: Instant) -> bool
+    ensures { result ≡ stands_at now (option_map place_seen (option_copied place.entry)) }
+{
+    match place {
+        Some(place) => now <= place.expires,
+        None => false,
+    }
+}
+
+/// The nonce at which a message is judged: the new one, if one was made, and else the one that is kept.
+fn nonce_at<'p, A: Allocator>(
+    place: Option<&'p Place<A>>,
+    renewal: &'p Option<Renewal<A>>,
+) -> &'p str
+    ensures { result.now ≡ (place_with (option_map place_seen (option_copied place.entry)) (option_map renewal_seen renewal.now)).nonce }
+{
+    match renewal {
+        Some(renewal) => renewal.nonce.as_str(),
+        None => match place {
+            Some(place) => place.nonce.as_str(),
+            None => "",
+        },
+    }
+}
+
+/// The algorithms that were offered to an address, if any.
+fn offered_at<A: Allocator>(place: Option<&Place<A>>) -> Option<AlgorithmSet>
+    ensures { result ≡ option_and_then (λ (p : PlaceSeen). p.offered) (option_map place_seen (option_copied place.entry)) }
+{
+    match place {
+        Some(place) => place.offered,
+        None => None,
+    }
+}
+
+/// Whether this is the client who is kept at an address.
+fn is_known<A: Allocator>(place: Option<&Place<A>>, accepted: Accepted<'_>) -> bool
+    ensures { IsTrue result ↔ (option_and_then (λ (p : PlaceSeen). p.client) (option_map place_seen (option_copied place.entry))
+        ≡ Some (record { name = accepted.entry.name.now; algorithm = accepted.entry.algorithm })) }
+{
+    match place {
+        Some(place) => place.has_client(accepted.name, accepted.algorithm),
+        None => false,
+    }
 }
 
 impl<A: Allocator + Copy> LongTermServerAuth<A> {
@@ -99,146 +179,30 @@ impl<A: Allocator + Copy> LongTermServerAuth<A> {
         ensures unchanged { ChangesNothing (sight self.old from) now (next_words 16 (R.stream rng.old)) (reading_of message.now) →
             result ≡ answer (sight self.old from) now (next_words 16 (R.stream rng.old)) (reading_of message.now) }
     {
-        if reading::is_response(message) {
-            return self.check_response(message, from);
+        let reading = Reading::of(message);
+        if reading.is_response() {
+            return self.check_response(&reading, from);
         }
-        if is_malformed(message) {
+        if reading.is_malformed() {
             return Err(LongTermServerAuthErrorReason::BadRequest);
         }
-        if self.nonce_stands(from, now) {
-            return self.validate_kept(message, from);
-        }
-        let feature = self.feature;
-        let supported = self.registry.supported();
-        match make_nonce(self.alloc, supported, feature, rng) {
-            Ok(nonce) => self.validate_renewed(message, from, now, nonce),
-            Err(_) => Err(LongTermServerAuthErrorReason::OutOfMemory),
-        }
-    }
-
-    /// Whether a nonce stands for an address: up to its end, that moment included.
-    fn nonce_stands(&self, from: SocketAddr, now: Instant) -> bool
-        ensures { result ≡ stands_at now (map.get self.now.places from) }
-    {
-        match self.places.get(from) {
-            Some(place) => now <= place.expires,
-            None => false,
-        }
-    }
-
-    /// Answers a message at the nonce that stands. The client who is kept already takes no memory.
-    fn validate_kept(
-        &mut self,
-        message: &Message<'_>,
-        from: SocketAddr,
-    ) -> Result<LongTermServerValidation, LongTermServerAuthErrorReason>
-        ensures answer { (place : PlaceSeen) → map.get self.old.places from ≡ Some place →
-            OrMemory result (result ≡ answer_to (verdict_at (sight self.old from) place (reading_of message.now))) ⊤ }
-        ensures state { (place : PlaceSeen) → map.get self.old.places from ≡ Some place → OrMemory result
-            (self.new ≡ record self.old { places = map.insert self.old.places from (with_accepted place (verdict_at (sight self.old from) place (reading_of message.now))) })
-            (self.new ≡ self.old) }
-        ensures unchanged { (place : PlaceSeen) → map.get self.old.places from ≡ Some place
-            → with_accepted place (verdict_at (sight self.old from) place (reading_of message.now)) ≡ place
-            → result ≡ answer_to (verdict_at (sight self.old from) place (reading_of message.now)) }
-    {
-        match self.places.get(from) {
-            Some(place) => {
-                let judged = self.judge_at(message, place);
-                self.settle(from, judged)
-            }
-            None => Err(LongTermServerAuthErrorReason::Unauthorized),
-        }
-    }
-
-    /// What a message comes to at a place whose nonce stands. Only another client takes memory, for the client's name.
-    fn judge_at(
-        &self,
-        message: &Message<'_>,
-        place: &Place<A>,
-    ) -> Result<Acceptance<A>, LongTermServerAuthErrorReason>
-        ensures judged { let p = place_seen place.now in let v = verdict self.now.registered self.now.feature p.nonce p.offered (reading_of message.now) in
-            OrMemory result ((answered result ≡ answer_to v) × (place_left p result ≡ with_accepted p v)) ⊤ }
-        ensures unchanged { let p = place_seen place.now in let v = verdict self.now.registered self.now.feature p.nonce p.offered (reading_of message.now) in
-            with_accepted p v ≡ p → answered result ≡ answer_to v }
-    {
-        let nonce = place.nonce.as_str();
-        match verdict(&self.registry, self.feature, message, nonce, place.offered) {
-            Err(refusal) => Err(refusal.reason()),
-            Ok(accepted) => {
-                if place.has_client(accepted.name, accepted.algorithm) {
-                    return Ok(Acceptance::Known(accepted.algorithm));
-                }
-                match Client::new(self.alloc, accepted.name, accepted.algorithm) {
-                    Ok(client) => Ok(Acceptance::New(client)),
-                    Err(_) => Err(LongTermServerAuthErrorReason::OutOfMemory),
-                }
-            }
-        }
-    }
-
-    /// Answers what a message came to at a place whose nonce stands.
-    fn settle(
-        &mut self,
-        from: SocketAddr,
-        judged: Result<Acceptance<A>, LongTermServerAuthErrorReason>,
-    ) -> Result<LongTermServerValidation, LongTermServerAuthErrorReason>
-        ensures answer { result ≡ answered judged }
-        ensures state { self.new ≡ record self.old { places = with_change self.old.places from (λ p. place_left p judged) } }
-    {
-        match judged {
-            Err(reason) => Err(reason),
-            Ok(Acceptance::Known(algorithm)) => Ok(LongTermServerValidation::Validated(algorithm)),
-            Ok(Acceptance::New(client)) => {
-                let algorithm = client.algorithm;
-                self.places.set_client(from, Some(client));
-                Ok(LongTermServerValidation::Validated(algorithm))
-            }
-        }
-    }
-
-    /// Answers a message at a new nonce, which is kept unless memory is wanting.
-    fn validate_renewed(
-        &mut self,
-        message: &Message<'_>,
-        from: SocketAddr,
-        now: Instant,
-        nonce: String<A>,
-    ) -> Result<LongTermServerValidation, LongTermServerAuthErrorReason>
-        ensures answer { OrMemory result (result ≡ answer_to (verdict_at (sight self.old from)
-            (renewed (map.get self.old.places from) (string_bytes nonce) (moment_after now self.old.expiry) None) (reading_of message.now))) ⊤ }
-        ensures state { OrMemory result
-            (self.new ≡ record self.old {
-              places = map.insert self.old.places from (with_accepted
-                  (renewed (map.get self.old.places from) (string_bytes nonce) (moment_after now self.old.expiry) None)
-                  (verdict_at (sight self.old from) (renewed (map.get self.old.places from) (string_bytes nonce) (moment_after now self.old.expiry) None) (reading_of message.now)));
-            })
-            (self.new ≡ self.old) }
-    {
-        let expires = now + self.expiry;
-        let offered = self.offered(from);
-        match self.judge(message, nonce.as_str(), offered) {
-            Ok(judged) => self.settle_renewed(from, nonce, expires, judged),
-            Err(_) => Err(LongTermServerAuthErrorReason::OutOfMemory),
-        }
-    }
-
-    /// The algorithms that were offered to an address, if any.
-    fn offered(&self, to: SocketAddr) -> Option<AlgorithmSet>
-        ensures { result ≡ option_and_then (λ (p : PlaceSeen). p.offered) (map.get self.now.places to) }
-    {
-        match self.places.get(to) {
-            Some(place) => place.offered,
-            None => None,
-        }
+        let place = self.places.get(from);
+        let Ok(renewal) = self.renewal(place, now, rng) else {
+            return Err(LongTermServerAuthErrorReason::OutOfMemory);
+        };
+        let Ok(judged) = self.judge(&reading, place, &renewal) else {
+            return Err(LongTermServerAuthErrorReason::OutOfMemory);
+        };
+        self.commit(from, renewal, judged)
     }
 
     /// What a response answers: the digest under the key of the address's client.
     fn check_response(
         &self,
-        message: &Message<'_>,
+        reading: &Reading<'_, '_>,
         from: SocketAddr,
     ) -> Result<LongTermServerValidation, LongTermServerAuthErrorReason>
-        ensures { result ≡ validated_or_failed (client_verified self.now.registered (reading_of message.now) (map.get self.now.places from)) }
+        ensures { result ≡ validated_or_failed (client_verified self.now.registered (reading_seen reading.now) (map.get self.now.places from)) }
     {
         let Some(place) = self.places.get(from) else {
             return Err(LongTermServerAuthErrorReason::IntegrityFailed);
@@ -249,53 +213,89 @@ impl<A: Allocator + Copy> LongTermServerAuth<A> {
         let Some(key) = self.registry.key(client.name.as_str(), client.algorithm) else {
             return Err(LongTermServerAuthErrorReason::IntegrityFailed);
         };
-        match reading::stands_under(message, key) {
+        match reading.stands_under(key) {
             Some(algorithm) => Ok(LongTermServerValidation::Validated(algorithm)),
             None => Err(LongTermServerAuthErrorReason::IntegrityFailed),
         }
     }
 
-    /// The verdict on a message where this nonce stands and these algorithms were offered. Only acceptance takes memory, for
-    /// the client's name.
+    /// A new nonce of the next sixteen words, where none is current.
+    fn renewal<R: Rng>(
+        &self,
+        place: Option<&Place<A>>,
+        now: Instant,
+        rng: &mut R,
+    ) -> Result<Option<Renewal<A>>, AllocError>
+        ensures made { IfOk result (λ made. option_map renewal_seen made ≡ new_nonce self.now now (next_words 16 (R.stream rng.old)) (option_map place_seen (option_copied place.entry))) }
+        ensures source { IfOk result (λ _. R.stream rng.new
+            ≡ (if stands_at now (option_map place_seen (option_copied place.entry)) then R.stream rng.old else after_words 16 (R.stream rng.old))) }
+        ensures needless { stands_at now (option_map place_seen (option_copied place.entry)) ≡ true → IsOk result }
+    {
+        if nonce_stands(place, now) {
+            return Ok(None);
+        }
+        let nonce = make_nonce(self.alloc, self.registry.supported(), self.feature, rng)?;
+        Ok(Some(Renewal {
+            nonce,
+            expires: now + self.expiry,
+        }))
+    }
+
+    /// What a message comes to at a place, with the new nonce if one was made. It allocates for another client's name alone.
     fn judge(
         &self,
-        message: &Message<'_>,
-        nonce: &str,
-        offered: Option<AlgorithmSet>,
-    ) -> Result<Result<Client<A>, Refusal>, AllocError>
-        ensures verdict { IfOk result (λ j. verdict_seen j ≡ verdict self.now.registered self.now.feature nonce.now offered (reading_of message.now)) }
+        reading: &Reading<'_, '_>,
+        place: Option<&Place<A>>,
+        renewal: &Option<Renewal<A>>,
+    ) -> Result<Judgement<A>, AllocError>
+        ensures judged { IfOk result (IsJudged self.now.registered self.now.feature (reading_seen reading.now)
+            (place_with (option_map place_seen (option_copied place.entry)) (option_map renewal_seen renewal.now))) }
+        ensures needless { ChangesNoPlace self.now.registered self.now.feature (reading_seen reading.now)
+            (place_with (option_map place_seen (option_copied place.entry)) (option_map renewal_seen renewal.now)) → IsOk result }
     {
-        match verdict(&self.registry, self.feature, message, nonce, offered) {
-            Err(refusal) => Ok(Err(refusal)),
+        let nonce = nonce_at(place, renewal);
+        let offered = offered_at(place);
+        match verdict(&self.registry, self.feature, reading, nonce, offered) {
+            Err(refusal) => Ok(Judgement::Refused(refusal)),
             Ok(accepted) => {
+                if is_known(place, accepted) {
+                    return Ok(Judgement::Known(accepted.algorithm));
+                }
                 let client = Client::new(self.alloc, accepted.name, accepted.algorithm)?;
-                Ok(Ok(client))
+                Ok(Judgement::New(client))
             }
         }
     }
 
-    /// Answers a verdict at a new nonce.
-    fn settle_renewed(
+    /// Keeps the new nonce, if one was made, and the client who is not kept yet, and answers. Only the first nonce of an
+    /// address allocates here.
+    fn commit(
         &mut self,
         from: SocketAddr,
-        nonce: String<A>,
-        expires: Instant,
-        judged: Result<Client<A>, Refusal>,
+        renewal: Option<Renewal<A>>,
+        judged: Judgement<A>,
     ) -> Result<LongTermServerValidation, LongTermServerAuthErrorReason>
-        ensures answer { OrMemory result (result ≡ answer_to (verdict_seen judged)) ⊤ }
+        ensures answer { OrMemory result (result ≡ answered judged) ⊤ }
         ensures state { OrMemory result
-            (self.new ≡ record self.old { places = map.insert self.old.places from (with_accepted (renewed (map.get self.old.places from) (string_bytes nonce) expires None) (verdict_seen judged)) })
+            (self.new ≡ record self.old { places = places_left self.old.places from (option_map renewal_seen renewal) judged })
             (self.new ≡ self.old) }
+        ensures needless { IfNone renewal (result ≡ answered judged) }
     {
-        match judged {
-            Err(refusal) => match self.places.renew(from, nonce, expires, None) {
-                Ok(()) => Err(refusal.reason()),
-                Err(_) => Err(LongTermServerAuthErrorReason::OutOfMemory),
-            },
-            Ok(client) => {
-                let algorithm = client.algorithm;
-                match self.places.renew(from, nonce, expires, Some(client)) {
-                    Ok(()) => Ok(LongTermServerValidation::Validated(algorithm)),
+        let answer = judged.answer();
+        let client = judged.into_client();
+        match renewal {
+            None => {
+                if client.is_some() {
+                    self.places.set_client(from, client);
+                }
+                answer
+            }
+            Some(renewal) => {
+                match self
+                    .places
+                    .renew(from, renewal.nonce, renewal.expires, client)
+                {
+                    Ok(()) => answer,
                     Err(_) => Err(LongTermServerAuthErrorReason::OutOfMemory),
                 }
             }

@@ -5,53 +5,16 @@ use Rattle.std.specs.Str.{bytes_eq}
 use Rattle.std.specs.declared.result.Result.{Result}
 use Rattle.std.specs.declared.result.Result.TheVariants.{Ok, Err}
 use Rattle.stun_base.specs.declared.algorithm.IntegrityAlgorithm.{IntegrityAlgorithm}
+use Rattle.stun_auth.specs.declared.algorithm_set.AlgorithmSet.{AlgorithmSet}
 use Rattle.stun_auth.specs.declared.feature.Feature.{Feature}
 use Rattle.stun_auth.specs.declared.server_reason.Refusal.{Refusal}
 use Rattle.stun_auth.specs.declared.server_reason.Refusal.TheVariants.{Unauthorized, BadRequest}
-use Rattle.stun_auth.specs.declared.verdict.Accepted.{Accepted}
-use Rattle.stun_auth.specs.declared.places.Client.{Client}
-use Rattle.stun_auth.specs.declared.server_reason.LongTermServerAuthErrorReason.{LongTermServerAuthErrorReason}
-use Rattle.stun_auth.specs.declared.server_reason.LongTermServerValidation.TheVariants.{Validated}
-use Rattle.stun_auth.specs.declared.server.validation.Acceptance.{Acceptance}
-use Rattle.stun_auth.specs.declared.server.validation.Acceptance.TheVariants.{Known, New}
-use Rattle.stun_auth.specs.Feature.{is_possible}
-use Rattle.stun_auth.specs.code.Places.{client_seen}
+use Rattle.stun_auth.specs.code.Judging.{name_in}
 use Rattle.stun_auth.specs.Reading.{Reading, stands_under}
-use Rattle.stun_auth.specs.Registered.{Registered, key_at, name_with_hash}
-use Rattle.stun_auth.specs.Seen.{ClientSeen, PlaceSeen}
-use Rattle.stun_auth.specs.declared.algorithm_set.AlgorithmSet.{AlgorithmSet}
+use Rattle.stun_auth.specs.Registered.{Registered, key_at}
+use Rattle.stun_auth.specs.Seen.{ClientSeen}
 use Rattle.stun_auth.specs.Server.{agreed, nonce_refusal}
-use Rattle.stun_auth.specs.Validation.{Answer, is_complete}
-
--- a verdict as the code gives it
-abbrev pub judged : Result Accepted Refusal → Result ClientSeen Refusal
-judged (Ok a) = Ok (record { name = a.name.now; algorithm = a.algorithm })
-judged (Err refusal) = Err refusal
-
--- a verdict with the client that is kept
-abbrev pub verdict_seen : {A : Type 0} → Result (Client A) Refusal → Result ClientSeen Refusal
-verdict_seen (Ok client) = Ok (client_seen client)
-verdict_seen (Err refusal) = Err refusal
-
--- the answer that is told of what a message came to at a place
-abbrev pub answered : {A : Type 0} → Result (Acceptance A) LongTermServerAuthErrorReason → Answer
-answered (Ok (Known a)) = Ok (Validated a)
-answered (Ok (New client)) = Ok (Validated client.algorithm)
-answered (Err reason) = Err reason
-
--- the place that is left: only another client changes it
-abbrev pub place_left : {A : Type 0} → PlaceSeen → Result (Acceptance A) LongTermServerAuthErrorReason → PlaceSeen
-place_left place (Ok (Known a)) = place
-place_left place (Ok (New client)) = record place { client = Some (client_seen client) }
-place_left place (Err reason) = place
-
--- the name that a message gives, whether that user is present or not
-abbrev pub name_by : Option (List ℕ) → Option (List ℕ) → Registered → Feature → Option (List ℕ)
-name_by (Some hash) username users feature = if is_possible feature then name_with_hash users hash else None
-name_by None username users feature = username
-
-abbrev pub name_in : Registered → Feature → Reading → Option (List ℕ)
-name_in users feature r = name_by r.userhash r.username users feature
+use Rattle.stun_auth.specs.Validation.{is_complete}
 
 abbrev pub by_digest : Registered → Reading → List ℕ → IntegrityAlgorithm → Result ClientSeen Refusal
 by_digest users r name a =

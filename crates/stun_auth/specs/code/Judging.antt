@@ -1,0 +1,88 @@
+-- What the code comes to at an address where a message needs a nonce: the place, the verdict, the client, and what is left.
+use Rattle.std.specs.Prelude.{◌≡◌, ℕ, List, [], if◌then◌else◌, Option, Some, None}
+use Rattle.std.specs.FinMap as map
+use Rattle.std.specs.String.{string_bytes}
+use Rattle.std.specs.declared.net.socket_addr.SocketAddr.{SocketAddr}
+use Rattle.std.specs.declared.result.Result.{Result}
+use Rattle.std.specs.declared.result.Result.TheVariants.{Ok, Err}
+use Rattle.stun_auth.specs.declared.feature.Feature.{Feature}
+use Rattle.stun_auth.specs.declared.server_reason.Refusal.{Refusal}
+use Rattle.stun_auth.specs.declared.server_reason.LongTermServerValidation.TheVariants.{Validated}
+use Rattle.stun_auth.specs.declared.server.validation.Judgement.{Judgement}
+use Rattle.stun_auth.specs.declared.server.validation.Judgement.TheVariants.{Refused, Known, New}
+use Rattle.stun_auth.specs.declared.server.validation.Renewal.{Renewal}
+use Rattle.stun_auth.specs.declared.verdict.Accepted.{Accepted}
+use Rattle.stun_auth.specs.code.Places.{client_seen}
+use Rattle.stun_auth.specs.Feature.{is_possible}
+use Rattle.stun_auth.specs.Places.{PlacesSeen, with_change}
+use Rattle.stun_auth.specs.Reading.{Reading}
+use Rattle.stun_auth.specs.Reasons.{reason_of}
+use Rattle.stun_auth.specs.Registered.{Registered, name_with_hash}
+use Rattle.stun_auth.specs.Seen.{ClientSeen, PlaceSeen, renewed}
+use Rattle.stun_auth.specs.Nonces.{nonce_of}
+use Rattle.stun_auth.specs.Server.{stands_at, verdict}
+use Rattle.stun_auth.specs.Validation.{Answer, ServerSeen, answer_to, with_accepted}
+use Rattle.stun_base.specs.Moments.{moment_after}
+
+-- a verdict as the code gives it
+abbrev pub judged : Result Accepted Refusal → Result ClientSeen Refusal
+judged (Ok a) = Ok (record { name = a.name.now; algorithm = a.algorithm })
+judged (Err refusal) = Err refusal
+
+-- the name that a message gives, whether that user is present or not
+abbrev pub name_by : Option (List ℕ) → Option (List ℕ) → Registered → Feature → Option (List ℕ)
+name_by (Some hash) username users feature = if is_possible feature then name_with_hash users hash else None
+name_by None username users feature = username
+
+abbrev pub name_in : Registered → Feature → Reading → Option (List ℕ)
+name_in users feature r = name_by r.userhash r.username users feature
+
+-- a new nonce with its end
+abbrev pub renewal_seen : {A : Type 0} → Renewal A → List ℕ × ℕ
+renewal_seen renewal = (string_bytes renewal.nonce, renewal.expires)
+
+-- the place at which a message is judged: with the new nonce, if one was made, and else as it is kept
+abbrev pub place_with : Option PlaceSeen → Option (List ℕ × ℕ) → PlaceSeen
+place_with None None = renewed None [] 0 None
+place_with None (Some new) = renewed None new.0 new.1 None
+place_with (Some place) None = place
+place_with (Some place) (Some new) = renewed (Some place) new.0 new.1 None
+
+-- the answer that is told of what a message came to
+abbrev pub answered : {A : Type 0} → Judgement A → Answer
+answered (Refused refusal) = Err (reason_of refusal)
+answered (Known a) = Ok (Validated a)
+answered (New client) = Ok (Validated client.algorithm)
+
+-- the client who is not kept yet
+abbrev pub client_in : {A : Type 0} → Judgement A → Option ClientSeen
+client_in (Refused refusal) = None
+client_in (Known a) = None
+client_in (New client) = Some (client_seen client)
+
+-- the place that is left: only another client changes it
+abbrev pub place_left : {A : Type 0} → PlaceSeen → Judgement A → PlaceSeen
+place_left place (Refused refusal) = place
+place_left place (Known a) = place
+place_left place (New client) = record place { client = Some (client_seen client) }
+
+-- the places that are left
+abbrev pub places_left : {A : Type 0} → PlacesSeen → SocketAddr → Option (List ℕ × ℕ) → Judgement A → PlacesSeen
+places_left places from None judged = with_change places from (λ p. place_left p judged)
+places_left places from (Some new) judged =
+    map.insert places from (place_left (renewed (map.get places from) new.0 new.1 None) judged)
+
+-- the nonce that is made for a server's address where none is current
+abbrev pub new_nonce : ServerSeen → ℕ → List ℕ → Option PlaceSeen → Option (List ℕ × ℕ)
+new_nonce s now words place =
+    if stands_at now place then None
+    else Some (nonce_of s.registered.algorithms s.feature words, moment_after now s.expiry)
+
+-- what a message came to at a place tells and leaves what the verdict does
+pub record IsJudged {A : Type 0} (users : Registered) (feature : Feature) (r : Reading) (place : PlaceSeen) (judged : Judgement A) : Type 0 where
+  pub answer : answered judged ≡ answer_to (verdict users feature place.nonce place.offered r)
+  pub left : place_left place judged ≡ with_accepted place (verdict users feature place.nonce place.offered r)
+
+-- the verdict leaves the place as it is
+abbrev pub ChangesNoPlace : Registered → Feature → Reading → PlaceSeen → Type 0
+ChangesNoPlace users feature r place = with_accepted place (verdict users feature place.nonce place.offered r) ≡ place

@@ -28,12 +28,38 @@ expect() {
 rm -rf c/out
 make -s -C c CC="${CC:-cc}"
 
+# The header is C99 and C++17, with all warnings, and answers each number with a text.
+strict='-Wall -Wextra -Wpedantic -Werror -I../include'
+"${CC:-cc}" -std=c99 $strict -Wconversion -x c -fsyntax-only ../include/stun.h
+"${CC:-cc}" -std=c99 $strict -fsyntax-only c/messages.c
+if "${CXX:-c++}" --version >/dev/null 2>&1; then
+    "${CXX:-c++}" -std=c++17 $strict -Wconversion -x c++ -fsyntax-only ../include/stun.h
+fi
+
+# Each call on messages, and what strangers may send, with sanitizers where the compiler has them.
+expect 'messages: passed' c/out/messages
+sanitized='-fsanitize=address,undefined'
+echo 'int main(void) { return 0; }' >"$scratch/empty.c"
+"${CC:-cc}" $sanitized "$scratch/empty.c" -o "$scratch/empty" 2>/dev/null || sanitized=''
+"${CC:-cc}" -O1 -g $strict -D_DEFAULT_SOURCE -std=c99 $sanitized c/hostile_messages.c ../crates/stun_c/out/libstun_c.a -o "$scratch/hostile"
+expect 'hostile_messages: passed' "$scratch/hostile"
+
 # The archive asks for nothing but these, so no call takes memory.
 needed=$(nm -u ../crates/stun_c/out/libstun_c.a | sed -n 's/^ *U //p' | grep -vxE 'memcpy|memmove|memset|memcmp' || true)
 if [ -n "$needed" ]; then
     echo "examples: the archive needs" $needed >&2
     exit 1
 fi
+
+# What is installed is enough to build with.
+make -s -C ../include install PREFIX="$scratch/installed"
+if command -v pkg-config >/dev/null; then
+    found=$(PKG_CONFIG_PATH="$scratch/installed/lib/pkgconfig" pkg-config --cflags --libs stun)
+else
+    found="-I$scratch/installed/include -L$scratch/installed/lib -lstun_c"
+fi
+"${CC:-cc}" c/messages.c $found -o "$scratch/messages"
+expect 'messages: passed' "$scratch/messages"
 
 password='VOkJxbRl1RmTxUk/WvJxBt'
 
@@ -54,5 +80,12 @@ if rustc --version >/dev/null 2>&1; then
     expect 'Ok(1)
 Ok(2)' "$scratch/main"
     checked='C and Rust'
+fi
+if cargo --version >/dev/null 2>&1; then
+    if ! (cd ../bindings/rust && CARGO_TARGET_DIR="$scratch/target" cargo test --offline) >"$scratch/cargo" 2>&1; then
+        cat "$scratch/cargo" >&2
+        exit 1
+    fi
+    checked="$checked, and the crate of bindings/rust"
 fi
 echo "examples: passed in $checked"

@@ -1,4 +1,6 @@
+mod Appended
 mod Lengths
+mod Members
 mod Signed
 mod Sizes
 mod Texts

@@ -23,14 +23,14 @@ abbrev pub integrity_number : Option IntegrityAlgorithm → ValidateError → �
 integrity_number (Some algorithm) error = pos (algorithm_number algorithm)
 integrity_number None error = code_of (refusal_of_validate error)
 
--- the same, where nothing refuses the bytes as a message
-abbrev pub verify_number : Option StunParseError → ℤ → ℤ
-verify_number None number = number
-verify_number (Some error) number = code_of (refusal_of_parse error)
+-- a number, unless something refuses the bytes as a message
+abbrev pub unless_no_message : Option StunParseError → ℤ → ℤ
+unless_no_message None number = number
+unless_no_message (Some error) number = code_of (refusal_of_parse error)
 
 -- what verifying under a key answers
 abbrev pub verify_answer : List ℕ → List ℕ → ℤ
-verify_answer bytes key = verify_number (refusal bytes) (integrity_number (stands bytes key) (integrity_refusal bytes))
+verify_answer bytes key = unless_no_message (refusal bytes) (integrity_number (stands bytes key) (integrity_refusal bytes))
 
 -- bytes for a buffer with so much room, which they must not exceed
 abbrev pub fitted : Result (List ℕ) Refusal → ℕ → Result (List ℕ) Refusal
@@ -42,7 +42,7 @@ abbrev pub written_number : Result (List ℕ) Refusal → ℤ
 written_number (Ok bytes) = pos (length bytes)
 written_number (Err refusal) = code_of refusal
 
--- the buffer afterwards: the bytes, then what stood behind their places; a refusal leaves it
+-- the buffer afterwards: the bytes, then what stood after their places; a refusal leaves it
 abbrev pub buffer_after : Result (List ℕ) Refusal → List ℕ → List ℕ
 buffer_after (Ok bytes) buffer = bytes ++ drop (length bytes) buffer
 buffer_after (Err refusal) buffer = buffer

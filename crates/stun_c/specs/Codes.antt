@@ -7,7 +7,7 @@ use Rattle.stun_base.specs.declared.error.ValidateError.TheVariants.{Parse, Inte
 use Rattle.stun_base.specs.declared.algorithm.IntegrityAlgorithm.{IntegrityAlgorithm}
 use Rattle.stun_base.specs.declared.algorithm.IntegrityAlgorithm.TheVariants.{Sha1, Sha256}
 use Rattle.stun_c.specs.declared.codes.Refusal.{Refusal}
-use Rattle.stun_c.specs.declared.codes.Refusal.TheVariants.{Truncated, NotStun, TooLarge, NoIntegrity, MalformedIntegrity, IntegrityFailed, BadArgument, NotText, TextTooLong, BufferTooSmall}
+use Rattle.stun_c.specs.declared.codes.Refusal.TheVariants.{Truncated, NotStun, TooLarge, NoIntegrity, MalformedIntegrity, IntegrityFailed, BadArgument, NotText, TextTooLong, BufferTooSmall, NotAllowed, Closed, AttributeExists, MessageTooLong, MissingAttribute as NotFound, MalformedAttribute}
 
 -- the number of a refusal
 abbrev pub code_of : Refusal → ℤ
@@ -21,6 +21,12 @@ code_of BadArgument = neg_ℤ (pos 7)
 code_of NotText = neg_ℤ (pos 8)
 code_of TextTooLong = neg_ℤ (pos 9)
 code_of BufferTooSmall = neg_ℤ (pos 10)
+code_of NotAllowed = neg_ℤ (pos 11)
+code_of Closed = neg_ℤ (pos 12)
+code_of AttributeExists = neg_ℤ (pos 13)
+code_of MessageTooLong = neg_ℤ (pos 14)
+code_of NotFound = neg_ℤ (pos 15)
+code_of MalformedAttribute = neg_ℤ (pos 16)
 
 -- the refusal that stands for an error of reading
 abbrev pub refusal_of_parse : StunParseError → Refusal
@@ -29,6 +35,14 @@ refusal_of_parse ParseNotStun = NotStun
 refusal_of_parse ParseTooLarge = TooLarge
 refusal_of_parse (MissingAttribute _) = NoIntegrity
 refusal_of_parse InvalidAttributeData = MalformedIntegrity
+
+-- the refusal that stands for an error of reading an attribute
+abbrev pub refusal_of_attribute : StunParseError → Refusal
+refusal_of_attribute ParseTruncated = Truncated
+refusal_of_attribute ParseNotStun = NotStun
+refusal_of_attribute ParseTooLarge = TooLarge
+refusal_of_attribute (MissingAttribute _) = NotFound
+refusal_of_attribute InvalidAttributeData = MalformedAttribute
 
 -- the refusal that stands for an error of the integrity check
 abbrev pub refusal_of_validate : ValidateError → Refusal

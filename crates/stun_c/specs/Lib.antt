@@ -4,5 +4,11 @@
 pub mod Codes
 -- what the building calls make of their arguments, or the first refusal
 pub mod Requests
+-- what the calls that write a message make of the caller's buffer
+pub mod Writing
 -- what each call answers, and what it leaves in the buffer of the caller
 pub mod Answers
+-- what the calls that read a message answer
+pub mod Reading
+-- what no clause of a public call says: what private functions alone cite
+pub mod code

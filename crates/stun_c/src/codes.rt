@@ -21,14 +21,26 @@ pub enum Refusal {
     MalformedIntegrity,
     /// -6: the integrity attribute that decides has not the digest of the message under the key.
     IntegrityFailed,
-    /// -7: the algorithm has another number than 1 and 2, or the id not 12 bytes.
+    /// -7: a number or a length is none that the call takes.
     BadArgument,
     /// -8: a text is not UTF-8.
     NotText,
-    /// -9: the user name has more than 513 bytes.
+    /// -9: the user name has more than 513 bytes, or the reason more than 763.
     TextTooLong,
     /// -10: the buffer has fewer bytes than are to be written.
     BufferTooSmall,
+    /// -11: attributes of this type are written by a call of its own, or by none.
+    NotAllowed,
+    /// -12: an integrity attribute or FINGERPRINT stands in the message, so nothing may follow it.
+    Closed,
+    /// -13: an attribute of this type stands in the message.
+    AttributeExists,
+    /// -14: the message would have more than 65532 bytes after its header.
+    MessageTooLong,
+    /// -15: the message has no visible attribute of the type that is read.
+    MissingAttribute,
+    /// -16: the first visible attribute of the type that is read is malformed.
+    MalformedAttribute,
 }
 
 impl Refusal {
@@ -47,6 +59,12 @@ impl Refusal {
             Refusal::NotText => -8,
             Refusal::TextTooLong => -9,
             Refusal::BufferTooSmall => -10,
+            Refusal::NotAllowed => -11,
+            Refusal::Closed => -12,
+            Refusal::AttributeExists => -13,
+            Refusal::MessageTooLong => -14,
+            Refusal::MissingAttribute => -15,
+            Refusal::MalformedAttribute => -16,
         }
     }
 }

@@ -18,7 +18,7 @@ use stun_types::prelude::*;
 pub const LONGEST_REQUEST: usize = 20 + 4 + 516 + 4 + 32;
 
 /// The id in 12 bytes, or `BadArgument` where they are more or fewer.
-fn transaction_id(bytes: &[u8]) -> Result<TransactionId, Refusal>
+pub fn transaction_id(bytes: &[u8]) -> Result<TransactionId, Refusal>
     ensures ok { IfOk result (λ id. (length bytes.now ≡ 12) × (id ≡ big_number 12 bytes.now)) }
     ensures err { IfErr result (λ refusal. ¬ (length bytes.now ≡ 12) × (refusal ≡ Refusal.BadArgument)) }
 {

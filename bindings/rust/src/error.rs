@@ -1,0 +1,94 @@
+//! Why a call refuses.
+use std::fmt;
+
+/// Why bytes were not read, a digest did not verify, or something was not written, as `stun.h` numbers it.
+#[derive(Debug, Clone, Copy, PartialEq, Eq, Hash)]
+#[non_exhaustive]
+pub enum Refusal {
+    /// Bytes are missing at the end: of the header, the message or an attribute.
+    Truncated,
+    /// The first 20 bytes are no header of STUN.
+    NotStun,
+    /// Bytes stand after the end of the message.
+    TooLarge,
+    /// No integrity attribute is visible.
+    NoIntegrity,
+    /// The integrity attribute that decides has a length that its type cannot have.
+    MalformedIntegrity,
+    /// Its value is not the whole digest of what it covers under the key.
+    IntegrityFailed,
+    /// A number or a length is none that the call takes.
+    BadArgument,
+    /// A text is not UTF-8.
+    NotText,
+    /// A text is too long for its attribute.
+    TextTooLong,
+    /// The buffer has fewer bytes than would be written.
+    BufferTooSmall,
+    /// Attributes of this type are written by a call of their own, or by none.
+    NotAllowed,
+    /// The message has an integrity attribute or FINGERPRINT, so nothing may follow.
+    Closed,
+    /// The message has an attribute of this type.
+    AttributeExists,
+    /// The message would have more than 65532 bytes after its header.
+    MessageTooLong,
+    /// No attribute of the type that is read is visible.
+    MissingAttribute,
+    /// The first visible attribute of the type that is read is malformed.
+    MalformedAttribute,
+}
+
+const ALL: [Refusal; 16] = [
+    Refusal::Truncated,
+    Refusal::NotStun,
+    Refusal::TooLarge,
+    Refusal::NoIntegrity,
+    Refusal::MalformedIntegrity,
+    Refusal::IntegrityFailed,
+    Refusal::BadArgument,
+    Refusal::NotText,
+    Refusal::TextTooLong,
+    Refusal::BufferTooSmall,
+    Refusal::NotAllowed,
+    Refusal::Closed,
+    Refusal::AttributeExists,
+    Refusal::MessageTooLong,
+    Refusal::MissingAttribute,
+    Refusal::MalformedAttribute,
+];
+
+impl Refusal {
+    /// An answer of the archive: its number, or the refusal that a number below zero stands for.
+    pub(crate) fn of(answer: i64) -> Result<usize, Refusal> {
+        match usize::try_from(answer) {
+            Ok(number) => Ok(number),
+            Err(_) => Err(ALL[answer.unsigned_abs() as usize - 1]),
+        }
+    }
+}
+
+impl fmt::Display for Refusal {
+    fn fmt(&self, f: &mut fmt::Formatter<'_>) -> fmt::Result {
+        f.write_str(match self {
+            Refusal::Truncated => "bytes are missing at the end",
+            Refusal::NotStun => "the bytes are not a STUN message",
+            Refusal::TooLarge => "bytes stand after the message",
+            Refusal::NoIntegrity => "the message has no integrity attribute",
+            Refusal::MalformedIntegrity => "the integrity attribute is malformed",
+            Refusal::IntegrityFailed => "the digest is not that of the message",
+            Refusal::BadArgument => "a number or a length is none that the call takes",
+            Refusal::NotText => "a text is not UTF-8",
+            Refusal::TextTooLong => "a text is too long for its attribute",
+            Refusal::BufferTooSmall => "the buffer is too small",
+            Refusal::NotAllowed => "the attribute is not written by this call",
+            Refusal::Closed => "the message is closed by an integrity attribute or FINGERPRINT",
+            Refusal::AttributeExists => "the message has an attribute of this type",
+            Refusal::MessageTooLong => "the message would be too long",
+            Refusal::MissingAttribute => "the attribute is missing",
+            Refusal::MalformedAttribute => "the attribute is malformed",
+        })
+    }
+}
+
+impl std::error::Error for Refusal {}

@@ -1,0 +1,28 @@
+-- The first attribute of a type as it is read, and where the attributes after a place stand.
+use Rattle.std.proofs.Common.{◌≡◌, ◌≤◌, ℕ, List, length, arith}
+use Rattle.std.specs.Prelude.{nat_lt, IfSome, MatchOption, Option, Some, None, Result, Err}
+use Rattle.stun_base.specs.declared.error.StunParseError.{StunParseError}
+use Rattle.stun_base.specs.declared.error.StunParseError.TheVariants.{MissingAttribute}
+use Rattle.stun_types.specs.Attribute.{TypedValue}
+use Rattle.stun_types.specs.Reading.{attribute_answer}
+use Rattle.stun_types.specs.Visible.{visible}
+use Rattle.stun_types.specs.Walk.{Member}
+use Rattle.stun_types.specs.code.Walk.{IsWithin}
+use Rattle.stun_types.proofs.IntegrityLemmas.{IfSome-find, visible-within}
+use Rattle.stun_c.specs.Reading.{next_member, read_member}
+
+-- what reading answers of a member that may be there
+pub read_member-is : {A : Type 0} (kind : ℕ) (reading : TypedValue → Option A) (found : Option Member) (answer : Result A StunParseError)
+    → MatchOption found (answer ≡ Err (MissingAttribute (record { 0 = kind }))) (λ m. answer ≡ attribute_answer (reading m.1))
+    → answer ≡ read_member kind reading found
+read_member-is kind reading None answer is = is
+read_member-is kind reading (Some m) answer is = is
+
+-- a place within is no more than the length
+place-within : (bytes : List ℕ) (found : Option Member) → IfSome found (IsWithin bytes) → IfSome found (λ m. m.0 ≤ length bytes)
+place-within bytes None within = within
+place-within bytes (Some m) within = omega (arith, within.whole)
+
+-- the attribute that stands after a place does so within
+pub next-within : (place : ℕ) (bytes : List ℕ) → IfSome (next_member place bytes) (λ m. m.0 ≤ length bytes)
+next-within place bytes = place-within bytes (next_member place bytes) (IfSome-find (IsWithin bytes) (λ m. nat_lt place m.0) (visible bytes) (visible-within bytes))

@@ -1,0 +1,111 @@
+-- What the calls that write a message make of the caller's buffer: bytes, or the first refusal.
+use Rattle.std.specs.Prelude.{ℕ, ◌-◌, Bool, List, [], length, take, find, nat_lt, nat_le, not, ◌==◌, ◌&&◌, ◌||◌, if◌then◌else◌, is_some, Option, Some, None, Result, Ok, Err}
+use Rattle.std.specs.Option.{option_or, option_map}
+use Rattle.std.specs.Str.{is_utf8}
+use Rattle.byteorder.specs.Endian.{big_number}
+use Rattle.stun_base.specs.Algorithm.{digest_length}
+use Rattle.stun_base.specs.Attributes.{ERROR_CODE, XOR_MAPPED_ADDRESS}
+use Rattle.stun_base.specs.Header.{transaction_id_field}
+use Rattle.stun_base.specs.MessageType.{class_of_bits, type_number}
+use Rattle.stun_base.specs.declared.algorithm.IntegrityAlgorithm.{IntegrityAlgorithm}
+use Rattle.stun_types.specs.Attribute.{attribute_length}
+use Rattle.stun_types.specs.ErrorCode.{error_value, max_reason}
+use Rattle.stun_types.specs.Grammar.{spelled}
+use Rattle.stun_types.specs.Message.{refusal}
+use Rattle.stun_types.specs.Visible.{visible}
+use Rattle.stun_types.specs.Writing.{is_set_apart, length_with, max_length, with_attribute, with_integrity}
+use Rattle.stun_types.specs.XorMappedAddress.{xor_bytes, xor_key, xor_port, xored_value}
+use Rattle.stun_c.specs.declared.codes.Refusal.{Refusal}
+use Rattle.stun_c.specs.declared.codes.Refusal.TheVariants.{BadArgument, NotText, TextTooLong, BufferTooSmall, NotAllowed, Closed, AttributeExists, MessageTooLong}
+use Rattle.stun_c.specs.Codes.{refusal_of_parse}
+use Rattle.stun_c.specs.Requests.{unless_refused}
+
+-- what `stun_begin` makes: a header without attributes (RFC 8489, section 5)
+abbrev pub begun : ℕ → ℕ → List ℕ → Result (List ℕ) Refusal
+begun class method id =
+    if nat_lt class 4 && nat_lt method 4096 && (length id == 12)
+    then Ok (spelled (type_number (class_of_bits class) method) (big_number 12 id) []) else Err BadArgument
+
+-- whether a message has an attribute behind which no other may be added (sections 14.5 to 14.7)
+abbrev pub is_closed : List ℕ → Bool
+is_closed message = is_some (find (λ m. is_set_apart m.1.kind) (visible message))
+
+-- whether a message has a visible attribute of a type
+abbrev pub shows_kind : ℕ → List ℕ → Bool
+shows_kind kind message = is_some (find (λ m. m.1.kind == kind) (visible message))
+
+-- why nothing can be added to the first `count` bytes of a buffer, if nothing can
+abbrev pub base_refusal : List ℕ → ℕ → Option Refusal
+base_refusal buffer count =
+    if nat_lt (length buffer) count then Some BadArgument
+    else option_or (option_map refusal_of_parse (refusal (take count buffer)))
+    (if is_closed (take count buffer) then Some Closed else None)
+
+-- why a value of n bytes does not fit behind a message with so much room: the length field, then the room
+abbrev pub fit_refusal : List ℕ → ℕ → ℕ → Option Refusal
+fit_refusal message room n =
+    if nat_lt max_length (length_with message n) then Some MessageTooLong
+    else if nat_lt room (attribute_length n) then Some BufferTooSmall else None
+
+-- why an attribute is not added, the first reason that holds
+abbrev pub adding_refusal : List ℕ → ℕ → ℕ → ℕ → Option Refusal
+adding_refusal buffer count kind n =
+    option_or (base_refusal buffer count)
+    (if is_set_apart kind then Some NotAllowed
+    else if shows_kind kind (take count buffer) then Some AttributeExists
+    else fit_refusal (take count buffer) (length buffer - count) n)
+
+-- a message with an attribute more, behind it in its buffer
+abbrev pub added : List ℕ → ℕ → ℕ → List ℕ → Result (List ℕ) Refusal
+added buffer count kind value =
+    unless_refused (adding_refusal buffer count kind (length value)) (with_attribute (take count buffer) (record { kind = kind; value = value }))
+
+-- what `stun_add` makes, of a type that must be a number of 16 bits
+abbrev pub added_number : List ℕ → ℕ → ℕ → List ℕ → Result (List ℕ) Refusal
+added_number buffer count kind value = if nat_lt kind 65536 then added buffer count kind value else Err BadArgument
+
+-- the family of an address of so many octets (section 14.2)
+abbrev pub family_of_count : ℕ → ℕ
+family_of_count count = if count == 4 then 1 else 2
+
+-- the value that hides an address under an id (section 14.2)
+unfoldable pub hidden_value : List ℕ → ℕ → ℕ → List ℕ
+hidden_value octets port id =
+    xored_value (record { family = family_of_count (length octets); port = xor_port port; octets = xor_bytes octets (xor_key id) })
+
+-- whether there are as many octets as an address has, and a port of 16 bits
+abbrev pub is_address : List ℕ → ℕ → Bool
+is_address octets port = nat_lt port 65536 && ((length octets == 4) || (length octets == 16))
+
+-- what `stun_add_xor_mapped_address` makes
+abbrev pub added_address : List ℕ → ℕ → List ℕ → ℕ → Result (List ℕ) Refusal
+added_address buffer count octets port =
+    if is_address octets port
+    then added buffer count XOR_MAPPED_ADDRESS (hidden_value octets port (transaction_id_field (take count buffer))) else Err BadArgument
+
+-- why an error cannot be written: its code, then its reason (section 14.8)
+abbrev pub error_argument_refusal : ℕ → List ℕ → Option Refusal
+error_argument_refusal code reason =
+    if nat_lt code 300 || nat_le 700 code then Some BadArgument
+    else if not (is_utf8 reason) then Some NotText
+    else if nat_lt max_reason (length reason) then Some TextTooLong else None
+
+-- the same, and then the message
+abbrev pub unless : Option Refusal → Result (List ℕ) Refusal → Result (List ℕ) Refusal
+unless None made = made
+unless (Some refusal) made = Err refusal
+
+-- what `stun_add_error` makes
+abbrev pub added_error : List ℕ → ℕ → ℕ → List ℕ → Result (List ℕ) Refusal
+added_error buffer count code reason =
+    unless (error_argument_refusal code reason) (added buffer count ERROR_CODE (error_value (record { code = code; reason = reason })))
+
+-- why an integrity attribute is not added, the first reason that holds
+abbrev pub signing_refusal : List ℕ → ℕ → IntegrityAlgorithm → Option Refusal
+signing_refusal buffer count algorithm =
+    option_or (base_refusal buffer count) (fit_refusal (take count buffer) (length buffer - count) (digest_length algorithm))
+
+-- what `stun_sign` makes: the message with its integrity attribute (sections 14.5 and 14.6)
+abbrev pub signed : List ℕ → ℕ → Option IntegrityAlgorithm → List ℕ → Result (List ℕ) Refusal
+signed buffer count None key = Err BadArgument
+signed buffer count (Some algorithm) key = unless_refused (signing_refusal buffer count algorithm) (with_integrity (take count buffer) algorithm key)

@@ -1,0 +1,3 @@
+-- Definitions that no clause of a public call says: what private functions alone cite.
+-- where an attribute is written
+pub mod Room

@@ -1,0 +1,112 @@
+//! Addresses hidden under a transaction id (RFC 8489, section 14.2).
+
+ghost use Rattle.std.specs.Prelude.{◌≡◌, ◌≤◌, ◌<◌, ◌+◌, length, take, true, IfOk, IfErr, Some};
+ghost use Rattle.stun_base.specs.Attributes.{XOR_MAPPED_ADDRESS};
+ghost use Rattle.stun_base.specs.Header.{transaction_id_field};
+ghost use Rattle.stun_types.specs.XorMappedAddress.{xor_bytes, xor_key};
+ghost use Rattle.stun_c.specs.Answers.{written_number, buffer_after};
+ghost use Rattle.stun_c.specs.Writing.{added, added_address, base_refusal, hidden_value, is_address};
+
+use crate::codes::Refusal;
+use crate::writing::{add, base_message};
+use stun_base::attribute_type::AttributeType;
+use stun_base::header::MAGIC_COOKIE;
+use stun_base::transaction_id::TransactionId;
+
+/// What a port is xored with: the first half of the magic cookie.
+pub const PORT_KEY: u16 = 0x2112;
+
+/// The family of IPv4.
+pub const IPV4: u8 = 1;
+
+/// The family of IPv6.
+pub const IPV6: u8 = 2;
+
+/// Each octet xor the byte of the key at its place.
+pub fn xor_with(octets: &mut [u8], key: &[u8])
+    requires { length octets.old ≤ length key.now }
+    ensures { octets.new ≡ xor_bytes octets.old key.now }
+{
+    for i in 0..octets.len() {
+        octets[i] ^= key[i];
+    }
+}
+
+/// The magic cookie, then the transaction id.
+pub fn xor_key(id: TransactionId) -> [u8; 16]
+    ensures { result ≡ xor_key id }
+{
+    let mut key = id.as_u128().to_be_bytes();
+    key[..4].copy_from_slice(&MAGIC_COOKIE.to_be_bytes());
+    key
+}
+
+/// Writes the value that hides an address.
+#[tactic(auto, unfolding(crate::specs::Writing::hidden_value))]
+fn write_address(value: &mut [u8], octets: &[u8], port: u16, id: TransactionId)
+    requires short { length octets.now ≤ 16 }
+    requires room { length value.old ≡ 4 + length octets.now }
+    ensures { value.new ≡ hidden_value octets.now port id }
+{
+    let family = if octets.len() == 4 { IPV4 } else { IPV6 };
+    let (front, back) = value.split_at_mut(4);
+    front[..2].copy_from_slice(&[0, family]);
+    front[2..].copy_from_slice(&(port ^ PORT_KEY).to_be_bytes());
+    back.copy_from_slice(octets);
+    xor_with(back, &xor_key(id));
+}
+
+/// Whether there are the octets of an address and a port.
+fn is_address(octets: &[u8], port: u32) -> bool
+    ensures answer { result ≡ is_address octets.now port }
+    ensures limits { result ≡ true → (port < 65536) × (length octets.now ≤ 16) }
+{
+    if port >= 65536 {
+        return false;
+    }
+    match octets.len() {
+        4 => true,
+        16 => true,
+        _ => false,
+    }
+}
+
+/// The transaction id of the message at the front of the buffer, where an attribute may be added to it.
+fn base_id(buffer: &[u8], count: usize) -> Result<TransactionId, Refusal>
+    ensures ok { IfOk result (λ id. id ≡ transaction_id_field (take count buffer.now)) }
+    ensures err { IfErr result (λ refusal. base_refusal buffer.now count ≡ Some refusal) }
+{
+    let message = base_message(buffer, count)?;
+    Ok(message.transaction_id())
+}
+
+/// Adds an XOR-MAPPED-ADDRESS of these octets to the message in the first `count` bytes of the buffer.
+fn add_hidden(buffer: &mut [u8], count: usize, octets: &[u8], port: u16) -> i64
+    requires { length octets.now ≤ 16 }
+    ensures answer { result ≡ written_number (added buffer.old count XOR_MAPPED_ADDRESS
+        (hidden_value octets.now port (transaction_id_field (take count buffer.old)))) }
+    ensures written { buffer.new ≡ buffer_after (added buffer.old count XOR_MAPPED_ADDRESS
+        (hidden_value octets.now port (transaction_id_field (take count buffer.old)))) buffer.old }
+{
+    match base_id(buffer, count) {
+        Ok(id) => {
+            let mut longest = [0; 20];
+            let value = &mut longest[..4 + octets.len()];
+            write_address(value, octets, port, id);
+            add(buffer, count, AttributeType::XOR_MAPPED_ADDRESS, value)
+        }
+        Err(refusal) => refusal.code(),
+    }
+}
+
+/// Adds an XOR-MAPPED-ADDRESS to the message in the first `count` bytes of the buffer, and answers the new length or the
+/// number of the refusal.
+pub fn add_address(buffer: &mut [u8], count: usize, octets: &[u8], port: u32) -> i64
+    ensures answer { result ≡ written_number (added_address buffer.old count octets.now port) }
+    ensures written { buffer.new ≡ buffer_after (added_address buffer.old count octets.now port) buffer.old }
+{
+    if !is_address(octets, port) {
+        return Refusal::BadArgument.code();
+    }
+    add_hidden(buffer, count, octets, port as u16)
+}

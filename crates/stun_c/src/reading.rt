@@ -1,0 +1,236 @@
+//! Messages read: their fields, their attributes by place, and the error and the address that they report.
+
+ghost use Rattle.std.specs.Prelude.{◌≡◌, ◌≤◌, ℕ, length, take, drop, pos, IfOk, IfErr, IfSome, IfNone, IsOkAnd, Some, None, Ok, Err, slice_index, true};
+ghost use Rattle.stun_base.specs.Header.{transaction_id_field};
+ghost use Rattle.stun_types.specs.Integrity.{first_of as first_member_of};
+ghost use Rattle.stun_types.specs.Message.{refusal};
+ghost use Rattle.stun_types.specs.Visible.{visible};
+ghost use Rattle.stun_types.specs.XorMappedAddress.{has_octets, xor_bytes, xor_key, xor_port, xored_of};
+ghost use Rattle.stun_c.specs.Answers.{fitted, written_number, buffer_after};
+ghost use Rattle.stun_c.specs.Codes.{code_of, refusal_of_attribute};
+ghost use Rattle.stun_c.specs.Reading.{class_answer, method_answer, id_of_message, next_member, next_answer, number_after, error_in, code_number, error_answer, address_in, octets_of_message, port_after, shown_octets};
+
+use crate::address::{IPV4, IPV6, PORT_KEY, xor_key, xor_with};
+use crate::buffer::fill;
+use crate::codes::Refusal;
+use byteorder::{BigEndian, ByteOrder};
+use stun_base::attribute_type::AttributeType;
+use stun_base::error::StunParseError;
+use stun_base::message_type::MessageClass;
+use stun_types::attribute::{ErrorCode, RawAttribute};
+use stun_types::message::Message;
+use stun_types::prelude::*;
+
+/// The two bits of a message's class, or the number of the refusal.
+pub fn class(message: &[u8]) -> i64
+    ensures { result ≡ class_answer message.now }
+{
+    match Message::from_bytes(message) {
+        Ok(message) => match message.class() {
+            MessageClass::Request => 0,
+            MessageClass::Indication => 1,
+            MessageClass::Success => 2,
+            MessageClass::Error => 3,
+        },
+        Err(error) => Refusal::from(error).code(),
+    }
+}
+
+/// The method of a message, or the number of the refusal.
+pub fn method(message: &[u8]) -> i64
+    ensures { result ≡ method_answer message.now }
+{
+    match Message::from_bytes(message) {
+        Ok(message) => i64::from(message.method().value()),
+        Err(error) => Refusal::from(error).code(),
+    }
+}
+
+/// The bytes of a message's transaction id.
+fn id_bytes(message: &[u8]) -> Result<&[u8], Refusal>
+    ensures ok { IfOk result (λ id. id_of_message message.now ≡ Ok id.now) }
+    ensures err { IfErr result (λ refusal. id_of_message message.now ≡ Err refusal) }
+{
+    let message = Message::from_bytes(message)?;
+    Ok(&message.as_bytes()[8..20])
+}
+
+/// Copies the transaction id of a message to the front of the buffer, and answers its length or the number of the refusal.
+pub fn id(message: &[u8], out: &mut [u8]) -> i64
+    ensures answer { result ≡ written_number (fitted (id_of_message message.now) (length out.old)) }
+    ensures written { out.new ≡ buffer_after (fitted (id_of_message message.now) (length out.old)) out.old }
+{
+    match id_bytes(message) {
+        Ok(id) => fill(out, id),
+        Err(refusal) => refusal.code(),
+    }
+}
+
+/// The first visible attribute that stands after a place, with its own place.
+fn member_after<'a>(message: &Message<'a>, place: usize) -> Option<(usize, RawAttribute<'a>)>
+    ensures first { result ≡ next_member place message.now }
+    ensures within { IfSome result (λ m. m.0 ≤ length message.now) }
+{
+    message.iter_attributes().find(|found| place < found.0)
+}
+
+/// The place of the first visible attribute that stands after a place, or 0, or the number of the refusal. Its type and the
+/// length of its value are written.
+pub fn next(message: &[u8], place: usize, kind: &mut u16, value_length: &mut usize) -> i64
+    ensures answer { result ≡ next_answer message.now place }
+    ensures kind { kind.new ≡ number_after (λ a. a.kind) (refusal message.now)
+        (next_member place message.now) kind.old }
+    ensures value_length { value_length.new ≡ number_after (λ a. length a.value) (refusal message.now)
+        (next_member place message.now) value_length.old }
+{
+    match Message::from_bytes(message) {
+        Ok(message) => match member_after(&message, place) {
+            Some((place, attribute)) => {
+                *kind = attribute.get_type().value();
+                *value_length = attribute.length();
+                place as i64
+            }
+            None => 0,
+        },
+        Err(error) => Refusal::from(error).code(),
+    }
+}
+
+/// The refusal that stands for an error of reading an attribute.
+fn attribute_refusal(error: StunParseError) -> Refusal
+    ensures { result ≡ refusal_of_attribute error }
+{
+    match error {
+        StunParseError::Truncated => Refusal::Truncated,
+        StunParseError::NotStun => Refusal::NotStun,
+        StunParseError::TooLarge => Refusal::TooLarge,
+        StunParseError::MissingAttribute(_) => Refusal::MissingAttribute,
+        StunParseError::InvalidAttributeData => Refusal::MalformedAttribute,
+    }
+}
+
+/// The error that a message reports.
+fn error_in<'a>(message: &Message<'a>) -> Result<ErrorCode<'a>, StunParseError>
+    ensures { result ≡ error_in message.now }
+{
+    message.attribute::<ErrorCode<'a>>()
+}
+
+/// The code of the error that a message reports, or the number of the refusal.
+pub fn error_code(message: &[u8]) -> i64
+    ensures { result ≡ error_answer message.now }
+{
+    match Message::from_bytes(message) {
+        Ok(message) => match error_in(&message) {
+            Ok(error) => i64::from(error.code()),
+            Err(error) => attribute_refusal(error).code(),
+        },
+        Err(error) => Refusal::from(error).code(),
+    }
+}
+
+/// Whether an address of this family has so many octets.
+fn has_octets(family: u8, count: usize) -> bool
+    ensures answer { result ≡ has_octets family count }
+    ensures short { result ≡ true → count ≤ 16 }
+{
+    match count {
+        4 => family == IPV4,
+        16 => family == IPV6,
+        _ => false,
+    }
+}
+
+/// The first visible attribute of a type, with its place.
+fn first_of<'a>(message: &Message<'a>, kind: AttributeType) -> Option<(usize, RawAttribute<'a>)>
+    ensures { result ≡ first_member_of kind.0 (visible message.now) }
+{
+    message
+        .iter_attributes()
+        .find(|found| found.1.get_type() == kind)
+}
+
+/// The port and the octets of an XOR-MAPPED-ADDRESS, still hidden, where it is well formed.
+fn hidden_parts<'a>(attribute: &RawAttribute<'a>) -> Option<(u16, &'a [u8])>
+    ensures none { IfNone result (xored_of attribute.now ≡ None) }
+    ensures some { IfSome result (λ parts. xored_of attribute.now ≡ Some (record {
+      family = slice_index attribute.now.value 1;
+      port = parts.0;
+      octets = parts.1.now;
+    })) }
+    ensures short { IfSome result (λ parts. length parts.1.now ≤ 16) }
+{
+    let value = attribute.value();
+    if attribute.get_type() != AttributeType::XOR_MAPPED_ADDRESS || value.len() < 4 {
+        return None;
+    }
+    if !has_octets(value[1], value.len() - 4) {
+        return None;
+    }
+    Some((BigEndian::read_u16(&value[2..]), &value[4..]))
+}
+
+/// The port and the octets of the address that a message reports, still hidden, or why it reports none.
+fn address_in<'a>(message: &Message<'a>) -> Result<(u16, &'a [u8]), Refusal>
+    ensures ok { IfOk result (λ parts. (id : ℕ)
+        → shown_octets (address_in message.now) id ≡ Ok (xor_bytes parts.1.now (xor_key id))) }
+    ensures port { IfOk result (λ parts. IsOkAnd (address_in message.now) (λ a. a.port ≡ parts.0)) }
+    ensures short { IfOk result (λ parts. length parts.1.now ≤ 16) }
+    ensures err { IfErr result (λ refusal. (id : ℕ) → shown_octets (address_in message.now) id ≡ Err refusal) }
+{
+    let Some((_, attribute)) = first_of(message, AttributeType::XOR_MAPPED_ADDRESS) else {
+        return Err(Refusal::MissingAttribute);
+    };
+    match hidden_parts(&attribute) {
+        Some(parts) => Ok(parts),
+        None => Err(Refusal::MalformedAttribute),
+    }
+}
+
+/// The port and the octets of the address that a message reports, shown in a place for sixteen, or why it reports none.
+fn shown_in<'a>(message: &Message<'_>, place: &'a mut [u8]) -> Result<(u16, &'a [u8]), Refusal>
+    requires { length place.old ≡ 16 }
+    ensures ok { IfOk result (λ parts. shown_octets (address_in message.now)
+        (transaction_id_field message.now) ≡ Ok parts.1.now) }
+    ensures port { IfOk result (λ parts. IsOkAnd (address_in message.now) (λ a. parts.0 ≡ xor_port a.port)) }
+    ensures err { IfErr result (λ refusal. shown_octets (address_in message.now)
+        (transaction_id_field message.now) ≡ Err refusal) }
+{
+    let (port, octets) = address_in(message)?;
+    let shown = &mut place[..octets.len()];
+    shown.copy_from_slice(octets);
+    xor_with(shown, &xor_key(message.transaction_id()));
+    Ok((port ^ PORT_KEY, shown))
+}
+
+/// The same of a message in bytes.
+fn shown_address<'a>(message: &[u8], place: &'a mut [u8]) -> Result<(u16, &'a [u8]), Refusal>
+    requires { length place.old ≡ 16 }
+    ensures ok { IfOk result (λ parts. octets_of_message message.now ≡ Ok parts.1.now) }
+    ensures port { IfOk result (λ parts. IsOkAnd (address_in message.now) (λ a. parts.0 ≡ xor_port a.port)) }
+    ensures err { IfErr result (λ refusal. octets_of_message message.now ≡ Err refusal) }
+{
+    let message = Message::from_bytes(message)?;
+    shown_in(&message, place)
+}
+
+/// Copies the octets of the address that a message reports to the front of the buffer and its port to the caller's, and
+/// answers how many octets there are or the number of the refusal.
+pub fn mapped_address(message: &[u8], out: &mut [u8], port: &mut u16) -> i64
+    ensures answer { result ≡ written_number (fitted (octets_of_message message.now) (length out.old)) }
+    ensures written { out.new ≡ buffer_after (fitted (octets_of_message message.now) (length out.old)) out.old }
+    ensures port { port.new ≡ port_after (fitted (octets_of_message message.now) (length out.old))
+        (address_in message.now) port.old }
+{
+    let mut place = [0; 16];
+    match shown_address(message, &mut place) {
+        Ok((shown, octets)) => {
+            if out.len() < octets.len() {
+                return Refusal::BufferTooSmall.code();
+            }
+            *port = shown;
+            fill(out, octets)
+        }
+        Err(refusal) => refusal.code(),
+    }
+}

@@ -1,0 +1,364 @@
+//! Messages written in the caller's buffer, an attribute at a time.
+
+ghost use Rattle.std.specs.Prelude.{◌≡◌, ◌≤◌, ◌<◌, ℕ, List, pos, nat_lt, Ok, Err, ◌+◌, ◌-◌, ◌++◌, [], length, take, drop, find, replicate, IfOk, IfErr, OnOk, Some, None, is_some, true, false};
+ghost use Rattle.byteorder.specs.Endian.{big_bytes};
+ghost use Rattle.stun_base.specs.Algorithm.{digest, digest_length};
+ghost use Rattle.stun_base.specs.MessageType.{class_of_bits};
+ghost use Rattle.stun_types.specs.ErrorCode.{error_value};
+ghost use Rattle.stun_types.specs.Attribute.{attribute_length};
+ghost use Rattle.stun_types.specs.Grammar.{spelled_attribute};
+ghost use Rattle.stun_types.specs.Message.{with_length};
+ghost use Rattle.stun_types.specs.Visible.{visible};
+ghost use Rattle.stun_types.specs.Writing.{is_set_apart, integrity_kind, with_attribute, with_integrity};
+ghost use Rattle.stun_c.specs.Answers.{fitted, written_number, buffer_after};
+ghost use Rattle.stun_c.specs.Codes.{algorithm_numbered};
+ghost use Rattle.stun_c.specs.code.Room.{HasRoom};
+ghost use Rattle.stun_c.specs.Writing.{begun, base_refusal, fit_refusal, adding_refusal, signing_refusal, added, added_error, error_argument_refusal, signed, is_closed, shows_kind};
+
+use crate::buffer::fill;
+use crate::codes::{Refusal, algorithm_numbered};
+use crate::request::transaction_id;
+use crate::text::text;
+use byteorder::{BigEndian, ByteOrder};
+use stun_base::algorithm::IntegrityAlgorithm;
+use stun_base::attribute_type::AttributeType;
+use stun_base::hmac::{SHA1_LENGTH, SHA256_LENGTH, hmac_sha1, hmac_sha256};
+use stun_base::message_type::{MessageClass, MessageType, Method};
+use stun_types::attribute::attribute_length;
+use stun_types::message::{Message, MessageWriteMutSlice};
+use stun_types::prelude::*;
+
+/// The bytes of a header.
+const HEADER_LENGTH: usize = 20;
+
+/// The most bytes after the header: the greatest multiple of four that the length field holds.
+const MAX_DATA_LENGTH: usize = 65532;
+
+/// The bytes of the longest reason of an error (RFC 8489, section 14.8).
+const LONGEST_REASON: usize = 763;
+
+/// Whether attributes of this type end a message: the two of integrity, and FINGERPRINT.
+fn is_set_apart(kind: AttributeType) -> bool
+    ensures { result ≡ is_set_apart kind.0 }
+{
+    kind == AttributeType::MESSAGE_INTEGRITY
+        || kind == AttributeType::MESSAGE_INTEGRITY_SHA256
+        || kind == AttributeType::FINGERPRINT
+}
+
+/// Whether the message has an attribute after which no other may be added.
+fn is_closed(message: &Message<'_>) -> bool
+    ensures { result ≡ is_closed message.now }
+{
+    message
+        .iter_attributes()
+        .find(|found| is_set_apart(found.1.get_type()))
+        .is_some()
+}
+
+/// Whether the message has a visible attribute of this type.
+fn shows_kind(message: &Message<'_>, kind: AttributeType) -> bool
+    ensures { result ≡ shows_kind kind.0 message.now }
+{
+    message
+        .iter_attributes()
+        .find(|found| found.1.get_type() == kind)
+        .is_some()
+}
+
+/// The message at the front of the buffer, where an attribute may be added to it.
+pub fn base_message(buffer: &[u8], count: usize) -> Result<Message<'_>, Refusal>
+    ensures ok { IfOk result (λ message. message ≡ take count buffer.now) }
+    ensures within { OnOk result (count ≤ length buffer.now) }
+    ensures accepted { OnOk result (base_refusal buffer.now count ≡ None) }
+    ensures err { IfErr result (λ refusal. base_refusal buffer.now count ≡ Some refusal) }
+{
+    let Some(bytes) = buffer.get(..count) else {
+        return Err(Refusal::BadArgument);
+    };
+    let message = Message::from_bytes(bytes)?;
+    if is_closed(&message) {
+        return Err(Refusal::Closed);
+    }
+    Ok(message)
+}
+
+/// Whether a value of so many bytes fits after a message with so much room: the length field first, then the room.
+fn fits(message: &Message<'_>, room: usize, value_length: usize) -> Result<(), Refusal>
+    ensures ok { OnOk result (fit_refusal message.now room value_length ≡ None) }
+    ensures header { OnOk result (20 ≤ length message.now) }
+    ensures room { OnOk result (attribute_length value_length ≤ room) }
+    ensures short { OnOk result (length message.now - 20 + attribute_length value_length ≤ 65532) }
+    ensures err { IfErr result (λ refusal. fit_refusal message.now room value_length ≡ Some refusal) }
+{
+    let padded_length = attribute_length(value_length);
+    let data_length = message.as_bytes().len() - HEADER_LENGTH;
+    if data_length.saturating_add(padded_length) > MAX_DATA_LENGTH {
+        return Err(Refusal::MessageTooLong);
+    }
+    if room < padded_length {
+        return Err(Refusal::BufferTooSmall);
+    }
+    Ok(())
+}
+
+/// Why an attribute of this type and so many bytes is not added, the first reason that holds.
+fn addable(
+    buffer: &[u8],
+    count: usize,
+    kind: AttributeType,
+    value_length: usize,
+) -> Result<(), Refusal>
+    ensures ok { OnOk result (adding_refusal buffer.now count kind.0 value_length ≡ None) }
+    ensures fits { OnOk result (HasRoom count value_length (length buffer.now)) }
+    ensures err { IfErr result (λ refusal. adding_refusal buffer.now count kind.0 value_length ≡ Some refusal) }
+{
+    let message = base_message(buffer, count)?;
+    if is_set_apart(kind) {
+        return Err(Refusal::NotAllowed);
+    }
+    if shows_kind(&message, kind) {
+        return Err(Refusal::AttributeExists);
+    }
+    fits(&message, buffer.len() - count, value_length)
+}
+
+/// Sets the length field of a message.
+fn set_length(message: &mut [u8], data_length: u16)
+    requires { 20 ≤ length message.old }
+    ensures { message.new ≡ with_length message.old data_length }
+{
+    BigEndian::write_u16(&mut message[2..], data_length);
+}
+
+/// Writes the header of an attribute.
+fn write_header(header: &mut [u8], kind: AttributeType, value_length: usize)
+    requires whole { length header.old ≡ 4 }
+    requires short { value_length ≤ 65532 }
+    ensures { header.new ≡ big_bytes 2 kind.0 ++ big_bytes 2 value_length }
+{
+    header[..2].copy_from_slice(&kind.value().to_be_bytes());
+    header[2..].copy_from_slice(&(value_length as u16).to_be_bytes());
+}
+
+/// Writes zeros.
+fn write_zeros(padding: &mut [u8])
+    ensures { padding.new ≡ replicate (length padding.old) 0 }
+{
+    padding.fill(0);
+}
+
+/// Writes an attribute with its header and its padding to the front of a buffer that has room for it.
+fn spell(buffer: &mut [u8], kind: AttributeType, value: &[u8])
+    requires short { length value.now ≤ 65532 }
+    requires room { attribute_length (length value.now) ≤ length buffer.old }
+    ensures { buffer.new ≡ spelled_attribute (record { kind = kind.0; value = value.now })
+        ++ drop (attribute_length (length value.now)) buffer.old }
+{
+    let padding_length = (4 - value.len() % 4) % 4;
+    let (header, rest) = buffer.split_at_mut(4);
+    let (place, rest) = rest.split_at_mut(value.len());
+    let (padding, _) = rest.split_at_mut(padding_length);
+    write_header(header, kind, value.len());
+    place.copy_from_slice(value);
+    write_zeros(padding);
+}
+
+/// Raises the length field of the message at the front of the buffer and writes the attribute after it. The answer is
+/// where that ends.
+fn append(buffer: &mut [u8], count: usize, kind: AttributeType, value: &[u8]) -> i64
+    requires { HasRoom count (length value.now) (length buffer.old) }
+    ensures answer { result ≡ pos (count + attribute_length (length value.now)) }
+    ensures written { buffer.new ≡ with_attribute (take count buffer.old) (record { kind = kind.0; value = value.now })
+        ++ drop (count + attribute_length (length value.now)) buffer.old }
+{
+    let end = count + attribute_length(value.len());
+    let (message, rest) = buffer.split_at_mut(count);
+    set_length(message, (end - HEADER_LENGTH) as u16);
+    spell(rest, kind, value);
+    end as i64
+}
+
+/// Adds an attribute to the message in the first `count` bytes of the buffer, and answers the new length or the number
+/// of the refusal.
+pub fn add(buffer: &mut [u8], count: usize, kind: AttributeType, value: &[u8]) -> i64
+    ensures answer { result ≡ written_number (added buffer.old count kind.0 value.now) }
+    ensures written { buffer.new ≡ buffer_after (added buffer.old count kind.0 value.now) buffer.old }
+{
+    match addable(buffer, count, kind, value.len()) {
+        Ok(()) => append(buffer, count, kind, value),
+        Err(refusal) => refusal.code(),
+    }
+}
+
+/// Writes the integrity attribute of a text to the front of a buffer that has room for it.
+fn spell_digest(buffer: &mut [u8], algorithm: IntegrityAlgorithm, key: &[u8], text: &[u8])
+    requires { attribute_length (digest_length algorithm) ≤ length buffer.old }
+    ensures { buffer.new ≡ spelled_attribute (record { kind = integrity_kind algorithm; value = digest algorithm key.now text.now })
+        ++ drop (attribute_length (digest_length algorithm)) buffer.old }
+{
+    match algorithm {
+        IntegrityAlgorithm::Sha1 => {
+            let digest = digest_sha1(key, text);
+            spell(buffer, AttributeType::MESSAGE_INTEGRITY, &digest);
+        }
+        IntegrityAlgorithm::Sha256 => {
+            let digest = digest_sha256(key, text);
+            spell(buffer, AttributeType::MESSAGE_INTEGRITY_SHA256, &digest);
+        }
+    }
+}
+
+/// HMAC-SHA1 of a text.
+fn digest_sha1(key: &[u8], text: &[u8]) -> [u8; SHA1_LENGTH]
+    ensures { result ≡ digest IntegrityAlgorithm.Sha1 key.now text.now }
+{
+    hmac_sha1(key, &[text])
+}
+
+/// HMAC-SHA256 of a text.
+fn digest_sha256(key: &[u8], text: &[u8]) -> [u8; SHA256_LENGTH]
+    ensures { result ≡ digest IntegrityAlgorithm.Sha256 key.now text.now }
+{
+    hmac_sha256(key, &[text])
+}
+
+/// Raises the length field of the message at the front of the buffer and writes its integrity attribute after it. The
+/// answer is where that ends.
+fn append_integrity(
+    buffer: &mut [u8],
+    count: usize,
+    algorithm: IntegrityAlgorithm,
+    key: &[u8],
+) -> i64
+    requires { HasRoom count (digest_length algorithm) (length buffer.old) }
+    ensures answer { result ≡ pos (count + attribute_length (digest_length algorithm)) }
+    ensures written { buffer.new ≡ with_integrity (take count buffer.old) algorithm key.now
+        ++ drop (count + attribute_length (digest_length algorithm)) buffer.old }
+{
+    let end = count + attribute_length(algorithm.digest_length());
+    let (message, rest) = buffer.split_at_mut(count);
+    set_length(message, (end - HEADER_LENGTH) as u16);
+    spell_digest(rest, algorithm, key, message);
+    end as i64
+}
+
+/// The algorithm of this number, where its attribute can be added to the message at the front of the buffer.
+fn signable(buffer: &[u8], count: usize, algorithm: u32) -> Result<IntegrityAlgorithm, Refusal>
+    ensures ok { IfOk result (λ algorithm'. (algorithm_numbered algorithm ≡ Some algorithm')
+        × (signing_refusal buffer.now count algorithm' ≡ None) × HasRoom count (digest_length algorithm') (length buffer.now)) }
+    ensures err { IfErr result (λ refusal. (key : List ℕ) → signed buffer.now count (algorithm_numbered algorithm) key ≡ Err refusal) }
+{
+    let algorithm = algorithm_numbered(algorithm)?;
+    let message = base_message(buffer, count)?;
+    fits(&message, buffer.len() - count, algorithm.digest_length())?;
+    Ok(algorithm)
+}
+
+/// Adds the integrity attribute to the message in the first `count` bytes of the buffer, and answers the new length or
+/// the number of the refusal.
+pub fn sign(buffer: &mut [u8], count: usize, algorithm: u32, key: &[u8]) -> i64
+    ensures answer { result ≡ written_number (signed buffer.old count (algorithm_numbered algorithm) key.now) }
+    ensures written { buffer.new ≡ buffer_after (signed buffer.old count (algorithm_numbered algorithm) key.now) buffer.old }
+{
+    match signable(buffer, count, algorithm) {
+        Ok(algorithm) => append_integrity(buffer, count, algorithm, key),
+        Err(refusal) => refusal.code(),
+    }
+}
+
+/// The class of these two bits.
+fn class_numbered(number: u32) -> Result<MessageClass, Refusal>
+    ensures ok { IfOk result (λ class. (nat_lt number 4 ≡ true) × (class ≡ class_of_bits number)) }
+    ensures err { IfErr result (λ refusal. (nat_lt number 4 ≡ false) × (refusal ≡ Refusal.BadArgument)) }
+{
+    match number {
+        0 => Ok(MessageClass::Request),
+        1 => Ok(MessageClass::Indication),
+        2 => Ok(MessageClass::Success),
+        3 => Ok(MessageClass::Error),
+        _ => Err(Refusal::BadArgument),
+    }
+}
+
+/// The method of this number, which has 12 bits.
+fn method_numbered(number: u32) -> Result<Method, Refusal>
+    ensures ok { IfOk result (λ method. (nat_lt number 4096 ≡ true) × (method ≡ number)) }
+    ensures err { IfErr result (λ refusal. (nat_lt number 4096 ≡ false) × (refusal ≡ Refusal.BadArgument)) }
+{
+    if number >= 4096 {
+        return Err(Refusal::BadArgument);
+    }
+    Ok(Method::new(number as u16).unwrap())
+}
+
+/// Writes a header to a buffer that has room for it.
+fn header<'a>(class: u32, method: u32, id: &[u8], buffer: &'a mut [u8]) -> Result<&'a [u8], Refusal>
+    requires { 20 ≤ length buffer.old }
+    ensures ok { IfOk result (λ header. begun class method id.now ≡ Ok header.now) }
+    ensures err { IfErr result (λ refusal. begun class method id.now ≡ Err refusal) }
+{
+    let class = class_numbered(class)?;
+    let method = method_numbered(method)?;
+    let id = transaction_id(id)?;
+    let writer = MessageWriteMutSlice::new(buffer);
+    let message_type = MessageType::from_class_method(class, method);
+    let writer = Message::builder(message_type, id, writer).unwrap();
+    Ok(writer.finish())
+}
+
+/// Writes a message without attributes to the front of the buffer, and answers its length or the number of the refusal.
+pub fn begin(class: u32, method: u32, id: &[u8], out: &mut [u8]) -> i64
+    ensures answer { result ≡ written_number (fitted (begun class method id.now) (length out.old)) }
+    ensures written { out.new ≡ buffer_after (fitted (begun class method id.now) (length out.old)) out.old }
+{
+    let mut place = [0; HEADER_LENGTH];
+    match header(class, method, id, &mut place) {
+        Ok(header) => fill(out, header),
+        Err(refusal) => refusal.code(),
+    }
+}
+
+/// Writes the value of an ERROR-CODE.
+fn write_error(value: &mut [u8], code: u16, reason: &[u8])
+    requires code { code < 700 }
+    requires room { length value.old ≡ 4 + length reason.now }
+    ensures { value.new ≡ error_value (record { code = code; reason = reason.now }) }
+{
+    let (front, back) = value.split_at_mut(4);
+    front.copy_from_slice(&[0, 0, (code / 100) as u8, (code % 100) as u8]);
+    back.copy_from_slice(reason);
+}
+
+/// The code of an error that can be written with this reason, or the first reason against it.
+fn error_arguments(code: u32, reason: &[u8]) -> Result<u16, Refusal>
+    ensures ok { IfOk result (λ code'. (code' ≡ code) × (code < 700) × (length reason.now ≤ 763)) }
+    ensures accepted { OnOk result (error_argument_refusal code reason.now ≡ None) }
+    ensures err { IfErr result (λ refusal. error_argument_refusal code reason.now ≡ Some refusal) }
+{
+    if !(300..700).contains(&code) {
+        return Err(Refusal::BadArgument);
+    }
+    let text = text(reason)?;
+    if text.len() > LONGEST_REASON {
+        return Err(Refusal::TextTooLong);
+    }
+    Ok(code as u16)
+}
+
+/// Adds an ERROR-CODE to the message in the first `count` bytes of the buffer, and answers the new length or the number
+/// of the refusal.
+pub fn add_error(buffer: &mut [u8], count: usize, code: u32, reason: &[u8]) -> i64
+    ensures answer { result ≡ written_number (added_error buffer.old count code reason.now) }
+    ensures written { buffer.new ≡ buffer_after (added_error buffer.old count code reason.now) buffer.old }
+{
+    match error_arguments(code, reason) {
+        Ok(code) => {
+            let mut longest = [0; 4 + LONGEST_REASON];
+            let value = &mut longest[..4 + reason.len()];
+            write_error(value, code, reason);
+            add(buffer, count, AttributeType::ERROR_CODE, value)
+        }
+        Err(refusal) => refusal.code(),
+    }
+}

@@ -1,4 +1,4 @@
-//! Laws of the types of this crate: what their orders, equalities and constants are.
+//! Laws of the types of this crate: what a type of a message is made of, then orders, equalities and copies, then constants.
 //!
 //! Each function does in one line what its users do, and its contract says what comes of it.
 
@@ -19,23 +19,16 @@ use crate::transport::TransportType;
 use std::alloc::{AllocError, Allocator};
 use std::cmp::Ordering;
 
+/// A type is nothing but its class and its method.
+pub fn parts(message_type: MessageType) -> (MessageClass, Method)
+    ensures { type_number result.0 result.1 ≡ message_type }
+{
+    (message_type.class(), message_type.method())
+}
+
 /// HMAC-SHA1 is below HMAC-SHA256.
 pub fn is_weaker(one: IntegrityAlgorithm, other: IntegrityAlgorithm) -> bool
     ensures { IsTrue result ↔ (strength one < strength other) }
-{
-    one < other
-}
-
-/// Algorithms are equal as values.
-pub fn is_same_algorithm(one: IntegrityAlgorithm, other: IntegrityAlgorithm) -> bool
-    ensures { IsTrue result ↔ (one ≡ other) }
-{
-    one == other
-}
-
-/// Ids are ordered as numbers.
-pub fn is_below(one: TransactionId, other: TransactionId) -> bool
-    ensures { IsTrue result ↔ (one < other) }
 {
     one < other
 }
@@ -47,25 +40,18 @@ pub fn order_of_algorithms(one: IntegrityAlgorithm, other: IntegrityAlgorithm) -
     one.cmp(&other)
 }
 
+/// Ids are ordered as numbers.
+pub fn is_below(one: TransactionId, other: TransactionId) -> bool
+    ensures { IsTrue result ↔ (one < other) }
+{
+    one < other
+}
+
 /// Ids are compared as numbers.
 pub fn order_of_ids(one: TransactionId, other: TransactionId) -> Ordering
     ensures { result ≡ nat_cmp one other }
 {
     one.cmp(&other)
-}
-
-/// Moments are compared as numbers of nanoseconds.
-pub fn order_of_moments(one: Instant, other: Instant) -> Ordering
-    ensures { result ≡ nat_cmp one other }
-{
-    one.cmp(&other)
-}
-
-/// Ids are equal as numbers.
-pub fn is_same_id(one: TransactionId, other: TransactionId) -> bool
-    ensures { IsTrue result ↔ (one ≡ other) }
-{
-    one == other
 }
 
 /// Moments are ordered as numbers of nanoseconds.
@@ -75,60 +61,32 @@ pub fn is_earlier(one: Instant, other: Instant) -> bool
     one < other
 }
 
-/// Moments are equal as numbers of nanoseconds.
-pub fn is_same_moment(one: Instant, other: Instant) -> bool
+/// Moments are compared as numbers of nanoseconds.
+pub fn order_of_moments(one: Instant, other: Instant) -> Ordering
+    ensures { result ≡ nat_cmp one other }
+{
+    one.cmp(&other)
+}
+
+/// Algorithms are equal as values.
+pub fn is_same_algorithm(one: IntegrityAlgorithm, other: IntegrityAlgorithm) -> bool
     ensures { IsTrue result ↔ (one ≡ other) }
 {
     one == other
 }
 
-/// The first moment is 0.
-pub fn first_moment() -> Instant
-    ensures { result ≡ 0 }
+/// Ids are equal as numbers.
+pub fn is_same_id(one: TransactionId, other: TransactionId) -> bool
+    ensures { IsTrue result ↔ (one ≡ other) }
 {
-    Instant::ZERO
+    one == other
 }
 
-/// The last moment is the greatest number of 64 bits.
-pub fn last_moment() -> Instant
-    ensures { result ≡ 2 ^ 64 - 1 }
+/// Moments are equal as numbers of nanoseconds.
+pub fn is_same_moment(one: Instant, other: Instant) -> bool
+    ensures { IsTrue result ↔ (one ≡ other) }
 {
-    Instant::MAX
-}
-
-/// The method of a binding request is 1 (RFC 8489, section 18.2).
-pub fn binding() -> Method
-    ensures { result ≡ 0x001 }
-{
-    BINDING
-}
-
-/// The types of binding messages: request, indication, success and error (RFC 8489, section 5).
-pub fn binding_types() -> [MessageType; 4]
-    ensures { result ≡ 0x0001 ∷ 0x0011 ∷ 0x0101 ∷ 0x0111 ∷ [] }
-{
-    [
-        MessageType::from_class_method(MessageClass::Request, BINDING),
-        MessageType::from_class_method(MessageClass::Indication, BINDING),
-        MessageType::from_class_method(MessageClass::Success, BINDING),
-        MessageType::from_class_method(MessageClass::Error, BINDING),
-    ]
-}
-
-/// Where the bits of a method stand in a type: the method 0x5A3 and the class of a success give
-/// 0x1743.
-pub fn spread_type() -> Option<MessageType>
-    ensures { result ≡ Some 0x1743 }
-{
-    let method = Method::new(0x5A3)?;
-    Some(MessageType::from_class_method(MessageClass::Success, method))
-}
-
-/// A type is nothing but its class and its method.
-pub fn parts(message_type: MessageType) -> (MessageClass, Method)
-    ensures { type_number result.0 result.1 ≡ message_type }
-{
-    (message_type.class(), message_type.method())
+    one == other
 }
 
 /// Classes are equal as values.
@@ -166,24 +124,52 @@ pub fn is_same_attribute_type(one: AttributeType, other: AttributeType) -> bool
     one == other
 }
 
-/// The numbers of the registry (RFC 8489, section 18.3), in ascending order.
-pub fn attribute_types() -> [AttributeType; 11]
-    ensures { map (λ kind. kind.0) result ≡
-        0x0006 ∷ 0x0008 ∷ 0x0009 ∷ 0x0014 ∷ 0x0015 ∷ 0x001C ∷ 0x001D ∷ 0x001E ∷ 0x0020 ∷ 0x8002 ∷ 0x8028 ∷ [] }
+/// Transports are equal as values.
+pub fn is_same_transport(one: TransportType, other: TransportType) -> bool
+    ensures { IsTrue result ↔ (one ≡ other) }
 {
-    [
-        AttributeType::USERNAME,
-        AttributeType::MESSAGE_INTEGRITY,
-        AttributeType::ERROR_CODE,
-        AttributeType::REALM,
-        AttributeType::NONCE,
-        AttributeType::MESSAGE_INTEGRITY_SHA256,
-        AttributeType::PASSWORD_ALGORITHM,
-        AttributeType::USERHASH,
-        AttributeType::XOR_MAPPED_ADDRESS,
-        AttributeType::PASSWORD_ALGORITHMS,
-        AttributeType::FINGERPRINT,
-    ]
+    one == other
+}
+
+/// Errors of reading are equal as values, with the type of the missing attribute.
+pub fn is_same_parse_error(one: StunParseError, other: StunParseError) -> bool
+    ensures { IsTrue result ↔ (one ≡ other) }
+{
+    one == other
+}
+
+/// Errors of checking are equal as values.
+pub fn is_same_validate_error(one: ValidateError, other: ValidateError) -> bool
+    ensures { IsTrue result ↔ (one ≡ other) }
+{
+    one == other
+}
+
+/// Errors of writing are equal as values, with the type of the attribute that exists.
+pub fn is_same_write_error(one: StunWriteError, other: StunWriteError) -> bool
+    ensures { IsTrue result ↔ (one ≡ other) }
+{
+    one == other
+}
+
+/// Short-term credentials are equal where their passwords are the same bytes.
+pub fn is_same_password<A: Allocator>(
+    one: &ShortTermCredentials<A>,
+    other: &ShortTermCredentials<A>,
+) -> bool
+    ensures { IsTrue result ↔ (one.now ≡ other.now) }
+{
+    one == other
+}
+
+/// Long-term credentials are equal where name and password are the same bytes.
+pub fn is_same_user<A: Allocator>(
+    one: &LongTermCredentials<A>,
+    other: &LongTermCredentials<A>,
+) -> bool
+    ensures { IsTrue result ↔ (one.now ≡ other.now) }
+{
+    one == other
 }
 
 /// Copies of the parts of a header are the same values.
@@ -242,50 +228,64 @@ pub fn copied_errors(
     Ok((parse.clone()?, validate.clone()?, write.clone()?))
 }
 
-/// Short-term credentials are equal where their passwords are the same bytes.
-pub fn is_same_password<A: Allocator>(
-    one: &ShortTermCredentials<A>,
-    other: &ShortTermCredentials<A>,
-) -> bool
-    ensures { IsTrue result ↔ (one.now ≡ other.now) }
+/// The first moment is 0.
+pub fn first_moment() -> Instant
+    ensures { result ≡ 0 }
 {
-    one == other
+    Instant::ZERO
 }
 
-/// Long-term credentials are equal where name and password are the same bytes.
-pub fn is_same_user<A: Allocator>(
-    one: &LongTermCredentials<A>,
-    other: &LongTermCredentials<A>,
-) -> bool
-    ensures { IsTrue result ↔ (one.now ≡ other.now) }
+/// The last moment is the greatest number of 64 bits.
+pub fn last_moment() -> Instant
+    ensures { result ≡ 2 ^ 64 - 1 }
 {
-    one == other
+    Instant::MAX
 }
 
-/// Transports are equal as values.
-pub fn is_same_transport(one: TransportType, other: TransportType) -> bool
-    ensures { IsTrue result ↔ (one ≡ other) }
+/// The method of a binding request is 1 (RFC 8489, section 18.2).
+pub fn binding() -> Method
+    ensures { result ≡ 0x001 }
 {
-    one == other
+    BINDING
 }
 
-/// Errors of reading are equal as values, with the type of the missing attribute.
-pub fn is_same_parse_error(one: StunParseError, other: StunParseError) -> bool
-    ensures { IsTrue result ↔ (one ≡ other) }
+/// The types of binding messages: request, indication, success and error (RFC 8489, section 5).
+pub fn binding_types() -> [MessageType; 4]
+    ensures { result ≡ 0x0001 ∷ 0x0011 ∷ 0x0101 ∷ 0x0111 ∷ [] }
 {
-    one == other
+    [
+        MessageType::from_class_method(MessageClass::Request, BINDING),
+        MessageType::from_class_method(MessageClass::Indication, BINDING),
+        MessageType::from_class_method(MessageClass::Success, BINDING),
+        MessageType::from_class_method(MessageClass::Error, BINDING),
+    ]
 }
 
-/// Errors of checking are equal as values.
-pub fn is_same_validate_error(one: ValidateError, other: ValidateError) -> bool
-    ensures { IsTrue result ↔ (one ≡ other) }
+/// Where the bits of a method stand in a type: the method 0x5A3 and the class of a success give
+/// 0x1743.
+pub fn spread_type() -> Option<MessageType>
+    ensures { result ≡ Some 0x1743 }
 {
-    one == other
+    let method = Method::new(0x5A3)?;
+    Some(MessageType::from_class_method(MessageClass::Success, method))
 }
 
-/// Errors of writing are equal as values, with the type of the attribute that exists.
-pub fn is_same_write_error(one: StunWriteError, other: StunWriteError) -> bool
-    ensures { IsTrue result ↔ (one ≡ other) }
+/// The numbers of the registry (RFC 8489, section 18.3), in ascending order.
+pub fn attribute_types() -> [AttributeType; 11]
+    ensures { map (λ kind. kind.0) result ≡
+        0x0006 ∷ 0x0008 ∷ 0x0009 ∷ 0x0014 ∷ 0x0015 ∷ 0x001C ∷ 0x001D ∷ 0x001E ∷ 0x0020 ∷ 0x8002 ∷ 0x8028 ∷ [] }
 {
-    one == other
+    [
+        AttributeType::USERNAME,
+        AttributeType::MESSAGE_INTEGRITY,
+        AttributeType::ERROR_CODE,
+        AttributeType::REALM,
+        AttributeType::NONCE,
+        AttributeType::MESSAGE_INTEGRITY_SHA256,
+        AttributeType::PASSWORD_ALGORITHM,
+        AttributeType::USERHASH,
+        AttributeType::XOR_MAPPED_ADDRESS,
+        AttributeType::PASSWORD_ALGORITHMS,
+        AttributeType::FINGERPRINT,
+    ]
 }

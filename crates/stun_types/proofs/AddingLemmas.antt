@@ -19,6 +19,7 @@ use Rattle.stun_types.specs.Writing.{HasOneMore, IsAddable, IsOpen, is_set_apart
 use Rattle.stun_types.proofs.GrammarLemmas.{finds_what_is_written, read_again}
 use Rattle.stun_types.proofs.IntegrityLemmas.{walk_up_to-within}
 use Rattle.stun_types.proofs.VisibleLemmas.{has_kind-append}
+use Rattle.stun_types.proofs.HeaderLemmas.{fields_of, is_stun-fields}
 use Rattle.stun_types.proofs.WalkLemmas.{walk_from-step, walk_from-end, whole_within}
 
 -- an attribute at the front is the same whatever follows it
@@ -142,6 +143,7 @@ pub IsMessage-added : (message : List ℕ) (attribute : TypedValue) → IsMessag
 IsMessage-added message attribute is_message addable =
     let n = length_with message (length attribute.value) in
     let whole = is_message.header.is_whole in
+    let before = fields_of message is_message.header.fields in
     let fits : n < 2 ^ 16 = omega (arith, addable.value) in
     let kept = raised message (spelled_attribute attribute) n whole fits in
     let count = length-spelled_attribute attribute in
@@ -150,9 +152,11 @@ IsMessage-added message attribute is_message addable =
     record {
       header = record {
         is_whole = omega (arith, whole, kept.long);
-        top_bits = omega (arith, kept.type_is, is_message.header.top_bits);
-        cookie = kept.cookie_is ∙ is_message.header.cookie;
-        aligned = omega (arith, kept.length_is, is_message.stated, is_message.header.aligned);
+        fields = is_stun-fields (with_attribute message attribute) (record {
+          top_bits = omega (arith, kept.type_is, before.top_bits);
+          cookie = kept.cookie_is ∙ before.cookie;
+          aligned = omega (arith, kept.length_is, is_message.stated, before.aligned);
+        });
       };
       stated = omega (arith, kept.length_is, kept.long, count, whole);
       filled = omega (arith, walked, both, kept.long, count, is_message.filled);

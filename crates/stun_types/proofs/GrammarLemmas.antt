@@ -11,6 +11,7 @@ use Rattle.stun_types.specs.Walk.{Member, next_place, walk_up_to, walk_from, tak
 use Rattle.stun_types.specs.Grammar.{BeginsWith, unpadded, AreSpelled, SpellsWhatIsFound, FindsWhatIsSpelled, spelled_attribute, spelled_attributes, spelled, IsSpellable, FindsWhatIsWritten}
 use Rattle.std.specs.List.{AllByRecursion}
 use Rattle.stun_types.proofs.WalkLemmas.{walk_from-step, walk_from-end}
+use Rattle.stun_types.proofs.HeaderLemmas.{HasFields, is_stun-fields}
 use Rattle.stun_types.proofs.WalkLemmas.{whole_within}
 use Rattle.stun_base.specs.Header.{HEADER_LENGTH, BeginsWithHeader, type_field, length_field}
 
@@ -173,5 +174,6 @@ finds_what_is_written message_type transaction_id attributes type_fits fit lengt
     let stated : length_field bytes ≡ length behind = big_number-reads_back 2 (length behind) (drop 4 bytes) length_fits in
     let kind : type_field bytes ≡ message_type = big_number-reads_back 2 message_type (drop 2 bytes) (omega arith) in
     let long : length bytes ≡ HEADER_LENGTH + length behind = omega arith in
-    let header : BeginsWithHeader bytes = record { is_whole = omega arith; top_bits = omega arith; cookie = refl; aligned = omega (arith, length-spelled_attributes attributes) } in
+    let fields : HasFields bytes = record { top_bits = omega arith; cookie = refl; aligned = omega (arith, length-spelled_attributes attributes) } in
+    let header : BeginsWithHeader bytes = record { is_whole = omega arith; fields = is_stun-fields bytes fields } in
     finds_what_is_spelled bytes attributes header (omega arith) (AreSpelled-spelled_attributes attributes fit)

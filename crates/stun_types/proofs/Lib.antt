@@ -1,6 +1,7 @@
 pub mod EntryLemmas
 pub mod AddingLemmas
 pub mod GrammarLemmas
+pub mod HeaderLemmas
 pub mod IntegrityLemmas
 pub mod MessageLemmas
 pub mod OnceLemmas

@@ -17,7 +17,7 @@ use Rattle.stun_types.specs.Integrity.{algorithm_of, covered, deciding, first_of
 use Rattle.stun_types.specs.Message.{with_length}
 use Rattle.stun_types.specs.Visible.{visible}
 use Rattle.stun_types.specs.Walk.{Member, walk}
-use Rattle.stun_types.specs.Writing.{HasOneMore, IsAddable, IsOpen, covered_at_end, integrity_attribute, integrity_kind, length_with, with_integrity}
+use Rattle.stun_types.specs.Writing.{HasOneMore, IsAddable, IsOpen, covered_at_end, integrity_attribute, integrity_kind, length_with, max_length, with_integrity}
 use Rattle.stun_types.proofs.AddingLemmas.{HasOneMore-added, HideNone, HideNone-open, or_none, visible-open}
 
 -- setting the length field again
@@ -36,7 +36,7 @@ length-with_length (x ∷ y ∷ z ∷ []) n long = absurd (omega (arith, long))
 length-with_length (x ∷ y ∷ z ∷ w ∷ bytes) n long = refl
 
 -- the integrity attribute fits a message where its digest does
-pub IsAddable-integrity : (message : List ℕ) (algorithm : IntegrityAlgorithm) (key : List ℕ) → length_with message (digest_length algorithm) ≤ 65532
+pub IsAddable-integrity : (message : List ℕ) (algorithm : IntegrityAlgorithm) (key : List ℕ) → length_with message (digest_length algorithm) ≤ max_length
     → IsAddable message (integrity_attribute message algorithm key)
 IsAddable-integrity message Sha1 key short = record { kind = omega arith; value = rw (length-digest Sha1 key (covered_at_end message Sha1)) short }
 IsAddable-integrity message Sha256 key short = record { kind = omega arith; value = rw (length-digest Sha256 key (covered_at_end message Sha256)) short }
@@ -116,7 +116,7 @@ standing-signed message Sha256 keys long =
 
 -- what is signed stands
 pub stands_by-signed : (message : List ℕ) (algorithm : IntegrityAlgorithm) (keys : IntegrityAlgorithm → List ℕ) → IsOpen message
-    → length_with message (digest_length algorithm) ≤ 65532 → stands_by keys (with_integrity message algorithm (keys algorithm)) ≡ Some algorithm
+    → length_with message (digest_length algorithm) ≤ max_length → stands_by keys (with_integrity message algorithm (keys algorithm)) ≡ Some algorithm
 stands_by-signed message algorithm keys is_open short =
     let key = keys algorithm in
     let longer = with_integrity message algorithm key in
@@ -128,7 +128,7 @@ stands_by-signed message algorithm keys is_open short =
     ap (option_and_then (standing keys longer)) decides ∙ standing-signed message algorithm keys is_open.is_message.header.is_whole
 
 -- and it has one attribute more
-pub HasOneMore-signed : (message : List ℕ) (algorithm : IntegrityAlgorithm) (key : List ℕ) → IsOpen message → length_with message (digest_length algorithm) ≤ 65532
+pub HasOneMore-signed : (message : List ℕ) (algorithm : IntegrityAlgorithm) (key : List ℕ) → IsOpen message → length_with message (digest_length algorithm) ≤ max_length
     → HasOneMore message (with_integrity message algorithm key) (integrity_attribute message algorithm key)
 HasOneMore-signed message algorithm key is_open short =
     HasOneMore-added message (integrity_attribute message algorithm key) is_open (IsAddable-integrity message algorithm key short)

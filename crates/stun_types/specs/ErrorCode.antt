@@ -5,16 +5,13 @@ use Rattle.stun_base.specs.Attributes.{ERROR_CODE}
 use Rattle.stun_base.specs.declared.error.StunWriteError.{StunWriteError}
 use Rattle.stun_base.specs.declared.error.StunWriteError.TheVariants.{NotAllowed, TooLarge}
 use Rattle.stun_types.specs.Attribute.{TypedValue}
+use Rattle.stun_types.specs.Limits.{TEXT_LIMIT}
 use Rattle.stun_types.specs.Text.{short_text}
 
 -- an error: its code and the bytes of its reason phrase
 pub record CodeAndReason : Type 0 where
   pub code : ℕ
   pub reason : List ℕ
-
--- the most bytes of a reason
-abbrev pub max_reason : ℕ
-max_reason = 763
 
 -- the phrase of a code whose reason is not set
 abbrev pub default_reason : ℕ → List ℕ
@@ -26,14 +23,14 @@ default_reason code =
 abbrev pub error_refusal : CodeAndReason → Option StunWriteError
 error_refusal error =
     if nat_lt error.code 300 || nat_le 700 error.code then Some NotAllowed
-    else (if nat_lt max_reason (length error.reason) then Some TooLarge else None)
+    else (if nat_lt TEXT_LIMIT (length error.reason) then Some TooLarge else None)
 
 -- an error that can be written
 pub record IsError (error : CodeAndReason) : Type 0 where
   pub from_300 : 300 ≤ error.code
   pub below_700 : error.code < 700
   pub text : IsUtf8 error.reason
-  pub short : length error.reason ≤ max_reason
+  pub short : length error.reason ≤ TEXT_LIMIT
 
 -- the value of the attribute
 abbrev pub error_value : CodeAndReason → List ℕ
@@ -63,4 +60,4 @@ error_with None reason = None
 abbrev pub error_of : TypedValue → Option CodeAndReason
 error_of attribute =
     if attribute.kind == ERROR_CODE && nat_le 4 (length attribute.value)
-    then error_with (code_in attribute.value) (short_text max_reason (drop 4 attribute.value)) else None
+    then error_with (code_in attribute.value) (short_text TEXT_LIMIT (drop 4 attribute.value)) else None

@@ -3,8 +3,9 @@ use Rattle.std.specs.Prelude.{◌≡◌, ℕ, ◌+◌, ◌*◌, ◌/◌, ◌%◌
 use Rattle.std.proofs.Common.{arith, rules, ap, ◌∙◌}
 use Rattle.std.proofs.lemmas.Str.{is_utf8-from_IsUtf8}
 use Rattle.stun_base.specs.Attributes.{ERROR_CODE}
+use Rattle.stun_types.specs.Limits.{TEXT_LIMIT}
 use Rattle.stun_types.specs.Text.{short_text}
-use Rattle.stun_types.specs.ErrorCode.{CodeAndReason, IsError, code_in, error_of, error_value, max_reason}
+use Rattle.stun_types.specs.ErrorCode.{CodeAndReason, IsError, code_in, error_of, error_value}
 
 -- a class and a number within their limits
 within : (class number : ℕ) → 3 ≤ class → class ≤ 6 → number ≤ 99
@@ -22,7 +23,7 @@ code_in-written error fits =
     rw class (within (error.code / 100) (error.code % 100) from below number ∙ ap Some whole)
 
 -- the reason in a written value
-reason-written : (error : CodeAndReason) → IsError error → short_text max_reason error.reason ≡ Some error.reason
+reason-written : (error : CodeAndReason) → IsError error → short_text TEXT_LIMIT error.reason ≡ Some error.reason
 reason-written error fits =
     let utf8 = is_utf8-from_IsUtf8 error.reason fits.text in
     let short = fits.short in

@@ -1,5 +1,7 @@
 -- What the contracts of this crate say, in the order to read it.
 
+-- the numbers that bound a message and its texts
+pub mod Limits
 -- which bytes are a message, and why others are none (RFC 8489, section 5)
 pub mod Message
 -- the attributes of a message, each with its place (section 14)

@@ -5,10 +5,7 @@ use Rattle.stun_base.specs.declared.error.StunParseError.{StunParseError}
 use Rattle.stun_base.specs.declared.error.StunParseError.TheVariants.{Truncated, TooLarge}
 use Rattle.stun_base.specs.Header.{HEADER_LENGTH, BeginsWithHeader, header_refusal, length_field}
 use Rattle.stun_types.specs.Walk.{walk, taken}
-
--- the bytes of the longest message: the length field holds multiples of 4 below 2 ^ 16
-abbrev pub LENGTH_LIMIT : ℕ
-LENGTH_LIMIT = 65552
+pub use Rattle.stun_types.specs.Limits.{LENGTH_LIMIT}
 
 -- the bytes with the length field of their header set
 abbrev pub with_length : List ℕ → ℕ → List ℕ

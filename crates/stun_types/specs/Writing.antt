@@ -1,22 +1,21 @@
 -- What writing does to a message.
-use Rattle.std.specs.Prelude.{◌≡◌, ◌<◌, ◌≤◌, ◌^◌, ℕ, ◌+◌, ◌-◌, Bool, false, ◌||◌, ◌==◌, nat_lt, if◌then◌else◌, List, [], ◌∷◌, ◌++◌, length, Option, Some, None}
+use Rattle.std.specs.Prelude.{◌≡◌, ◌<◌, ◌≤◌, ◌^◌, ℕ, ◌+◌, ◌-◌, Bool, false, ◌||◌, ◌==◌, nat_lt, if◌then◌else◌, List, [], ◌∷◌, ◌++◌, length, Option, Some, None, MatchOption, Result, Err, IsOkUnless}
 use Rattle.stun_base.specs.Attributes.{MESSAGE_INTEGRITY, MESSAGE_INTEGRITY_SHA256, FINGERPRINT}
 use Rattle.stun_base.specs.Header.{HEADER_LENGTH, type_field, transaction_id_field}
 use Rattle.stun_base.specs.Algorithm.{digest_length, digest}
+use Rattle.stun_base.specs.MessageType.{method_of, type_number}
 use Rattle.stun_base.specs.declared.algorithm.IntegrityAlgorithm.{IntegrityAlgorithm}
 use Rattle.stun_base.specs.declared.algorithm.IntegrityAlgorithm.TheVariants.{Sha1, Sha256}
 use Rattle.stun_base.specs.declared.error.StunWriteError.{StunWriteError}
-use Rattle.stun_base.specs.declared.error.StunWriteError.TheVariants.{NotAllowed, MessageIntegrityExists, AttributeExists, TooLarge, TooSmall}
+use Rattle.stun_base.specs.declared.message_type.MessageClass.{MessageClass}
+use Rattle.stun_base.specs.declared.error.StunWriteError.TheVariants.{NotAllowed, MessageIntegrityExists, AttributeExists, OutOfMemory, TooLarge, TooSmall}
 use Rattle.stun_types.specs.Attribute.{TypedValue, attribute_length}
-use Rattle.stun_types.specs.Grammar.{spelled_attribute}
-use Rattle.stun_types.specs.Integrity.{covered}
+use Rattle.stun_types.specs.Grammar.{spelled, spelled_attribute}
+use Rattle.stun_types.specs.Integrity.{covered, stands_by}
 use Rattle.stun_types.specs.Message.{IsMessage, with_length}
 use Rattle.stun_types.specs.Visible.{has_kind, visible}
 use Rattle.stun_types.specs.Walk.{walk}
-
--- the greatest message length that is a multiple of four and fits its field
-abbrev pub max_length : ℕ
-max_length = 65532
+pub use Rattle.stun_types.specs.Limits.{max_length}
 
 -- the message length that an attribute with a value of n bytes leaves (RFC 8489, section 5)
 abbrev pub length_with : List ℕ → ℕ → ℕ
@@ -92,3 +91,33 @@ abbrev pub signing_refusal : List ℕ → ℕ → IntegrityAlgorithm → Option 
 signing_refusal message room algorithm =
     if has_integrity message then Some MessageIntegrityExists
     else size_refusal message room (digest_length algorithm)
+
+-- the answer of a call that may be refused: the first reason that holds, and where there is none only an allocation can fail
+abbrev pub RefusedBy : Option StunWriteError → Result (Unit {0}) StunWriteError → Type 0
+RefusedBy refusal result = MatchOption refusal (IsOkUnless result OutOfMemory) (λ reason. result ≡ Err reason)
+
+-- what an open message has been given is one attribute more
+abbrev pub GainsOne : List ℕ → List ℕ → TypedValue → Type 0
+GainsOne before after attribute = IsOpen before → HasOneMore before after attribute
+
+-- what an open message has been given is the integrity attribute of an algorithm under a key
+abbrev pub GainsIntegrity : List ℕ → List ℕ → IntegrityAlgorithm → List ℕ → Type 0
+GainsIntegrity before after algorithm key = GainsOne before after (integrity_attribute before algorithm key)
+
+-- an open message that was signed verifies by this algorithm, under each choice of keys that has this key for it
+abbrev pub VerifiesAfter : List ℕ → List ℕ → IntegrityAlgorithm → List ℕ → Type 0
+VerifiesAfter before after algorithm key =
+    IsOpen before → (keys : IntegrityAlgorithm → List ℕ) → keys algorithm ≡ key → stands_by keys after ≡ Some algorithm
+
+-- a message that was written attribute by attribute is written with one more
+abbrev pub SpellsOneMore : List ℕ → List ℕ → TypedValue → Type 0
+SpellsOneMore before after attribute =
+    (kind id : ℕ) (list : List TypedValue) → before ≡ spelled kind id list → after ≡ spelled kind id (list ++ attribute ∷ [])
+
+-- a message of a class and a method, without attributes
+abbrev pub begun : MessageClass → ℕ → ℕ → List ℕ
+begun class method id = spelled (type_number class method) id []
+
+-- a message of a class that answers another, with its method and id and without attributes
+abbrev pub begun_answer : MessageClass → List ℕ → List ℕ
+begun_answer class message = begun class (method_of (type_field message)) (transaction_id_field message)

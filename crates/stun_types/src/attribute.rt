@@ -4,6 +4,7 @@ ghost use Rattle.std.specs.Cmp.{partial_equiv_from_equiv};
 ghost use Rattle.stun_types.specs.Equality.{same_attribute, same_attribute_equivalence};
 ghost use Rattle.stun_types.specs.Attribute.{attribute_length, padded_length, has_attribute, first_attribute};
 ghost use Rattle.stun_types.specs.Grammar.{spelled_attribute};
+ghost use Rattle.stun_types.specs.Limits.{max_length};
 
 use crate::append::append_attribute;
 use crate::write::MessageWrite;
@@ -128,11 +129,14 @@ pub trait Attribute {
 
     /// Appends the attribute with its header and padding.
     fn write_into<W: MessageWrite>(&self, writer: &mut W)
-        requires fits { length (value self.now) ≤ 65532 }
+        requires fits { length (value self.now) ≤ max_length }
         requires reserved { attribute_length (length (value self.now)) ≤ W.reserved writer.old }
-        ensures bytes { W.bytes writer.new ≡ W.bytes writer.old ++ spelled_attribute (record { kind = kind self.now; value = value self.now }) }
-        ensures room { W.room writer.new + attribute_length (length (value self.now)) ≡ W.room writer.old }
-        ensures reserved { W.reserved writer.new + attribute_length (length (value self.now)) ≡ W.reserved writer.old };
+        ensures bytes { W.bytes writer.new ≡ W.bytes writer.old
+            ++ spelled_attribute (record { kind = kind self.now; value = value self.now }) }
+        ensures room { W.room writer.new + attribute_length (length (value self.now))
+            ≡ W.room writer.old }
+        ensures reserved { W.reserved writer.new + attribute_length (length (value self.now))
+            ≡ W.reserved writer.old };
 }
 
 /// An attribute whose type is fixed.
@@ -180,7 +184,8 @@ impl<'a> RawAttribute<'a> {
     pub(crate) fn at(bytes: &'a [u8], place: usize) -> Option<RawAttribute<'a>>
         ensures none { IfNone result (has_attribute (drop place bytes.now) ≡ false) }
         ensures whole { OnSome result (has_attribute (drop place bytes.now) ≡ true) }
-        ensures value { IfSome result (λ attribute. attribute ≡ first_attribute (drop place bytes.now)) }
+        ensures value { IfSome result
+            (λ attribute. attribute ≡ first_attribute (drop place bytes.now)) }
     {
         let bytes = bytes.get(place..)?;
         if bytes.len() < ATTRIBUTE_HEADER_LENGTH {

@@ -83,7 +83,8 @@ fn claimed_digest<'a>(message: &Message<'a>) -> Result<(usize, RawAttribute<'a>)
     ensures within { IfOk result (IsWithin message.now) }
     ensures compared { OnOk result (integrity_refusal message.now ≡ ValidateError.IntegrityFailed) }
     ensures refused { IfErr result (λ error. error ≡ integrity_refusal message.now) }
-    ensures none { IfErr result (λ _. (keys : IntegrityAlgorithm → List ℕ) → stands_by keys message.now ≡ None) }
+    ensures none { IfErr result (λ _.
+        (keys : IntegrityAlgorithm → List ℕ) → stands_by keys message.now ≡ None) }
 {
     let Some((place, attribute)) = deciding_attribute(message) else {
         return Err(ValidateError::Parse(StunParseError::MissingAttribute(
@@ -146,8 +147,10 @@ impl Message<'_> {
         &self,
         credentials: &MessageIntegrityCredentials<A>,
     ) -> Result<IntegrityAlgorithm, ValidateError>
-        ensures ok { IfOk result (λ algorithm. stands_by (keys_of credentials.now) self.now ≡ Some algorithm) }
-        ensures refused { IfErr result (λ error. (stands_by (keys_of credentials.now) self.now ≡ None) × (error ≡ integrity_refusal self.now)) }
+        ensures ok { IfOk result (λ algorithm.
+            stands_by (keys_of credentials.now) self.now ≡ Some algorithm) }
+        ensures refused { IfErr result (λ error.
+            (stands_by (keys_of credentials.now) self.now ≡ None) × (error ≡ integrity_refusal self.now)) }
     {
         let (place, attribute) = claimed_digest(self)?;
         let algorithm = algorithm_of(&attribute);
@@ -168,7 +171,8 @@ impl Message<'_> {
         key: &IntegrityKey<A>,
     ) -> Result<IntegrityAlgorithm, ValidateError>
         ensures ok { IfOk result (λ algorithm. stands self.now key.now ≡ Some algorithm) }
-        ensures refused { IfErr result (λ error. (stands self.now key.now ≡ None) × (error ≡ integrity_refusal self.now)) }
+        ensures refused { IfErr result (λ error.
+            (stands self.now key.now ≡ None) × (error ≡ integrity_refusal self.now)) }
     {
         self.validate_integrity_with_key_bytes(key.as_bytes())
     }
@@ -179,7 +183,8 @@ impl Message<'_> {
         key: &[u8],
     ) -> Result<IntegrityAlgorithm, ValidateError>
         ensures ok { IfOk result (λ algorithm. stands self.now key.now ≡ Some algorithm) }
-        ensures refused { IfErr result (λ error. (stands self.now key.now ≡ None) × (error ≡ integrity_refusal self.now)) }
+        ensures refused { IfErr result (λ error.
+            (stands self.now key.now ≡ None) × (error ≡ integrity_refusal self.now)) }
     {
         let (place, attribute) = claimed_digest(self)?;
         if !is_digest(self.as_bytes(), key, place, &attribute) {

@@ -1,4 +1,6 @@
-//! Laws over the definitions that the contracts of this crate cite.
+//! Laws of messages: those that the crates above build on first, then which messages are equal, then constants.
+//!
+//! A law is a function whose contract is the law; it does nothing, or in one line what its users do.
 ghost use Rattle.std.specs.Prelude.{◌≡◌, ◌↔◌, IsTrue, ℕ, false, Some, ◌≤◌, ◌<◌, ◌^◌, List, [], ◌∷◌, ◌++◌, length, take, slice_index};
 ghost use Rattle.stun_base.specs.Algorithm.{digest_length};
 ghost use Rattle.stun_base.specs.Attributes.{FINGERPRINT, MESSAGE_INTEGRITY, MESSAGE_INTEGRITY_SHA256};
@@ -10,21 +12,26 @@ ghost use Rattle.stun_types.specs.Visible.{of_kind, visible};
 ghost use Rattle.stun_types.specs.Walk.{Member, walk};
 ghost use Rattle.stun_types.specs.Writing.{HasOneMore, IsAddable, IsOpen, integrity_attribute, is_set_apart, length_with, max_length, with_attribute, with_integrity};
 
+use crate::limits::{LENGTH_LIMIT, MAX_LENGTH, TEXT_LIMIT, USERNAME_LIMIT};
 use crate::message::Message;
 use stun_base::algorithm::IntegrityAlgorithm;
 
 /// A message is a header and spelled attributes: no others are found in it, and each list of attributes has a message.
 pub fn message_is_spelled_attributes()
-    ensures found { (bytes : List ℕ) → ((i : ℕ) → slice_index bytes i < 2 ^ 8) → SpellsWhatIsFound bytes }
-    ensures spelled { (bytes : List ℕ) (attributes : List TypedValue) → FindsWhatIsSpelled bytes attributes }
-    ensures written { (message_type transaction_id : ℕ) (attributes : List TypedValue) → FindsWhatIsWritten message_type transaction_id attributes }
+    ensures found { (bytes : List ℕ)
+        → ((i : ℕ) → slice_index bytes i < 2 ^ 8) → SpellsWhatIsFound bytes }
+    ensures spelled { (bytes : List ℕ) (attributes : List TypedValue)
+        → FindsWhatIsSpelled bytes attributes }
+    ensures written { (message_type transaction_id : ℕ) (attributes : List TypedValue)
+        → FindsWhatIsWritten message_type transaction_id attributes }
 {}
 
 /// Of the two integrity attributes and of FINGERPRINT at most one each is visible, so that the first and the last visible
 /// one are the same.
 pub fn each_hiding_attribute_counts_once()
     ensures integrity { (bytes : List ℕ) → length (of_kind MESSAGE_INTEGRITY (visible bytes)) ≤ 1 }
-    ensures integrity_sha256 { (bytes : List ℕ) → length (of_kind MESSAGE_INTEGRITY_SHA256 (visible bytes)) ≤ 1 }
+    ensures integrity_sha256 { (bytes : List ℕ)
+        → length (of_kind MESSAGE_INTEGRITY_SHA256 (visible bytes)) ≤ 1 }
     ensures fingerprint { (bytes : List ℕ) → length (of_kind FINGERPRINT (visible bytes)) ≤ 1 }
 {}
 
@@ -32,33 +39,44 @@ pub fn each_hiding_attribute_counts_once()
 /// finds besides what it found before, and leaves it open where it is no integrity attribute.
 pub fn writing_adds_one_attribute()
     ensures begun { (message_type transaction_id : ℕ) → message_type < 2 ^ 14
-        → IsOpen (spelled message_type transaction_id []) × (walk (spelled message_type transaction_id []) ≡ []) }
+        → IsOpen (spelled message_type transaction_id [])
+        × (walk (spelled message_type transaction_id []) ≡ []) }
     ensures shown { (message : List ℕ) → IsOpen message → visible message ≡ walk message }
-    ensures added { (message : List ℕ) (attribute : TypedValue) → IsOpen message → IsAddable message attribute
+    ensures added { (message : List ℕ) (attribute : TypedValue)
+        → IsOpen message → IsAddable message attribute
         → HasOneMore message (with_attribute message attribute) attribute }
-    ensures open { (message : List ℕ) (attribute : TypedValue) → IsOpen message → IsAddable message attribute
+    ensures open { (message : List ℕ) (attribute : TypedValue)
+        → IsOpen message → IsAddable message attribute
         → is_set_apart attribute.kind ≡ false → IsOpen (with_attribute message attribute) }
-    ensures spelled { (message_type transaction_id : ℕ) (attributes : List TypedValue) (attribute : TypedValue)
-        → with_attribute (spelled message_type transaction_id attributes) attribute ≡ spelled message_type transaction_id (attributes ++ attribute ∷ []) }
+    ensures spelled { (message_type transaction_id : ℕ) (attributes : List TypedValue)
+        (attribute : TypedValue)
+        → with_attribute (spelled message_type transaction_id attributes) attribute
+        ≡ spelled message_type transaction_id (attributes ++ attribute ∷ []) }
 {}
 
 /// What is signed stands: a message with its integrity attribute is one whose digest the reader finds right, and it has
 /// that one attribute more.
 pub fn signed_message_stands()
-    ensures stands { (message : List ℕ) (algorithm : IntegrityAlgorithm) (key : List ℕ) → IsOpen message
-        → length_with message (digest_length algorithm) ≤ max_length → stands (with_integrity message algorithm key) key ≡ Some algorithm }
-    ensures stands_by { (message : List ℕ) (algorithm : IntegrityAlgorithm) (keys : IntegrityAlgorithm → List ℕ) → IsOpen message
-        → length_with message (digest_length algorithm) ≤ max_length → stands_by keys (with_integrity message algorithm (keys algorithm)) ≡ Some algorithm }
-    ensures added { (message : List ℕ) (algorithm : IntegrityAlgorithm) (key : List ℕ) → IsOpen message
-        → length_with message (digest_length algorithm) ≤ max_length
-        → HasOneMore message (with_integrity message algorithm key) (integrity_attribute message algorithm key) }
+    ensures stands { (message : List ℕ) (algorithm : IntegrityAlgorithm) (key : List ℕ)
+        → IsOpen message → length_with message (digest_length algorithm) ≤ max_length
+        → stands (with_integrity message algorithm key) key ≡ Some algorithm }
+    ensures stands_by { (message : List ℕ) (algorithm : IntegrityAlgorithm)
+        (keys : IntegrityAlgorithm → List ℕ)
+        → IsOpen message → length_with message (digest_length algorithm) ≤ max_length
+        → stands_by keys (with_integrity message algorithm (keys algorithm)) ≡ Some algorithm }
+    ensures added { (message : List ℕ) (algorithm : IntegrityAlgorithm) (key : List ℕ)
+        → IsOpen message → length_with message (digest_length algorithm) ≤ max_length
+        → HasOneMore message (with_integrity message algorithm key)
+        (integrity_attribute message algorithm key) }
 {}
 
 /// What stands behind the deciding attribute does not count, nor does the header's own length: two messages with the same
 /// deciding attribute at the same place, and the same bytes before it but for the length field, have the same verdict.
 pub fn tail_does_not_count()
-    ensures { (keys : IntegrityAlgorithm → List ℕ) (bytes others : List ℕ) (m : Member) → deciding bytes ≡ Some m → deciding others ≡ Some m
-        → with_length (take m.0 bytes) 0 ≡ with_length (take m.0 others) 0 → stands_by keys bytes ≡ stands_by keys others }
+    ensures { (keys : IntegrityAlgorithm → List ℕ) (bytes others : List ℕ) (m : Member)
+        → deciding bytes ≡ Some m → deciding others ≡ Some m
+        → with_length (take m.0 bytes) 0 ≡ with_length (take m.0 others) 0
+        → stands_by keys bytes ≡ stands_by keys others }
 {}
 
 /// Messages are equal where their bytes are.
@@ -66,4 +84,11 @@ pub fn is_same_message(one: &Message<'_>, other: &Message<'_>) -> bool
     ensures { IsTrue result ↔ (one.now ≡ other.now) }
 {
     one == other
+}
+
+/// The limits in bytes: of texts, of a user name, of the message length, and of a message.
+pub fn limits() -> [usize; 4]
+    ensures { result ≡ 763 ∷ 513 ∷ 65532 ∷ 65552 ∷ [] }
+{
+    [TEXT_LIMIT, USERNAME_LIMIT, MAX_LENGTH, LENGTH_LIMIT]
 }

@@ -7,6 +7,7 @@ mod attributes_iter;
 pub mod data;
 mod integrity;
 pub mod laws;
+pub mod limits;
 pub mod message;
 pub mod prelude;
 mod walk;

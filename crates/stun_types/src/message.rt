@@ -3,14 +3,14 @@ ghost use Rattle.std.specs.Prelude.{◌≡◌, ◌+◌, ◌^◌, ◌<◌, ◌↔
 ghost use Rattle.std.specs.Cmp.{partial_equiv_from_equiv};
 ghost use Rattle.stun_base.specs.Credentials.{same_text, same_text_equivalence};
 ghost use Rattle.stun_base.specs.Header.{HEADER_LENGTH as header_length, type_field, transaction_id_field};
-ghost use Rattle.stun_base.specs.MessageType.{class_of, method_of, type_number, IsResponse};
+ghost use Rattle.stun_base.specs.MessageType.{class_of, method_of, IsResponse};
 ghost use Rattle.stun_types.specs.Grammar.{spelled};
 ghost use Rattle.stun_types.specs.Integrity.{first_of as first_member_of};
 ghost use Rattle.stun_types.specs.Message.{IsMessage, LENGTH_LIMIT, refusal};
 ghost use Rattle.stun_types.specs.Reading.{attribute_answer};
 ghost use Rattle.stun_types.specs.Visible.{visible};
 ghost use Rattle.stun_types.specs.Walk.{walk};
-ghost use Rattle.stun_types.specs.Writing.{IsOpen};
+ghost use Rattle.stun_types.specs.Writing.{IsOpen, begun, begun_answer};
 
 use crate::attribute::{AttributeFromRaw, AttributeStaticType, RawAttribute};
 pub use crate::attributes_iter::MessageAttributesIter;
@@ -120,8 +120,10 @@ impl<'a> Message<'a> {
         ensures open { IfOk result (λ built. IsOpen (W.bytes built)) }
         ensures empty { IfOk result (λ built. walk (W.bytes built) ≡ []) }
         ensures room { IfOk result (λ built. W.room built + header_length ≡ W.room writer) }
-        ensures too_small { IsErrOf result StunWriteError.TooSmall ↔ (W.room writer < header_length) }
-        ensures otherwise_memory { header_length ≤ W.room writer → IsOkUnless result StunWriteError.OutOfMemory }
+        ensures too_small { IsErrOf result StunWriteError.TooSmall
+            ↔ (W.room writer < header_length) }
+        ensures otherwise_memory { header_length ≤ W.room writer
+            → IsOkUnless result StunWriteError.OutOfMemory }
         ensures succeeds { header_length ≤ W.reserved writer → IsOk result }
     {
         writer.reserve(HEADER_LENGTH)?;
@@ -139,12 +141,14 @@ impl<'a> Message<'a> {
         writer: W,
     ) -> Result<W, StunWriteError>
         requires { W.bytes writer ≡ [] }
-        ensures bytes { IfOk result (λ built. W.bytes built ≡ spelled (type_number MessageClass.Request method) id []) }
+        ensures bytes { IfOk result (λ built. W.bytes built ≡ begun MessageClass.Request method id) }
         ensures open { IfOk result (λ built. IsOpen (W.bytes built)) }
         ensures empty { IfOk result (λ built. walk (W.bytes built) ≡ []) }
         ensures room { IfOk result (λ built. W.room built + header_length ≡ W.room writer) }
-        ensures too_small { IsErrOf result StunWriteError.TooSmall ↔ (W.room writer < header_length) }
-        ensures otherwise_memory { header_length ≤ W.room writer → IsOkUnless result StunWriteError.OutOfMemory }
+        ensures too_small { IsErrOf result StunWriteError.TooSmall
+            ↔ (W.room writer < header_length) }
+        ensures otherwise_memory { header_length ≤ W.room writer
+            → IsOkUnless result StunWriteError.OutOfMemory }
         ensures succeeds { header_length ≤ W.reserved writer → IsOk result }
     {
         Message::builder(
@@ -161,12 +165,14 @@ impl<'a> Message<'a> {
         writer: W,
     ) -> Result<W, StunWriteError>
         requires { W.bytes writer ≡ [] }
-        ensures bytes { IfOk result (λ built. W.bytes built ≡ spelled (type_number MessageClass.Indication method) id []) }
+        ensures bytes { IfOk result (λ built. W.bytes built ≡ begun MessageClass.Indication method id) }
         ensures open { IfOk result (λ built. IsOpen (W.bytes built)) }
         ensures empty { IfOk result (λ built. walk (W.bytes built) ≡ []) }
         ensures room { IfOk result (λ built. W.room built + header_length ≡ W.room writer) }
-        ensures too_small { IsErrOf result StunWriteError.TooSmall ↔ (W.room writer < header_length) }
-        ensures otherwise_memory { header_length ≤ W.room writer → IsOkUnless result StunWriteError.OutOfMemory }
+        ensures too_small { IsErrOf result StunWriteError.TooSmall
+            ↔ (W.room writer < header_length) }
+        ensures otherwise_memory { header_length ≤ W.room writer
+            → IsOkUnless result StunWriteError.OutOfMemory }
         ensures succeeds { header_length ≤ W.reserved writer → IsOk result }
     {
         Message::builder(
@@ -182,12 +188,14 @@ impl<'a> Message<'a> {
         writer: W,
     ) -> Result<W, StunWriteError>
         requires { W.bytes writer ≡ [] }
-        ensures bytes { IfOk result (λ built. W.bytes built ≡ spelled (type_number MessageClass.Success (method_of (type_field message.now))) (transaction_id_field message.now) []) }
+        ensures bytes { IfOk result (λ built. W.bytes built ≡ begun_answer MessageClass.Success message.now) }
         ensures open { IfOk result (λ built. IsOpen (W.bytes built)) }
         ensures empty { IfOk result (λ built. walk (W.bytes built) ≡ []) }
         ensures room { IfOk result (λ built. W.room built + header_length ≡ W.room writer) }
-        ensures too_small { IsErrOf result StunWriteError.TooSmall ↔ (W.room writer < header_length) }
-        ensures otherwise_memory { header_length ≤ W.room writer → IsOkUnless result StunWriteError.OutOfMemory }
+        ensures too_small { IsErrOf result StunWriteError.TooSmall
+            ↔ (W.room writer < header_length) }
+        ensures otherwise_memory { header_length ≤ W.room writer
+            → IsOkUnless result StunWriteError.OutOfMemory }
         ensures succeeds { header_length ≤ W.reserved writer → IsOk result }
     {
         Message::builder(
@@ -204,12 +212,14 @@ impl<'a> Message<'a> {
         writer: W,
     ) -> Result<W, StunWriteError>
         requires { W.bytes writer ≡ [] }
-        ensures bytes { IfOk result (λ built. W.bytes built ≡ spelled (type_number MessageClass.Error (method_of (type_field message.now))) (transaction_id_field message.now) []) }
+        ensures bytes { IfOk result (λ built. W.bytes built ≡ begun_answer MessageClass.Error message.now) }
         ensures open { IfOk result (λ built. IsOpen (W.bytes built)) }
         ensures empty { IfOk result (λ built. walk (W.bytes built) ≡ []) }
         ensures room { IfOk result (λ built. W.room built + header_length ≡ W.room writer) }
-        ensures too_small { IsErrOf result StunWriteError.TooSmall ↔ (W.room writer < header_length) }
-        ensures otherwise_memory { header_length ≤ W.room writer → IsOkUnless result StunWriteError.OutOfMemory }
+        ensures too_small { IsErrOf result StunWriteError.TooSmall
+            ↔ (W.room writer < header_length) }
+        ensures otherwise_memory { header_length ≤ W.room writer
+            → IsOkUnless result StunWriteError.OutOfMemory }
         ensures succeeds { header_length ≤ W.reserved writer → IsOk result }
     {
         Message::builder(

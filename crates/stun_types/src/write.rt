@@ -12,9 +12,6 @@ mod vec;
 pub use mut_slice::MessageWriteMutSlice;
 pub use vec::MessageWriteVec;
 
-/// The greatest message length that is a multiple of four and fits its field of 16 bits (RFC 8489, section 5).
-pub(crate) const MAX_DATA_LENGTH: usize = 65532;
-
 /// Something that a message is written to.
 ///
 /// Bytes are appended where they were reserved before, so that only `reserve` can fail.
@@ -48,7 +45,8 @@ pub trait MessageWrite: Drop {
         ensures room { room self.new ≡ room self.old }
         ensures ok { OnOk result (additional ≤ reserved self.new) }
         ensures too_small { IsErrOf result StunWriteError.TooSmall ↔ (room self.old < additional) }
-        ensures otherwise_memory { additional ≤ room self.old → IsOkUnless result StunWriteError.OutOfMemory }
+        ensures otherwise_memory { additional ≤ room self.old
+            → IsOkUnless result StunWriteError.OutOfMemory }
 
         // What is reserved already is not refused.
         ensures reserved { additional ≤ reserved self.old → IsOk result }

@@ -10,12 +10,13 @@ ghost use Rattle.stun_types.specs.Grammar.{spelled, spelled_attribute};
 ghost use Rattle.stun_types.specs.Integrity.{stands_by};
 ghost use Rattle.stun_types.specs.Visible.{has_kind};
 ghost use Rattle.stun_types.specs.Walk.{walk};
-ghost use Rattle.stun_types.specs.Writing.{HasOneMore, IsOpen, attribute_refusal, has_integrity, integrity_attribute, integrity_kind, is_set_apart, length_with, signing_refusal, with_attribute, with_integrity};
+ghost use Rattle.stun_types.specs.Writing.{GainsIntegrity, GainsOne, IsOpen, RefusedBy, SpellsOneMore, VerifiesAfter, attribute_refusal, has_integrity, integrity_kind, is_set_apart, length_with, max_length, signing_refusal, with_attribute, with_integrity};
 
 use crate::append::append_attribute;
 use crate::attribute::{Attribute, AttributeType, attribute_length};
+use crate::limits::MAX_LENGTH;
 use crate::walk::has_attribute;
-use crate::write::{MAX_DATA_LENGTH, MessageWrite};
+use crate::write::MessageWrite;
 use std::alloc::{AllocError, Allocator};
 use stun_base::algorithm::IntegrityAlgorithm;
 use stun_base::credentials::MessageIntegrityCredentials;
@@ -92,22 +93,28 @@ pub trait MessageWriteExt: MessageWrite {
         requires { 20 ≤ length (Self.bytes self.old) }
 
         // The first reason that holds is answered, and with no reason only memory can be missing.
-        ensures refused { MatchOption (attribute_refusal (Self.bytes self.old) (Self.room self.old) (A.kind attribute.now) (length (A.value attribute.now)))
-            (IsOkUnless result StunWriteError.OutOfMemory) (λ reason. result ≡ Err reason) }
-        ensures bytes { OnOk result (Self.bytes self.new ≡ with_attribute (Self.bytes self.old) (record { kind = A.kind attribute.now; value = A.value attribute.now })) }
+        ensures refused { RefusedBy (attribute_refusal (Self.bytes self.old) (Self.room self.old)
+            (A.kind attribute.now) (length (A.value attribute.now))) result }
+        ensures bytes { OnOk result (Self.bytes self.new ≡ with_attribute (Self.bytes self.old)
+            (record { kind = A.kind attribute.now; value = A.value attribute.now })) }
 
         // What is reserved already takes no memory.
-        ensures succeeds { attribute_refusal (Self.bytes self.old) (Self.room self.old) (A.kind attribute.now) (length (A.value attribute.now)) ≡ None
+        ensures succeeds { attribute_refusal (Self.bytes self.old) (Self.room self.old)
+            (A.kind attribute.now) (length (A.value attribute.now)) ≡ None
             → attribute_length (length (A.value attribute.now)) ≤ Self.reserved self.old → IsOk result }
 
         // Reading finds what it found before, and this attribute behind it.
-        ensures added { OnOk result (IsOpen (Self.bytes self.old) → HasOneMore (Self.bytes self.old) (Self.bytes self.new) (record { kind = A.kind attribute.now; value = A.value attribute.now })) }
+        ensures added { OnOk result (GainsOne (Self.bytes self.old) (Self.bytes self.new)
+            (record { kind = A.kind attribute.now; value = A.value attribute.now })) }
         ensures open { OnOk result (IsOpen (Self.bytes self.old) → IsOpen (Self.bytes self.new)) }
-        ensures spelled { OnOk result ((kind id : ℕ) (list : List TypedValue) → Self.bytes self.old ≡ spelled kind id list
-            → Self.bytes self.new ≡ spelled kind id (list ++ record { kind = A.kind attribute.now; value = A.value attribute.now } ∷ [])) }
-        ensures room { OnOk result (Self.room self.new + attribute_length (length (A.value attribute.now)) ≡ Self.room self.old) }
-        ensures reserved { OnOk result (Self.reserved self.old ≤ Self.reserved self.new + attribute_length (length (A.value attribute.now))) }
-        ensures err { OnErr result ((Self.bytes self.new ≡ Self.bytes self.old) × (Self.room self.new ≡ Self.room self.old)) }
+        ensures spelled { OnOk result (SpellsOneMore (Self.bytes self.old) (Self.bytes self.new)
+            (record { kind = A.kind attribute.now; value = A.value attribute.now })) }
+        ensures room { OnOk result (Self.room self.new
+            + attribute_length (length (A.value attribute.now)) ≡ Self.room self.old) }
+        ensures reserved { OnOk result (Self.reserved self.old
+            ≤ Self.reserved self.new + attribute_length (length (A.value attribute.now))) }
+        ensures err { OnErr result ((Self.bytes self.new ≡ Self.bytes self.old)
+            × (Self.room self.new ≡ Self.room self.old)) }
         ensures kept { OnErr result (Self.reserved self.old ≤ Self.reserved self.new) }
     {
         let kind = attribute.get_type();
@@ -121,7 +128,7 @@ pub trait MessageWriteExt: MessageWrite {
             return Err(StunWriteError::AttributeExists(kind));
         }
         let message_length = length_with(self.data(), attribute.padded_len());
-        if message_length > MAX_DATA_LENGTH {
+        if message_length > MAX_LENGTH {
             return Err(StunWriteError::TooLarge);
         }
         self.reserve(attribute.padded_len())?;
@@ -141,15 +148,19 @@ pub trait MessageWriteExt: MessageWrite {
     where
         Self: Sized,
         requires { 20 ≤ length (Self.bytes self.old) }
-        ensures refused { MatchOption (signing_refusal (Self.bytes self.old) (Self.room self.old) algorithm)
-            (IsOkUnless result StunWriteError.OutOfMemory) (λ reason. result ≡ Err reason) }
+        ensures refused { RefusedBy (signing_refusal (Self.bytes self.old) (Self.room self.old) algorithm) result }
         ensures succeeds { signing_refusal (Self.bytes self.old) (Self.room self.old) algorithm ≡ None
             → attribute_length (digest_length algorithm) ≤ Self.reserved self.old → IsOk result }
-        ensures bytes { OnOk result (Self.bytes self.new ≡ with_integrity (Self.bytes self.old) algorithm (keys_of credentials.now algorithm)) }
-        ensures added { OnOk result (IsOpen (Self.bytes self.old) → HasOneMore (Self.bytes self.old) (Self.bytes self.new) (integrity_attribute (Self.bytes self.old) algorithm (keys_of credentials.now algorithm))) }
-        ensures stands { OnOk result (IsOpen (Self.bytes self.old) → (keys : IntegrityAlgorithm → List ℕ) → keys algorithm ≡ (keys_of credentials.now algorithm) → stands_by keys (Self.bytes self.new) ≡ Some algorithm) }
-        ensures room { OnOk result (Self.room self.new + attribute_length (digest_length algorithm) ≡ Self.room self.old) }
-        ensures err { OnErr result ((Self.bytes self.new ≡ Self.bytes self.old) × (Self.room self.new ≡ Self.room self.old)) }
+        ensures bytes { OnOk result (Self.bytes self.new
+            ≡ with_integrity (Self.bytes self.old) algorithm (keys_of credentials.now algorithm)) }
+        ensures added { OnOk result (GainsIntegrity (Self.bytes self.old) (Self.bytes self.new)
+            algorithm (keys_of credentials.now algorithm)) }
+        ensures stands { OnOk result (VerifiesAfter (Self.bytes self.old) (Self.bytes self.new)
+            algorithm (keys_of credentials.now algorithm)) }
+        ensures room { OnOk result (Self.room self.new
+            + attribute_length (digest_length algorithm) ≡ Self.room self.old) }
+        ensures err { OnErr result ((Self.bytes self.new ≡ Self.bytes self.old)
+            × (Self.room self.new ≡ Self.room self.old)) }
         ensures kept { OnErr result (Self.reserved self.old ≤ Self.reserved self.new) }
     {
         add_integrity(self, credentials.key(algorithm).as_bytes(), algorithm)
@@ -168,15 +179,19 @@ pub trait MessageWriteExt: MessageWrite {
     where
         Self: Sized,
         requires { 20 ≤ length (Self.bytes self.old) }
-        ensures refused { MatchOption (signing_refusal (Self.bytes self.old) (Self.room self.old) algorithm)
-            (IsOkUnless result StunWriteError.OutOfMemory) (λ reason. result ≡ Err reason) }
+        ensures refused { RefusedBy (signing_refusal (Self.bytes self.old) (Self.room self.old) algorithm) result }
         ensures succeeds { signing_refusal (Self.bytes self.old) (Self.room self.old) algorithm ≡ None
             → attribute_length (digest_length algorithm) ≤ Self.reserved self.old → IsOk result }
-        ensures bytes { OnOk result (Self.bytes self.new ≡ with_integrity (Self.bytes self.old) algorithm key.now) }
-        ensures added { OnOk result (IsOpen (Self.bytes self.old) → HasOneMore (Self.bytes self.old) (Self.bytes self.new) (integrity_attribute (Self.bytes self.old) algorithm key.now)) }
-        ensures stands { OnOk result (IsOpen (Self.bytes self.old) → (keys : IntegrityAlgorithm → List ℕ) → keys algorithm ≡ key.now → stands_by keys (Self.bytes self.new) ≡ Some algorithm) }
-        ensures room { OnOk result (Self.room self.new + attribute_length (digest_length algorithm) ≡ Self.room self.old) }
-        ensures err { OnErr result ((Self.bytes self.new ≡ Self.bytes self.old) × (Self.room self.new ≡ Self.room self.old)) }
+        ensures bytes { OnOk result (Self.bytes self.new
+            ≡ with_integrity (Self.bytes self.old) algorithm key.now) }
+        ensures added { OnOk result (GainsIntegrity (Self.bytes self.old) (Self.bytes self.new)
+            algorithm key.now) }
+        ensures stands { OnOk result (VerifiesAfter (Self.bytes self.old) (Self.bytes self.new)
+            algorithm key.now) }
+        ensures room { OnOk result (Self.room self.new
+            + attribute_length (digest_length algorithm) ≡ Self.room self.old) }
+        ensures err { OnErr result ((Self.bytes self.new ≡ Self.bytes self.old)
+            × (Self.room self.new ≡ Self.room self.old)) }
         ensures kept { OnErr result (Self.reserved self.old ≤ Self.reserved self.new) }
     {
         add_integrity(self, key.as_bytes(), algorithm)
@@ -191,15 +206,19 @@ pub trait MessageWriteExt: MessageWrite {
     where
         Self: Sized,
         requires { 20 ≤ length (Self.bytes self.old) }
-        ensures refused { MatchOption (signing_refusal (Self.bytes self.old) (Self.room self.old) algorithm)
-            (IsOkUnless result StunWriteError.OutOfMemory) (λ reason. result ≡ Err reason) }
+        ensures refused { RefusedBy (signing_refusal (Self.bytes self.old) (Self.room self.old) algorithm) result }
         ensures succeeds { signing_refusal (Self.bytes self.old) (Self.room self.old) algorithm ≡ None
             → attribute_length (digest_length algorithm) ≤ Self.reserved self.old → IsOk result }
-        ensures bytes { OnOk result (Self.bytes self.new ≡ with_integrity (Self.bytes self.old) algorithm key.now) }
-        ensures added { OnOk result (IsOpen (Self.bytes self.old) → HasOneMore (Self.bytes self.old) (Self.bytes self.new) (integrity_attribute (Self.bytes self.old) algorithm key.now)) }
-        ensures stands { OnOk result (IsOpen (Self.bytes self.old) → (keys : IntegrityAlgorithm → List ℕ) → keys algorithm ≡ key.now → stands_by keys (Self.bytes self.new) ≡ Some algorithm) }
-        ensures room { OnOk result (Self.room self.new + attribute_length (digest_length algorithm) ≡ Self.room self.old) }
-        ensures err { OnErr result ((Self.bytes self.new ≡ Self.bytes self.old) × (Self.room self.new ≡ Self.room self.old)) }
+        ensures bytes { OnOk result (Self.bytes self.new
+            ≡ with_integrity (Self.bytes self.old) algorithm key.now) }
+        ensures added { OnOk result (GainsIntegrity (Self.bytes self.old) (Self.bytes self.new)
+            algorithm key.now) }
+        ensures stands { OnOk result (VerifiesAfter (Self.bytes self.old) (Self.bytes self.new)
+            algorithm key.now) }
+        ensures room { OnOk result (Self.room self.new
+            + attribute_length (digest_length algorithm) ≡ Self.room self.old) }
+        ensures err { OnErr result ((Self.bytes self.new ≡ Self.bytes self.old)
+            × (Self.room self.new ≡ Self.room self.old)) }
         ensures kept { OnErr result (Self.reserved self.old ≤ Self.reserved self.new) }
     {
         add_integrity(self, key, algorithm)
@@ -219,14 +238,19 @@ pub trait MessageWriteExt: MessageWrite {
         Self: Sized,
         requires header { 20 ≤ length (Self.bytes self.old) }
         requires unsigned { has_integrity (Self.bytes self.old) ≡ false }
-        requires short { length_with (Self.bytes self.old) (digest_length algorithm) ≤ 65532 }
+        requires short { length_with (Self.bytes self.old) (digest_length algorithm) ≤ max_length }
         requires room { attribute_length (digest_length algorithm) ≤ Self.room self.old }
         ensures succeeds { attribute_length (digest_length algorithm) ≤ Self.reserved self.old → IsOk result }
-        ensures bytes { OnOk result (Self.bytes self.new ≡ with_integrity (Self.bytes self.old) algorithm key.now) }
-        ensures added { OnOk result (IsOpen (Self.bytes self.old) → HasOneMore (Self.bytes self.old) (Self.bytes self.new) (integrity_attribute (Self.bytes self.old) algorithm key.now)) }
-        ensures stands { OnOk result (IsOpen (Self.bytes self.old) → (keys : IntegrityAlgorithm → List ℕ) → keys algorithm ≡ key.now → stands_by keys (Self.bytes self.new) ≡ Some algorithm) }
-        ensures room { OnOk result (Self.room self.new + attribute_length (digest_length algorithm) ≡ Self.room self.old) }
-        ensures err { OnErr result ((Self.bytes self.new ≡ Self.bytes self.old) × (Self.room self.new ≡ Self.room self.old)) }
+        ensures bytes { OnOk result (Self.bytes self.new
+            ≡ with_integrity (Self.bytes self.old) algorithm key.now) }
+        ensures added { OnOk result (GainsIntegrity (Self.bytes self.old) (Self.bytes self.new)
+            algorithm key.now) }
+        ensures stands { OnOk result (VerifiesAfter (Self.bytes self.old) (Self.bytes self.new)
+            algorithm key.now) }
+        ensures room { OnOk result (Self.room self.new
+            + attribute_length (digest_length algorithm) ≡ Self.room self.old) }
+        ensures err { OnErr result ((Self.bytes self.new ≡ Self.bytes self.old)
+            × (Self.room self.new ≡ Self.room self.old)) }
         ensures kept { OnErr result (Self.reserved self.old ≤ Self.reserved self.new) }
     {
         sign(self, key.as_bytes(), algorithm)
@@ -274,22 +298,26 @@ fn add_integrity<W: MessageWrite>(
     algorithm: IntegrityAlgorithm,
 ) -> Result<(), StunWriteError>
     requires { 20 ≤ length (W.bytes writer.old) }
-    ensures refused { MatchOption (signing_refusal (W.bytes writer.old) (W.room writer.old) algorithm)
-        (IsOkUnless result StunWriteError.OutOfMemory) (λ reason. result ≡ Err reason) }
+    ensures refused { RefusedBy (signing_refusal (W.bytes writer.old) (W.room writer.old) algorithm) result }
     ensures succeeds { signing_refusal (W.bytes writer.old) (W.room writer.old) algorithm ≡ None
         → attribute_length (digest_length algorithm) ≤ W.reserved writer.old → IsOk result }
-    ensures bytes { OnOk result (W.bytes writer.new ≡ with_integrity (W.bytes writer.old) algorithm key.now) }
-    ensures added { OnOk result (IsOpen (W.bytes writer.old) → HasOneMore (W.bytes writer.old) (W.bytes writer.new) (integrity_attribute (W.bytes writer.old) algorithm key.now)) }
-    ensures stands { OnOk result (IsOpen (W.bytes writer.old) → (keys : IntegrityAlgorithm → List ℕ) → keys algorithm ≡ key.now → stands_by keys (W.bytes writer.new) ≡ Some algorithm) }
-    ensures room { OnOk result (W.room writer.new + attribute_length (digest_length algorithm) ≡ W.room writer.old) }
-    ensures err { OnErr result ((W.bytes writer.new ≡ W.bytes writer.old) × (W.room writer.new ≡ W.room writer.old)) }
+    ensures bytes { OnOk result (W.bytes writer.new
+        ≡ with_integrity (W.bytes writer.old) algorithm key.now) }
+    ensures added { OnOk result (GainsIntegrity (W.bytes writer.old) (W.bytes writer.new)
+        algorithm key.now) }
+    ensures stands { OnOk result (VerifiesAfter (W.bytes writer.old) (W.bytes writer.new)
+        algorithm key.now) }
+    ensures room { OnOk result (W.room writer.new
+        + attribute_length (digest_length algorithm) ≡ W.room writer.old) }
+    ensures err { OnErr result ((W.bytes writer.new ≡ W.bytes writer.old)
+        × (W.room writer.new ≡ W.room writer.old)) }
     ensures kept { OnErr result (W.reserved writer.old ≤ W.reserved writer.new) }
 {
     if has_integrity(writer.data()) {
         return Err(StunWriteError::MessageIntegrityExists);
     }
     let padded_length = integrity_length(algorithm);
-    if length_with(writer.data(), padded_length) > MAX_DATA_LENGTH {
+    if length_with(writer.data(), padded_length) > MAX_LENGTH {
         return Err(StunWriteError::TooLarge);
     }
     if writer.room() < padded_length {
@@ -306,14 +334,19 @@ fn sign<W: MessageWrite>(
     algorithm: IntegrityAlgorithm,
 ) -> Result<(), AllocError>
     requires header { 20 ≤ length (W.bytes writer.old) }
-    requires short { length_with (W.bytes writer.old) (digest_length algorithm) ≤ 65532 }
+    requires short { length_with (W.bytes writer.old) (digest_length algorithm) ≤ max_length }
     requires room { attribute_length (digest_length algorithm) ≤ W.room writer.old }
     ensures succeeds { attribute_length (digest_length algorithm) ≤ W.reserved writer.old → IsOk result }
-    ensures bytes { OnOk result (W.bytes writer.new ≡ with_integrity (W.bytes writer.old) algorithm key.now) }
-    ensures added { OnOk result (IsOpen (W.bytes writer.old) → HasOneMore (W.bytes writer.old) (W.bytes writer.new) (integrity_attribute (W.bytes writer.old) algorithm key.now)) }
-    ensures stands { OnOk result (IsOpen (W.bytes writer.old) → (keys : IntegrityAlgorithm → List ℕ) → keys algorithm ≡ key.now → stands_by keys (W.bytes writer.new) ≡ Some algorithm) }
-    ensures room { OnOk result (W.room writer.new + attribute_length (digest_length algorithm) ≡ W.room writer.old) }
-    ensures err { OnErr result ((W.bytes writer.new ≡ W.bytes writer.old) × (W.room writer.new ≡ W.room writer.old)) }
+    ensures bytes { OnOk result (W.bytes writer.new
+        ≡ with_integrity (W.bytes writer.old) algorithm key.now) }
+    ensures added { OnOk result (GainsIntegrity (W.bytes writer.old) (W.bytes writer.new)
+        algorithm key.now) }
+    ensures stands { OnOk result (VerifiesAfter (W.bytes writer.old) (W.bytes writer.new)
+        algorithm key.now) }
+    ensures room { OnOk result (W.room writer.new
+        + attribute_length (digest_length algorithm) ≡ W.room writer.old) }
+    ensures err { OnErr result ((W.bytes writer.new ≡ W.bytes writer.old)
+        × (W.room writer.new ≡ W.room writer.old)) }
     ensures kept { OnErr result (W.reserved writer.old ≤ W.reserved writer.new) }
 {
     let padded_length = integrity_length(algorithm);
@@ -330,7 +363,10 @@ fn sign<W: MessageWrite>(
 fn append_integrity<W: MessageWrite>(writer: &mut W, key: &[u8], algorithm: IntegrityAlgorithm)
     requires { attribute_length (digest_length algorithm) ≤ W.reserved writer.old }
     ensures bytes { W.bytes writer.new ≡ W.bytes writer.old
-        ++ spelled_attribute (record { kind = integrity_kind algorithm; value = digest algorithm key.now (W.bytes writer.old) }) }
+        ++ spelled_attribute (record {
+          kind = integrity_kind algorithm;
+          value = digest algorithm key.now (W.bytes writer.old);
+        }) }
     ensures room { W.room writer.new + attribute_length (digest_length algorithm) ≡ W.room writer.old }
 {
     match algorithm {

@@ -1,7 +1,8 @@
 -- A message as its struct keeps it.
 use Rattle.std.specs.Prelude.{◌≡◌, ◌≤◌, ℕ, List, length}
 use Rattle.stun_base.specs.Header.{HeaderFields, header_of}
-use Rattle.stun_types.specs.Message.{IsMessage, LENGTH_LIMIT}
+use Rattle.stun_types.specs.Limits.{LENGTH_LIMIT}
+use Rattle.stun_types.specs.Message.{IsMessage}
 
 -- the bytes that were read are a message with this header, so they are no longer than a length field can say
 pub record IsRead (header : HeaderFields) (bytes : List ℕ) : Type 0 where

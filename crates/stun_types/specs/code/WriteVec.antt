@@ -1,7 +1,8 @@
 -- How much of its room a writer that grows has taken.
 use Rattle.std.specs.Prelude.{ℕ, ◌+◌, ◌≤◌}
+use Rattle.stun_types.specs.Limits.{LENGTH_LIMIT}
 
 -- so many reserved bytes behind so many written ones are within the capacity and the longest message
-pub record IsWithin (len reserved capacity : ℕ) : Type 0 where
+pub record FitsCapacity (len reserved capacity : ℕ) : Type 0 where
   pub in_capacity : len + reserved ≤ capacity
-  pub in_message : len + reserved ≤ 65552
+  pub in_message : len + reserved ≤ LENGTH_LIMIT

@@ -5,6 +5,7 @@ ghost use Rattle.std.specs.Cmp.{partial_equiv_from_equiv};
 ghost use Rattle.stun_types.specs.Equality.{same_error, same_error_equivalence};
 ghost use Rattle.stun_base.specs.Attributes.{ERROR_CODE};
 ghost use Rattle.stun_types.specs.ErrorCode.{IsError, code_in, default_reason, error_of, error_refusal, error_value};
+ghost use Rattle.stun_types.specs.Limits.{TEXT_LIMIT};
 ghost use Rattle.stun_types.specs.ErrorCodeLaws.{error_of-written};
 
 use crate::append::{append_header, append_padding};
@@ -12,6 +13,7 @@ use crate::attribute::text::read_short_text;
 use crate::attribute::{
     Attribute, AttributeFromRaw, AttributeStaticType, AttributeType, RawAttribute,
 };
+use crate::limits::TEXT_LIMIT;
 use crate::write::MessageWrite;
 use std::alloc::AllocError;
 use std::marker::Model;
@@ -19,9 +21,6 @@ use stun_base::error::{StunParseError, StunWriteError};
 
 /// The bytes before the reason: reserved bits, class and number.
 const CODE_LENGTH: usize = 4;
-
-/// The bytes of the longest reason.
-const MAX_REASON_LENGTH: usize = 763;
 
 /// Why a request was refused: a code from 300 to 699 and a reason phrase. Contracts see the two.
 #[derive(Debug, Drop)]
@@ -33,12 +32,14 @@ pub struct ErrorCode<'a> {
 impl<'a> Model for ErrorCode<'a> {
     ghost use Rattle.std.specs.Prelude.{◌≤◌, ◌<◌, length};
     ghost use Rattle.stun_types.specs.ErrorCode.{CodeAndReason};
+    ghost use Rattle.stun_types.specs.Limits.{TEXT_LIMIT};
 
     ghost Value = { CodeAndReason };
 
     ghost view = { λ error. record { code = error.code; reason = error.reason.now } };
 
-    ghost invariant = { λ error. (300 ≤ error.code) × (error.code < 700) × (length error.reason.now ≤ 763) };
+    ghost invariant = { λ error.
+        (300 ≤ error.code) × (error.code < 700) × (length error.reason.now ≤ TEXT_LIMIT) };
 }
 
 /// It takes no memory and never fails.
@@ -103,7 +104,7 @@ impl<'a> ErrorCode<'a> {
     /// The reason phrase, of at most 763 bytes.
     pub fn reason(&self) -> &'a str
         ensures text { result.now ≡ self.now.reason }
-        ensures short { length result.now ≤ 763 }
+        ensures short { length result.now ≤ TEXT_LIMIT }
     {
         self.reason
     }
@@ -157,7 +158,7 @@ impl<'a> ErrorCodeBuilder<'a> {
         if !(300..=699).contains(&self.code) {
             return Err(StunWriteError::NotAllowed);
         }
-        if self.reason.len() > MAX_REASON_LENGTH {
+        if self.reason.len() > TEXT_LIMIT {
             return Err(StunWriteError::TooLarge);
         }
         Ok(ErrorCode {
@@ -232,7 +233,7 @@ impl<'a> AttributeFromRaw<'a> for ErrorCode<'a> {
         let Some(code) = read_code(value) else {
             return Err(StunParseError::InvalidAttributeData);
         };
-        let reason = read_short_text(&value[CODE_LENGTH..], MAX_REASON_LENGTH)?;
+        let reason = read_short_text(&value[CODE_LENGTH..], TEXT_LIMIT)?;
         Ok(ErrorCode { code, reason })
     }
 }

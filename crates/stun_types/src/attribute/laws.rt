@@ -1,5 +1,5 @@
-//! Laws on attributes: what is written is read again, what is reserved is ignored, constants are those of the RFC, and equal
-//! attributes are the same values.
+//! Laws of attributes: what is written and read, which the crates above build on, then which values are equal and copied,
+//! then constants.
 ghost use Rattle.std.specs.Prelude.{◌≡◌, ◌<◌, ◌^◌, ◌↔◌, ◌∷◌, [], ℕ, IsTrue, List, Ok, map, slice_index};
 ghost use Rattle.std.specs.Net.Socket.{socket_flowinfo, socket_ip, socket_port, socket_scope_id};
 ghost use Rattle.stun_types.specs.Attribute.{TypedValue};
@@ -24,18 +24,25 @@ pub fn takes_what_is_spelled()
     ensures { (attribute : TypedValue) → TakesWhatIsSpelled attribute }
 {}
 
+/// Bytes that read as a list of password algorithms are what the list is written as, so no other bytes read as it.
+pub fn entries_are_spelled()
+    ensures { (bytes : List ℕ) (list : List PasswordAlgorithmValue)
+        → ((i : ℕ) → slice_index bytes i < 2 ^ 8) → ReadsSpelledEntries bytes list }
+{}
+
+/// The algorithm that makes the key of a digest goes with that digest.
+pub fn same_integrity(integrity: IntegrityAlgorithm) -> IntegrityAlgorithm
+    ensures { result ≡ integrity }
+{
+    PasswordAlgorithmValue::from_integrity(integrity).as_integrity()
+}
+
 /// Reserved bits are ignored when an attribute is read, and zero when it is written (RFC 8489, sections 14.2 and 14.8).
 pub fn reserved_bits()
     ensures error_read { (a b c : ℕ) (rest : List ℕ) → IgnoresReservedBits a b c rest }
     ensures address_read { (a : ℕ) (rest : List ℕ) → IgnoresFirstByte a rest }
     ensures error_written { (error : CodeAndReason) → IsError error → WritesReservedZeros error }
     ensures address_written { (address : XoredAddress) → WritesFirstZero address }
-{}
-
-/// Bytes that read as a list of password algorithms are what the list is written as, so no other bytes read as it.
-pub fn entries_are_spelled()
-    ensures { (bytes : List ℕ) (list : List PasswordAlgorithmValue) → ((i : ℕ) → slice_index bytes i < 2 ^ 8)
-        → ReadsSpelledEntries bytes list }
 {}
 
 /// An address that is hidden under an id and read under the same id is the same, without flow information and scope.
@@ -58,99 +65,6 @@ fn octet_count(ip: IpAddr) -> usize
         IpAddr::V4(ip) => ip.octets().as_slice().len(),
         IpAddr::V6(ip) => ip.octets().as_slice().len(),
     }
-}
-
-/// The algorithm that makes the key of a digest goes with that digest.
-pub fn same_integrity(integrity: IntegrityAlgorithm) -> IntegrityAlgorithm
-    ensures { result ≡ integrity }
-{
-    PasswordAlgorithmValue::from_integrity(integrity).as_integrity()
-}
-
-/// The codes of errors that authentication answers: bad request, unauthorized, stale nonce (RFC 8489, section 14.8).
-pub fn error_codes() -> [u16; 3]
-    ensures { result ≡ 400 ∷ 401 ∷ 438 ∷ [] }
-{
-    [
-        ErrorCode::BAD_REQUEST,
-        ErrorCode::UNAUTHORIZED,
-        ErrorCode::STALE_NONCE,
-    ]
-}
-
-/// The numbers of the constants `TYPE` (RFC 8489, section 18.3), in ascending order.
-pub fn static_types() -> [AttributeType; 10]
-    ensures { map (λ kind. kind.0) result ≡
-        0x0006 ∷ 0x0008 ∷ 0x0009 ∷ 0x0014 ∷ 0x0015 ∷ 0x001C ∷ 0x001D ∷ 0x001E ∷ 0x0020 ∷ 0x8002 ∷ [] }
-{
-    [
-        Username::TYPE,
-        MessageIntegrity::TYPE,
-        ErrorCode::TYPE,
-        Realm::TYPE,
-        Nonce::TYPE,
-        MessageIntegritySha256::TYPE,
-        PasswordAlgorithm::TYPE,
-        Userhash::TYPE,
-        XorMappedAddress::TYPE,
-        PasswordAlgorithms::TYPE,
-    ]
-}
-
-/// Algorithms of passwords are equal as values.
-pub fn is_same_algorithm(one: PasswordAlgorithmValue, other: PasswordAlgorithmValue) -> bool
-    ensures { IsTrue result ↔ (one ≡ other) }
-{
-    one == other
-}
-
-/// Choices of an algorithm are equal where the algorithms are.
-pub fn is_same_choice(one: PasswordAlgorithm, other: PasswordAlgorithm) -> bool
-    ensures { IsTrue result ↔ (one ≡ other) }
-{
-    one == other
-}
-
-/// Hashes of user names are equal where their bytes are.
-pub fn is_same_userhash(one: Userhash, other: Userhash) -> bool
-    ensures { IsTrue result ↔ (one ≡ other) }
-{
-    one == other
-}
-
-/// Digests of HMAC-SHA1 are equal where their bytes are.
-pub fn is_same_sha1_digest(one: MessageIntegrity, other: MessageIntegrity) -> bool
-    ensures { IsTrue result ↔ (one ≡ other) }
-{
-    one == other
-}
-
-/// Copies of attributes that are copied are the same values.
-pub fn copies(
-    address: &XorMappedAddress,
-    digest: &MessageIntegrity,
-    hash: &Userhash,
-    choice: &PasswordAlgorithm,
-    algorithm: &PasswordAlgorithmValue,
-) -> Result<
-    (
-        XorMappedAddress,
-        MessageIntegrity,
-        Userhash,
-        PasswordAlgorithm,
-        PasswordAlgorithmValue,
-    ),
-    AllocError,
->
-    ensures { result ≡ Ok (address.now, digest.now, hash.now, choice.now, algorithm.now) }
-{
-    Ok((
-        address.clone()?,
-        digest.clone()?,
-        hash.clone()?,
-        choice.clone()?,
-        algorithm.clone()?,
-    ))
 }
 
 /// Raw attributes are equal where type and value are.
@@ -200,4 +114,90 @@ pub fn is_same_digest(one: &MessageIntegritySha256<'_>, other: &MessageIntegrity
     ensures { IsTrue result ↔ (one.now ≡ other.now) }
 {
     one == other
+}
+
+/// Digests of HMAC-SHA1 are equal where their bytes are.
+pub fn is_same_sha1_digest(one: MessageIntegrity, other: MessageIntegrity) -> bool
+    ensures { IsTrue result ↔ (one ≡ other) }
+{
+    one == other
+}
+
+/// Hashes of user names are equal where their bytes are.
+pub fn is_same_userhash(one: Userhash, other: Userhash) -> bool
+    ensures { IsTrue result ↔ (one ≡ other) }
+{
+    one == other
+}
+
+/// Choices of an algorithm are equal where the algorithms are.
+pub fn is_same_choice(one: PasswordAlgorithm, other: PasswordAlgorithm) -> bool
+    ensures { IsTrue result ↔ (one ≡ other) }
+{
+    one == other
+}
+
+/// Algorithms of passwords are equal as values.
+pub fn is_same_algorithm(one: PasswordAlgorithmValue, other: PasswordAlgorithmValue) -> bool
+    ensures { IsTrue result ↔ (one ≡ other) }
+{
+    one == other
+}
+
+/// Copies of attributes that are copied are the same values.
+pub fn copies(
+    address: &XorMappedAddress,
+    digest: &MessageIntegrity,
+    hash: &Userhash,
+    choice: &PasswordAlgorithm,
+    algorithm: &PasswordAlgorithmValue,
+) -> Result<
+    (
+        XorMappedAddress,
+        MessageIntegrity,
+        Userhash,
+        PasswordAlgorithm,
+        PasswordAlgorithmValue,
+    ),
+    AllocError,
+>
+    ensures { result ≡ Ok (address.now, digest.now, hash.now, choice.now, algorithm.now) }
+{
+    Ok((
+        address.clone()?,
+        digest.clone()?,
+        hash.clone()?,
+        choice.clone()?,
+        algorithm.clone()?,
+    ))
+}
+
+/// The numbers of the constants `TYPE` (RFC 8489, section 18.3), in ascending order.
+pub fn static_types() -> [AttributeType; 10]
+    ensures { map (λ kind. kind.0) result ≡
+        0x0006 ∷ 0x0008 ∷ 0x0009 ∷ 0x0014 ∷ 0x0015 ∷ 0x001C ∷ 0x001D ∷ 0x001E ∷ 0x0020 ∷ 0x8002 ∷ [] }
+{
+    [
+        Username::TYPE,
+        MessageIntegrity::TYPE,
+        ErrorCode::TYPE,
+        Realm::TYPE,
+        Nonce::TYPE,
+        MessageIntegritySha256::TYPE,
+        PasswordAlgorithm::TYPE,
+        Userhash::TYPE,
+        XorMappedAddress::TYPE,
+        PasswordAlgorithms::TYPE,
+    ]
+}
+
+/// The codes of errors that authentication answers: bad request, unauthorized, stale nonce (RFC 8489, section 14.8).
+pub fn error_codes() -> [u16; 3]
+    ensures { result ≡ 400 ∷ 401 ∷ 438 ∷ [] }
+{
+    [
+        ErrorCode::BAD_REQUEST,
+        ErrorCode::UNAUTHORIZED,
+        ErrorCode::STALE_NONCE,
+    ]
 }

@@ -4,6 +4,7 @@ ghost use Rattle.std.specs.Prelude.{◌≡◌, ◌≤◌, ◌<◌, ◌↔◌, If
 ghost use Rattle.std.specs.Cmp.{partial_equiv_from_equiv};
 ghost use Rattle.stun_base.specs.Credentials.{same_text, same_text_equivalence};
 ghost use Rattle.stun_base.specs.Attributes.{NONCE};
+ghost use Rattle.stun_types.specs.Limits.{TEXT_LIMIT};
 ghost use Rattle.stun_types.specs.Text.{text_of, text_of-written};
 
 use crate::append::append_attribute;
@@ -11,13 +12,11 @@ use crate::attribute::text::{read_text, within_limit};
 use crate::attribute::{
     Attribute, AttributeFromRaw, AttributeStaticType, AttributeType, RawAttribute,
 };
+use crate::limits::TEXT_LIMIT;
 use crate::write::MessageWrite;
 use std::alloc::AllocError;
 use std::marker::Model;
 use stun_base::error::{StunParseError, StunWriteError};
-
-/// The bytes of the longest nonce.
-const MAX_LENGTH: usize = 763;
 
 /// The nonce that a server gave out. Contracts see its bytes.
 #[derive(Debug, Drop)]
@@ -27,12 +26,13 @@ pub struct Nonce<'a> {
 
 impl<'a> Model for Nonce<'a> {
     ghost use Rattle.std.specs.Prelude.{ℕ, List, ◌≤◌, length};
+    ghost use Rattle.stun_types.specs.Limits.{TEXT_LIMIT};
 
     ghost Value = { List ℕ };
 
     ghost view = { λ nonce. nonce.text.now };
 
-    ghost invariant = { λ nonce. length nonce.text.now ≤ 763 };
+    ghost invariant = { λ nonce. length nonce.text.now ≤ TEXT_LIMIT };
 }
 
 /// It takes no memory and never fails.
@@ -66,16 +66,16 @@ impl<'a> Nonce<'a> {
     pub fn new(text: &'a str) -> Result<Self, StunWriteError>
         ensures ok { IfOk result (λ nonce. nonce ≡ text.now) }
         ensures only_too_large { IsOkUnless result StunWriteError.TooLarge }
-        ensures too_large { IsErrOf result StunWriteError.TooLarge ↔ (763 < length text.now) }
+        ensures too_large { IsErrOf result StunWriteError.TooLarge ↔ (TEXT_LIMIT < length text.now) }
     {
-        let text = within_limit(text, MAX_LENGTH)?;
+        let text = within_limit(text, TEXT_LIMIT)?;
         Ok(Nonce { text })
     }
 
     /// The nonce.
     pub fn nonce(&self) -> &'a str
         ensures text { result.now ≡ self.now }
-        ensures within_limit { length result.now ≤ 763 }
+        ensures within_limit { length result.now ≤ TEXT_LIMIT }
     {
         self.text
     }
@@ -98,7 +98,7 @@ impl<'a> Attribute for Nonce<'a> {
 
     ghost value = { λ nonce. nonce };
 
-    ghost is_well_formed = { λ nonce. IsUtf8 nonce × (length nonce ≤ 763) };
+    ghost is_well_formed = { λ nonce. IsUtf8 nonce × (length nonce ≤ TEXT_LIMIT) };
 
     fn get_type(&self) -> AttributeType {
         Self::TYPE
@@ -114,12 +114,12 @@ impl<'a> Attribute for Nonce<'a> {
 }
 
 impl<'a> AttributeFromRaw<'a> for Nonce<'a> {
-    ghost reading = { text_of NONCE 763 };
+    ghost reading = { text_of NONCE TEXT_LIMIT };
 
-    ghost reads_back = { text_of-written NONCE 763 };
+    ghost reads_back = { text_of-written NONCE TEXT_LIMIT };
 
     fn from_raw(raw: RawAttribute<'a>) -> Result<Self, StunParseError> {
-        let text = read_text(raw, Self::TYPE, MAX_LENGTH)?;
+        let text = read_text(raw, Self::TYPE, TEXT_LIMIT)?;
         Ok(Nonce { text })
     }
 }

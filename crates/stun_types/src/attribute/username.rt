@@ -4,6 +4,7 @@ ghost use Rattle.std.specs.Prelude.{◌≡◌, ◌≤◌, ◌<◌, ◌↔◌, If
 ghost use Rattle.std.specs.Cmp.{partial_equiv_from_equiv};
 ghost use Rattle.stun_base.specs.Credentials.{same_text, same_text_equivalence};
 ghost use Rattle.stun_base.specs.Attributes.{USERNAME};
+ghost use Rattle.stun_types.specs.Limits.{USERNAME_LIMIT};
 ghost use Rattle.stun_types.specs.Text.{text_of, text_of-written};
 
 use crate::append::append_attribute;
@@ -11,13 +12,11 @@ use crate::attribute::text::{read_text, within_limit};
 use crate::attribute::{
     Attribute, AttributeFromRaw, AttributeStaticType, AttributeType, RawAttribute,
 };
+use crate::limits::USERNAME_LIMIT;
 use crate::write::MessageWrite;
 use std::alloc::AllocError;
 use std::marker::Model;
 use stun_base::error::{StunParseError, StunWriteError};
-
-/// The bytes of the longest user name.
-const MAX_LENGTH: usize = 513;
 
 /// The name of a user. Contracts see its bytes.
 #[derive(Debug, Drop)]
@@ -27,12 +26,13 @@ pub struct Username<'a> {
 
 impl<'a> Model for Username<'a> {
     ghost use Rattle.std.specs.Prelude.{ℕ, List, ◌≤◌, length};
+    ghost use Rattle.stun_types.specs.Limits.{USERNAME_LIMIT};
 
     ghost Value = { List ℕ };
 
     ghost view = { λ username. username.text.now };
 
-    ghost invariant = { λ username. length username.text.now ≤ 513 };
+    ghost invariant = { λ username. length username.text.now ≤ USERNAME_LIMIT };
 }
 
 /// It takes no memory and never fails.
@@ -66,16 +66,16 @@ impl<'a> Username<'a> {
     pub fn new(text: &'a str) -> Result<Self, StunWriteError>
         ensures ok { IfOk result (λ username. username ≡ text.now) }
         ensures only_too_large { IsOkUnless result StunWriteError.TooLarge }
-        ensures too_large { IsErrOf result StunWriteError.TooLarge ↔ (513 < length text.now) }
+        ensures too_large { IsErrOf result StunWriteError.TooLarge ↔ (USERNAME_LIMIT < length text.now) }
     {
-        let text = within_limit(text, MAX_LENGTH)?;
+        let text = within_limit(text, USERNAME_LIMIT)?;
         Ok(Username { text })
     }
 
     /// The user name.
     pub fn username(&self) -> &'a str
         ensures text { result.now ≡ self.now }
-        ensures within_limit { length result.now ≤ 513 }
+        ensures within_limit { length result.now ≤ USERNAME_LIMIT }
     {
         self.text
     }
@@ -98,7 +98,7 @@ impl<'a> Attribute for Username<'a> {
 
     ghost value = { λ username. username };
 
-    ghost is_well_formed = { λ username. IsUtf8 username × (length username ≤ 513) };
+    ghost is_well_formed = { λ username. IsUtf8 username × (length username ≤ USERNAME_LIMIT) };
 
     fn get_type(&self) -> AttributeType {
         Self::TYPE
@@ -114,12 +114,12 @@ impl<'a> Attribute for Username<'a> {
 }
 
 impl<'a> AttributeFromRaw<'a> for Username<'a> {
-    ghost reading = { text_of USERNAME 513 };
+    ghost reading = { text_of USERNAME USERNAME_LIMIT };
 
-    ghost reads_back = { text_of-written USERNAME 513 };
+    ghost reads_back = { text_of-written USERNAME USERNAME_LIMIT };
 
     fn from_raw(raw: RawAttribute<'a>) -> Result<Self, StunParseError> {
-        let text = read_text(raw, Self::TYPE, MAX_LENGTH)?;
+        let text = read_text(raw, Self::TYPE, USERNAME_LIMIT)?;
         Ok(Username { text })
     }
 }

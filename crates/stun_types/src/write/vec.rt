@@ -3,15 +3,12 @@
 ghost use Rattle.std.specs.Prelude.{◌≡◌, []};
 ghost use Rattle.stun_types.specs.WriteVec.{Written};
 
-use crate::write::{MAX_DATA_LENGTH, MessageWrite};
+use crate::limits::LENGTH_LIMIT;
+use crate::write::MessageWrite;
 use byteorder::{BigEndian, ByteOrder};
 use std::alloc::{Allocator, Global};
 use std::marker::Model;
 use stun_base::error::StunWriteError;
-use stun_base::header::HEADER_LENGTH;
-
-/// The bytes of the longest message with its header.
-const MAX_LENGTH: usize = HEADER_LENGTH + MAX_DATA_LENGTH;
 
 /// Writes a message to a `Vec`.
 #[derive(Drop)]
@@ -25,13 +22,14 @@ pub struct MessageWriteVec<A: Allocator = Global> {
 impl<A: Allocator> Model for MessageWriteVec<A> {
     ghost use Rattle.std.specs.Prelude.{◌+◌, ◌≤◌, vec_len, vec_capacity};
     ghost use Rattle.stun_types.specs.WriteVec.{Written};
-    ghost use Rattle.stun_types.specs.code.WriteVec.{IsWithin};
+    ghost use Rattle.stun_types.specs.code.WriteVec.{FitsCapacity};
 
     ghost Value = { Written };
 
     ghost view = { λ writer. record { bytes = writer.bytes.items; reserved = writer.reserved } };
 
-    ghost invariant = { λ writer. IsWithin (vec_len writer.bytes) writer.reserved (vec_capacity writer.bytes) };
+    ghost invariant = { λ writer.
+        FitsCapacity (vec_len writer.bytes) writer.reserved (vec_capacity writer.bytes) };
 }
 
 impl<A: Allocator> MessageWriteVec<A> {
@@ -48,12 +46,13 @@ impl<A: Allocator> MessageWriteVec<A> {
 
 impl<A: Allocator> MessageWrite for MessageWriteVec<A> {
     ghost use Rattle.std.specs.Prelude.{◌-◌, ◌≤◌, length};
+    ghost use Rattle.stun_types.specs.Limits.{LENGTH_LIMIT};
 
     type Output = Vec<u8, A>;
 
     ghost bytes = { λ writer. writer.bytes };
 
-    ghost room = { λ writer. 65552 - length writer.bytes };
+    ghost room = { λ writer. LENGTH_LIMIT - length writer.bytes };
 
     ghost reserved = { λ writer. writer.reserved };
 
@@ -62,7 +61,7 @@ impl<A: Allocator> MessageWrite for MessageWriteVec<A> {
     }
 
     fn room(&self) -> usize {
-        MAX_LENGTH - self.bytes.len()
+        LENGTH_LIMIT - self.bytes.len()
     }
 
     fn reserve(&mut self, additional: usize) -> Result<(), StunWriteError> {

@@ -2,6 +2,7 @@ use Rattle.std.proofs.Common.{◌+◌, length, arith, ◌≢◌, refl, ap}
 use Rattle.stun_base.specs.Header.{HEADER_LENGTH}
 use Rattle.stun_types.specs.Message.{IsMessage}
 use Rattle.stun_types.specs.Walk.{walk, taken}
+use Rattle.stun_types.proofs.HeaderLemmas.{fields_of}
 use Rattle.stun_types.proofs.VisibleLemmas.{StandsAt}
 use Rattle.stun_types.proofs.MessageLemmas.{HasTaken-step, next_place-within, refusal-none, refusal-unfilled, taken-end, taken-all}
 use Rattle.stun_types.proofs.message.Message.from_bytes.Goals as goal
@@ -41,7 +42,7 @@ pub invariant_of-result : goal.invariant_of-result
 invariant_of-result c =
     let message = is_message c in
     let field = ap (λ header. header.data_length) c.in_ok-header.ensures.value in
-    let aligned = message.header.aligned in
+    let aligned = (fields_of c.args.bytes.now message.header.fields).aligned in
     record { is_message = message; header_is = c.in_ok-header.ensures.value; limit = omega (arith, field, aligned) }
 
 pub returns-clause-accepted : goal.returns-clause-accepted

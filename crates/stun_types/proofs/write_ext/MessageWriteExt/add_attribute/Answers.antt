@@ -16,7 +16,7 @@ is_addable g c =
     rw c.data-3.ensures at c.length_with-message_length.ensures in
     record {
       kind = omega (arith, c.get_type-kind.ensures, c.get_type-kind.type_inv);
-      value = omega (arith, sum, c.padded_len.ensures, c.if-message_length-gt-MAX_DATA_LENGTH.false);
+      value = omega (arith, sum, c.padded_len.ensures, c.if-message_length-gt-MAX_LENGTH.false);
     }
 
 pub returns-clause-added : goal.returns-clause-added

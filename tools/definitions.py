@@ -98,8 +98,8 @@ class File:
         """One paragraph: imports, or a definition."""
         rest = []
         for line in paragraph:
-            if line.startswith("use "):
-                self.imports.read(line[4:])
+            if line.startswith(("use ", "pub use ")):
+                self.imports.read(line.removeprefix("pub ")[4:])
                 rest = []
             elif not line.startswith(("pub mod ", "mod ")):
                 rest.append(line)

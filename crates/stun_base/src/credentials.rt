@@ -48,7 +48,7 @@ impl<A: Allocator> ShortTermCredentials<A> {
 impl<A: Allocator + Copy> ShortTermCredentials<A> {
     /// The key of these credentials, which is the password's bytes (RFC 8489, section 9.1.1).
     ///
-    /// Up to 32 bytes take no memory; a longer key is kept in memory of the password's allocator.
+    /// Up to 32 bytes stand in the key itself; a longer key is allocated by the password's allocator.
     pub fn make_key(&self) -> Result<IntegrityKey<A>, AllocError>
         ensures key { IfOk result (λ key. key ≡ self.now) }
         ensures succeeds_inline { length self.now ≤ 32 → IsOk result }
@@ -152,10 +152,10 @@ impl<A: Allocator> LongTermCredentials<A> {
 }
 
 impl<A: Allocator + Copy> LongTermCredentials<A> {
-    /// The credentials of this user at a realm, from which keys are made without memory.
+    /// The credentials of this user at a realm, from which keys are made without an allocation.
     ///
-    /// Name and password are copied, each in memory of its own allocator; the one error is that
-    /// memory is wanting.
+    /// Name and password are copied, each by its own allocator; the one error is that an allocation
+    /// fails.
     pub fn to_key(&self, realm: String<A>) -> Result<LongTermKeyCredentials<A>, AllocError>
         ensures { IfOk result (λ key. key ≡ record {
           username = self.now.username;
@@ -266,8 +266,8 @@ impl<A: Allocator> LongTermKeyCredentials<A> {
     }
 
     /// The key for this algorithm: the hash of `username:realm:password`, 16 bytes of MD5 for
-    /// HMAC-SHA1 and 32 of SHA-256 for HMAC-SHA256 (RFC 8489, sections 9.2.2 and 18.5.1). It takes
-    /// no memory.
+    /// HMAC-SHA1 and 32 of SHA-256 for HMAC-SHA256 (RFC 8489, sections 9.2.2 and 18.5.1). It does
+    /// not allocate.
     pub fn make_key(&self, algorithm: IntegrityAlgorithm) -> IntegrityKey<A>
         ensures { result ≡ long_term_key_of self.now algorithm }
     {
@@ -324,7 +324,7 @@ pub enum MessageIntegrityCredentials<A: Allocator = Global> {
 impl<A: Allocator> MessageIntegrityCredentials<A> {
     ghost use Rattle.stun_base.specs.Keys.OfCredentials.{keys_of};
 
-    /// The key for this algorithm, without memory: the password's bytes where they stand, or the
+    /// The key for this algorithm, without an allocation: the password's bytes where they are, or the
     /// long-term key made in place.
     pub fn key(&self, algorithm: IntegrityAlgorithm) -> CredentialsKey<'_, A>
         ensures { result ≡ keys_of self.now algorithm }

@@ -68,8 +68,8 @@ impl<'a, A: Allocator> Data<'a, A> {
 
     /// The same bytes, owned.
     ///
-    /// Owned bytes move as they are, with their own allocator, and take no memory. Borrowed bytes
-    /// are copied into memory of `alloc`; the one error is that this memory is wanting.
+    /// Owned bytes move as they are, with their own allocator: that does not allocate. Borrowed bytes
+    /// are copied into memory of `alloc`; the one error is that this allocation fails.
     pub fn into_owned<'b>(self, alloc: A) -> Result<Data<'b, A>, AllocError>
         ensures bytes { IfOk result (λ owned. data_bytes owned ≡ data_bytes self.entry) }
         ensures owned { IfOk result (λ owned. IsOwned owned) }

@@ -14,7 +14,7 @@ pub enum StunParseError {
     /// multiple of 4.
     #[error("the bytes are not a STUN message")]
     NotStun,
-    /// Bytes stand behind the end of the message.
+    /// Bytes follow the end of the message.
     #[error("bytes stand behind the message")]
     TooLarge,
     /// The message has no visible attribute of this type.
@@ -25,7 +25,7 @@ pub enum StunParseError {
     InvalidAttributeData,
 }
 
-/// Why the integrity of a message does not stand.
+/// Why no digest of a message verifies.
 #[derive(Debug, Clone, Copy, PartialEq, Eq, Error)]
 pub enum ValidateError {
     /// The integrity attribute is missing or malformed, as the error inside says.
@@ -42,14 +42,14 @@ pub enum StunWriteError {
     /// This attribute is written by a call of its own, or by none.
     #[error("the attribute is not written by this call")]
     NotAllowed,
-    /// An integrity attribute stands in the message, behind which no other may be written.
+    /// The message has an integrity attribute, after which no other may be written.
     #[error("the message has its integrity attribute already")]
     MessageIntegrityExists,
-    /// An attribute of this type stands in the message.
+    /// The message has an attribute of this type.
     #[error("attribute {0} is in the message already")]
     AttributeExists(AttributeType),
     /// The value would be longer than its attribute may hold, or the message longer than 65532
-    /// bytes behind its header.
+    /// bytes after its header.
     #[error("the value or the message would be too large")]
     TooLarge,
     /// The room of the writer is less than what would be written.
@@ -58,7 +58,7 @@ pub enum StunWriteError {
     /// The digest cannot be made, since its key is not known.
     #[error("there is no key for the integrity attribute")]
     IntegrityFailed,
-    /// An allocation was refused.
+    /// An allocation failed.
     #[error("out of memory")]
     OutOfMemory,
 }

@@ -80,7 +80,7 @@ fn hmac<H: HashFunction>(key: &[u8], pieces: &[&[u8]]) -> H::Digest
 }
 
 /// HMAC-SHA1 (RFC 2104) of the pieces in their order, as one text. Keys and texts of any length are
-/// taken, and no memory.
+/// taken. It does not allocate.
 pub fn hmac_sha1(key: &[u8], pieces: &[&[u8]]) -> [u8; SHA1_LENGTH]
     ensures { result ≡ spec.hmac sha1 key.now (concat (map (λ piece. piece.now) pieces.now)) }
 {
@@ -88,7 +88,7 @@ pub fn hmac_sha1(key: &[u8], pieces: &[&[u8]]) -> [u8; SHA1_LENGTH]
 }
 
 /// HMAC-SHA256 (RFC 2104) of the pieces in their order, as one text. Keys and texts of any length
-/// are taken, and no memory.
+/// are taken. It does not allocate.
 pub fn hmac_sha256(key: &[u8], pieces: &[&[u8]]) -> [u8; SHA256_LENGTH]
     ensures { result ≡ spec.hmac sha256 key.now (concat (map (λ piece. piece.now) pieces.now)) }
 {

@@ -30,10 +30,10 @@ impl Model for Instant {
 impl Instant {
     /// The first moment.
     pub const ZERO: Instant = Instant { nanos: 0 };
-    /// The last moment, 2^64 - 1 nanoseconds behind the first.
+    /// The last moment, 2^64 - 1 nanoseconds after the first.
     pub const MAX: Instant = Instant { nanos: u64::MAX };
 
-    /// The moment so many nanoseconds behind the first.
+    /// The moment so many nanoseconds after the first.
     pub fn from_nanos(nanos: u64) -> Instant
         ensures { result ≡ nanos }
     {

@@ -17,7 +17,7 @@ use std::convert::AsSlice;
 use std::fmt;
 use std::marker::Model;
 
-/// The number of bytes of the longest key that is kept without memory.
+/// The number of bytes of the longest key that is kept without an allocation.
 const INLINE_LENGTH: usize = 32;
 
 /// The key of a digest. Up to 32 bytes stand in the value itself.
@@ -47,8 +47,8 @@ impl<A: Allocator> Model for IntegrityKey<A> {
 }
 
 impl<A: Allocator> IntegrityKey<A> {
-    /// A key of these bytes. Up to 32 bytes take no memory; more are kept in memory of `alloc`, and
-    /// the one error is that this is wanting.
+    /// A key of these bytes. Up to 32 bytes stand in the key itself; more are allocated by `alloc`,
+    /// and the one error is that this fails.
     pub fn from_bytes(alloc: A, bytes: &[u8]) -> Result<Self, AllocError>
         ensures ok { IfOk result (λ key. key ≡ bytes.now) }
         ensures succeeds_inline { length bytes.now ≤ 32 → IsOk result }
@@ -71,7 +71,7 @@ impl<A: Allocator> IntegrityKey<A> {
     }
 }
 
-/// The same bytes. Up to 32 take no memory, more are kept in memory of the same allocator.
+/// The same bytes. Up to 32 are copied without an allocation, more are allocated by the same allocator.
 impl<A: Allocator + Copy> Clone for IntegrityKey<A> {
     ghost is_clone = { λ key copy. copy ≡ key };
 
@@ -177,7 +177,7 @@ fn digest_of_utf8<H: HashFunction>(
 /// The long-term key of a user at a realm: 16 bytes of MD5 for HMAC-SHA1, 32 of SHA-256 for
 /// HMAC-SHA256, each the hash of `username:realm:password` (RFC 8489, sections 9.2.2 and 18.5.1).
 ///
-/// It takes no memory: `alloc` is dropped, and only says where longer keys of this type would
+/// It does not allocate: `alloc` is dropped, and only says where longer keys of this type would
 /// stand.
 pub fn long_term_key<A: Allocator>(
     alloc: A,
@@ -237,8 +237,8 @@ pub fn sha256_key_from_utf8(username: &[u8], realm: &[u8], password: &[u8]) -> O
     digest_of_utf8::<Sha256>(username, realm, password)
 }
 
-/// The hash that stands for a user name at a realm: SHA-256 of `username:realm` (RFC 8489, section
-/// 14.4). It takes no memory.
+/// The hash that names a user at a realm: SHA-256 of `username:realm` (RFC 8489, section
+/// 14.4). It does not allocate.
 pub fn userhash(username: &str, realm: &str) -> [u8; 32]
     ensures { result ≡ spec.userhash username.now realm.now }
 {

@@ -12,7 +12,7 @@ const LONGEST: usize = 64;
 
 /// Bytes in a row, up to 64. To hash or test them at once takes less than to do so piece by piece.
 ///
-/// Contracts see them as a list. Zeros stand behind them, so that the test can read the whole block.
+/// Contracts see them as a list. Zeros follow them, so that the test can read the whole block.
 #[derive(Drop)]
 pub(crate) struct ShortText {
     block: [u8; LONGEST],

@@ -17,7 +17,8 @@ use Rattle.stun_types.specs.Integrity.{algorithm_of, covered, deciding, first_of
 use Rattle.stun_types.specs.Message.{with_length}
 use Rattle.stun_types.specs.Visible.{visible}
 use Rattle.stun_types.specs.Walk.{Member, walk}
-use Rattle.stun_types.specs.Writing.{HasOneMore, IsAddable, IsOpen, covered_at_end, integrity_attribute, integrity_kind, length_with, max_length, with_integrity}
+use Rattle.stun_types.specs.Limits.{max_length}
+use Rattle.stun_types.specs.Writing.{HasOneMore, IsAddable, IsOpen, covered_at_end, integrity_attribute, integrity_kind, length_with, with_integrity}
 use Rattle.stun_types.proofs.AddingLemmas.{HasOneMore-added, HideNone, HideNone-open, or_none, visible-open}
 
 -- setting the length field again

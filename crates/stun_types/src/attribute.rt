@@ -1,4 +1,4 @@
-//! Attributes as they stand in a message.
+//! Attributes as a message has them: type, value and padding.
 ghost use Rattle.std.specs.Prelude.{◌≡◌, ◌+◌, ◌-◌, ◌*◌, ◌^◌, ◌<◌, ◌≤◌, ◌++◌, ℕ, List, drop, length, min, true, false, OnSome, IfSome, IfNone, Some, refl, ⊤};
 ghost use Rattle.std.specs.Cmp.{partial_equiv_from_equiv};
 ghost use Rattle.stun_types.specs.Equality.{same_attribute, same_attribute_equivalence};
@@ -71,7 +71,7 @@ impl<'a> Model for RawAttribute<'a> {
     ghost view = { λ attribute. record { kind = attribute.kind.0; value = attribute.value.now } };
 }
 
-/// It takes no memory and never fails.
+/// It does not allocate and never fails.
 impl<'a> Clone for RawAttribute<'a> {
     ghost is_clone = { λ it copy. copy ≡ it };
 

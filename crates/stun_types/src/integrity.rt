@@ -100,7 +100,7 @@ fn claimed_digest<'a>(message: &Message<'a>) -> Result<(usize, RawAttribute<'a>)
     Ok((place, attribute))
 }
 
-/// What the length field is to hold for the digest of an attribute at this place: the message ends behind it.
+/// What the length field is to hold for the digest of an attribute at this place: the message ends after it.
 fn covered_length(place: usize, value_length: usize) -> u16
     requires behind_header { header_length ≤ place }
     requires fits { place + 4 + value_length < header_length + 2 ^ 16 }
@@ -140,9 +140,9 @@ impl RawAttribute<'_> {
 }
 
 impl Message<'_> {
-    /// The algorithm whose digest stands under these credentials: under the password of a short-term one, or under the
-    /// long-term key of the deciding attribute's algorithm. It takes no memory, and makes no key where no digest is to be
-    /// compared. It refuses as `validate_integrity_with_key` does.
+    /// Verifies the digest of the message with these credentials, and answers its algorithm: under the password of a
+    /// short-term one, or under the long-term key of the deciding attribute's algorithm. It does not allocate, and makes no
+    /// key where no digest is to be compared. It refuses as `validate_integrity_with_key` does.
     pub fn validate_integrity<A: Allocator>(
         &self,
         credentials: &MessageIntegrityCredentials<A>,
@@ -161,11 +161,13 @@ impl Message<'_> {
         Ok(algorithm)
     }
 
-    /// The algorithm whose digest stands under the key. It takes no memory.
+    /// Verifies the digest of the message under a key, and answers its algorithm. It does not allocate, and compares
+    /// digests without an early exit (`stun_base::compare`).
     ///
     /// MESSAGE-INTEGRITY-SHA256 decides where it is visible, and MESSAGE-INTEGRITY where it is not. Without both it answers
     /// `MissingAttribute` of MESSAGE-INTEGRITY, where the deciding one has a wrong length `InvalidAttributeData`, and where
-    /// its value is another or a cut digest `IntegrityFailed`.
+    /// its value is another or a cut digest `IntegrityFailed`. The algorithm is that of the digest, not of the key: a message
+    /// whose HMAC-SHA1 verifies is answered `Sha1`, however the key was made.
     pub fn validate_integrity_with_key<A: Allocator>(
         &self,
         key: &IntegrityKey<A>,
@@ -177,7 +179,7 @@ impl Message<'_> {
         self.validate_integrity_with_key_bytes(key.as_bytes())
     }
 
-    /// The same under a key that is borrowed, of any length. It takes no memory.
+    /// The same under a key that is borrowed, of any length. It does not allocate.
     pub fn validate_integrity_with_key_bytes(
         &self,
         key: &[u8],

@@ -7,10 +7,11 @@ ghost use Rattle.stun_base.specs.Attributes.{FINGERPRINT, MESSAGE_INTEGRITY, MES
 ghost use Rattle.stun_types.specs.Attribute.{TypedValue};
 ghost use Rattle.stun_types.specs.Grammar.{spelled, SpellsWhatIsFound, FindsWhatIsSpelled, FindsWhatIsWritten};
 ghost use Rattle.stun_types.specs.Integrity.{deciding, stands, stands_by};
+ghost use Rattle.stun_types.specs.Limits.{max_length};
 ghost use Rattle.stun_types.specs.Message.{with_length};
 ghost use Rattle.stun_types.specs.Visible.{of_kind, visible};
 ghost use Rattle.stun_types.specs.Walk.{Member, walk};
-ghost use Rattle.stun_types.specs.Writing.{HasOneMore, IsAddable, IsOpen, integrity_attribute, is_set_apart, length_with, max_length, with_attribute, with_integrity};
+ghost use Rattle.stun_types.specs.Writing.{HasOneMore, IsAddable, IsOpen, integrity_attribute, is_set_apart, length_with, with_attribute, with_integrity};
 
 use crate::limits::{LENGTH_LIMIT, MAX_LENGTH, TEXT_LIMIT, USERNAME_LIMIT};
 use crate::message::Message;
@@ -54,7 +55,7 @@ pub fn writing_adds_one_attribute()
         ≡ spelled message_type transaction_id (attributes ++ attribute ∷ []) }
 {}
 
-/// What is signed stands: a message with its integrity attribute is one whose digest the reader finds right, and it has
+/// What is signed verifies: a message with its integrity attribute is one whose digest the reader finds right, and it has
 /// that one attribute more.
 pub fn signed_message_stands()
     ensures stands { (message : List ℕ) (algorithm : IntegrityAlgorithm) (key : List ℕ)
@@ -70,7 +71,7 @@ pub fn signed_message_stands()
         (integrity_attribute message algorithm key) }
 {}
 
-/// What stands behind the deciding attribute does not count, nor does the header's own length: two messages with the same
+/// What follows the deciding attribute does not count, nor does the header's own length: two messages with the same
 /// deciding attribute at the same place, and the same bytes before it but for the length field, have the same verdict.
 pub fn tail_does_not_count()
     ensures { (keys : IntegrityAlgorithm → List ℕ) (bytes others : List ℕ) (m : Member)

@@ -6,7 +6,8 @@ ghost use Rattle.stun_base.specs.Header.{HEADER_LENGTH as header_length, type_fi
 ghost use Rattle.stun_base.specs.MessageType.{class_of, method_of, IsResponse};
 ghost use Rattle.stun_types.specs.Grammar.{spelled};
 ghost use Rattle.stun_types.specs.Integrity.{first_of as first_member_of};
-ghost use Rattle.stun_types.specs.Message.{IsMessage, LENGTH_LIMIT, refusal};
+ghost use Rattle.stun_types.specs.Limits.{LENGTH_LIMIT};
+ghost use Rattle.stun_types.specs.Message.{IsMessage, refusal};
 ghost use Rattle.stun_types.specs.Reading.{attribute_answer};
 ghost use Rattle.stun_types.specs.Visible.{visible};
 ghost use Rattle.stun_types.specs.Walk.{walk};
@@ -49,7 +50,7 @@ impl<'a> Model for Message<'a> {
     ghost invariant = { λ message. IsRead message.header message.bytes.now };
 }
 
-/// It takes no memory and never fails.
+/// It does not allocate and never fails.
 impl<'a> Clone for Message<'a> {
     ghost is_clone = { λ it copy. copy ≡ it };
 
@@ -79,7 +80,7 @@ impl<'a> Eq for Message<'a> {
 }
 
 impl<'a> Message<'a> {
-    /// The message that these bytes are (RFC 8489, sections 5 and 14). It takes no memory.
+    /// The message that these bytes are (RFC 8489, sections 5 and 14). It does not allocate.
     ///
     /// The errors, in the order in which they are looked for: those of `MessageHeader::from_bytes`; `Truncated` for fewer
     /// bytes than the header states; `TooLarge` for more; `Truncated` where an attribute with its padding passes the end.
@@ -109,7 +110,7 @@ impl<'a> Message<'a> {
     }
 
     /// A message without attributes, in an empty writer: `TooSmall` where it has no room for the 20 bytes of a header, else
-    /// `OutOfMemory` where memory is refused. A refusal drops the writer.
+    /// `OutOfMemory` where an allocation fails. A refusal drops the writer.
     pub fn builder<W: MessageWrite>(
         message_type: MessageType,
         id: TransactionId,
@@ -282,8 +283,8 @@ impl<'a> Message<'a> {
 
     /// The visible attributes in their order, each with the place of its first byte in the message.
     ///
-    /// Behind MESSAGE-INTEGRITY only MESSAGE-INTEGRITY-SHA256 and FINGERPRINT are visible, behind MESSAGE-INTEGRITY-SHA256
-    /// only FINGERPRINT, behind FINGERPRINT nothing (RFC 8489, sections 14.5 to 14.7).
+    /// After MESSAGE-INTEGRITY only MESSAGE-INTEGRITY-SHA256 and FINGERPRINT are visible, after MESSAGE-INTEGRITY-SHA256
+    /// only FINGERPRINT, after FINGERPRINT nothing (RFC 8489, sections 14.5 to 14.7).
     pub fn iter_attributes(&self) -> MessageAttributesIter<'a>
         ensures visible { result ≡ visible self.now }
         ensures few { length result < 2 ^ 14 }

@@ -8,9 +8,10 @@ ghost use Rattle.stun_base.specs.MessageType.{class_of, IsResponse};
 ghost use Rattle.stun_types.specs.Attribute.{TypedValue, attribute_length};
 ghost use Rattle.stun_types.specs.Grammar.{spelled, spelled_attribute};
 ghost use Rattle.stun_types.specs.Integrity.{stands_by};
+ghost use Rattle.stun_types.specs.Limits.{max_length};
 ghost use Rattle.stun_types.specs.Visible.{has_kind};
 ghost use Rattle.stun_types.specs.Walk.{walk};
-ghost use Rattle.stun_types.specs.Writing.{GainsIntegrity, GainsOne, IsOpen, RefusedBy, SpellsOneMore, VerifiesAfter, attribute_refusal, has_integrity, integrity_kind, is_set_apart, length_with, max_length, signing_refusal, with_attribute, with_integrity};
+ghost use Rattle.stun_types.specs.Writing.{GainsIntegrity, GainsOne, IsOpen, RefusedBy, SpellsOneMore, VerifiesAfter, attribute_refusal, has_integrity, integrity_kind, is_set_apart, length_with, signing_refusal, with_attribute, with_integrity};
 
 use crate::append::append_attribute;
 use crate::attribute::{Attribute, AttributeType, attribute_length};
@@ -84,26 +85,26 @@ pub trait MessageWriteExt: MessageWrite {
     /// Adds an attribute at the end.
     ///
     /// It refuses by the first of these: a type that this call does not write (`NotAllowed`: the two integrity attributes and
-    /// FINGERPRINT), an integrity attribute stands there (`MessageIntegrityExists`), the type stands there
-    /// (`AttributeExists`), the message would be longer than 65532 bytes behind its header (`TooLarge`), no room
-    /// (`TooSmall`), no memory (`OutOfMemory`). A refusal leaves the bytes, the room and what was reserved.
+    /// FINGERPRINT), the message has an integrity attribute (`MessageIntegrityExists`), it has one of this type
+    /// (`AttributeExists`), it would be longer than 65532 bytes after its header (`TooLarge`), no room (`TooSmall`), an
+    /// allocation fails (`OutOfMemory`). A refusal leaves the bytes, the room and what was reserved.
     final fn add_attribute<A: Attribute>(&mut self, attribute: &A) -> Result<(), StunWriteError>
     where
         Self: Sized,
         requires { 20 ≤ length (Self.bytes self.old) }
 
-        // The first reason that holds is answered, and with no reason only memory can be missing.
+        // The first reason that holds is answered, and with no reason only an allocation can fail.
         ensures refused { RefusedBy (attribute_refusal (Self.bytes self.old) (Self.room self.old)
             (A.kind attribute.now) (length (A.value attribute.now))) result }
         ensures bytes { OnOk result (Self.bytes self.new ≡ with_attribute (Self.bytes self.old)
             (record { kind = A.kind attribute.now; value = A.value attribute.now })) }
 
-        // What is reserved already takes no memory.
+        // Where it is reserved already nothing fails.
         ensures succeeds { attribute_refusal (Self.bytes self.old) (Self.room self.old)
             (A.kind attribute.now) (length (A.value attribute.now)) ≡ None
             → attribute_length (length (A.value attribute.now)) ≤ Self.reserved self.old → IsOk result }
 
-        // Reading finds what it found before, and this attribute behind it.
+        // Reading finds what it found before, and this attribute after it.
         ensures added { OnOk result (GainsOne (Self.bytes self.old) (Self.bytes self.new)
             (record { kind = A.kind attribute.now; value = A.value attribute.now })) }
         ensures open { OnOk result (IsOpen (Self.bytes self.old) → IsOpen (Self.bytes self.new)) }
@@ -138,7 +139,7 @@ pub trait MessageWriteExt: MessageWrite {
     }
 
     /// Adds the integrity attribute of an algorithm, whose digest is made under the key that the credentials have for it:
-    /// the bytes of a password, or a long-term key. No memory is taken for the key. It refuses as
+    /// the bytes of a password, or a long-term key. Nothing is allocated for the key. It refuses as
     /// `add_message_integrity_with_key` does.
     final fn add_message_integrity<A: Allocator>(
         &mut self,
@@ -168,8 +169,8 @@ pub trait MessageWriteExt: MessageWrite {
 
     /// Adds the integrity attribute of an algorithm, whose digest is made under this key.
     ///
-    /// It refuses by the first of these: an integrity attribute stands there (`MessageIntegrityExists`), the message would be
-    /// longer than 65532 bytes behind its header (`TooLarge`), no room (`TooSmall`), no memory (`OutOfMemory`). A refusal
+    /// It refuses by the first of these: the message has an integrity attribute (`MessageIntegrityExists`), it would be longer
+    /// than 65532 bytes after its header (`TooLarge`), no room (`TooSmall`), an allocation fails (`OutOfMemory`). A refusal
     /// leaves the bytes, the room and what was reserved.
     final fn add_message_integrity_with_key<A: Allocator>(
         &mut self,
@@ -226,9 +227,9 @@ pub trait MessageWriteExt: MessageWrite {
 
     /// Adds the integrity attribute of an algorithm to a message that can have it.
     ///
-    /// The caller knows that the message has no integrity attribute, that with this one it has at most 65532 bytes behind
+    /// The caller knows that the message has no integrity attribute, that with this one it has at most 65532 bytes after
     /// its header, and that the writer has room for it: 24 bytes for HMAC-SHA1, 36 for HMAC-SHA256. The one error is that
-    /// memory is wanting; it leaves the bytes and the room.
+    /// an allocation fails; it leaves the bytes, the room and what was reserved.
     final fn add_message_integrity_with_key_unchecked<A: Allocator>(
         &mut self,
         key: &IntegrityKey<A>,

@@ -42,7 +42,7 @@ impl<'a> Model for ErrorCode<'a> {
         (300 ≤ error.code) × (error.code < 700) × (length error.reason.now ≤ TEXT_LIMIT) };
 }
 
-/// It takes no memory and never fails.
+/// It does not allocate and never fails.
 impl<'a> Clone for ErrorCode<'a> {
     ghost is_clone = { λ it copy. copy ≡ it };
 
@@ -149,7 +149,7 @@ impl<'a> ErrorCodeBuilder<'a> {
     }
 
     /// The attribute, or `NotAllowed` where the code is not one of 300 to 699, then `TooLarge` where the reason has more
-    /// than 763 bytes. It takes no memory.
+    /// than 763 bytes. It does not allocate.
     pub fn build(self) -> Result<ErrorCode<'a>, StunWriteError>
         ensures value { IfOk result (λ error. error ≡ self.entry) }
         ensures ok { OnOk result (error_refusal self.entry ≡ None) }

@@ -74,7 +74,7 @@ pub fn is_same_attribute(one: &RawAttribute<'_>, other: &RawAttribute<'_>) -> bo
     one == other
 }
 
-/// Addresses are equal where family, port and octets are, as they stand in a message.
+/// Addresses are equal where family, port and octets are, as a message has them.
 pub fn is_same_address(one: XorMappedAddress, other: XorMappedAddress) -> bool
     ensures { IsTrue result ↔ (one ≡ other) }
 {

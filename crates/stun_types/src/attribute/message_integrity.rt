@@ -108,7 +108,7 @@ impl<'a> Model for MessageIntegritySha256<'a> {
     ghost invariant = { λ integrity. IsSha256Digest integrity.hmac.now };
 }
 
-/// It takes no memory and never fails.
+/// It does not allocate and never fails.
 impl<'a> Clone for MessageIntegritySha256<'a> {
     ghost is_clone = { λ it copy. copy ≡ it };
 

@@ -35,7 +35,7 @@ impl<'a> Model for Nonce<'a> {
     ghost invariant = { λ nonce. length nonce.text.now ≤ TEXT_LIMIT };
 }
 
-/// It takes no memory and never fails.
+/// It does not allocate and never fails.
 impl<'a> Clone for Nonce<'a> {
     ghost is_clone = { λ it copy. copy ≡ it };
 
@@ -62,7 +62,7 @@ impl<'a> Eq for Nonce<'a> {
 }
 
 impl<'a> Nonce<'a> {
-    /// The attribute of this nonce, or `TooLarge` where it has more than 763 bytes. It takes no memory.
+    /// The attribute of this nonce, or `TooLarge` where it has more than 763 bytes. It does not allocate.
     pub fn new(text: &'a str) -> Result<Self, StunWriteError>
         ensures ok { IfOk result (λ nonce. nonce ≡ text.now) }
         ensures only_too_large { IsOkUnless result StunWriteError.TooLarge }

@@ -46,7 +46,7 @@ impl<'a> Model for PasswordAlgorithms<'a> {
     ghost invariant = { λ algorithms. IsKnown algorithms.source };
 }
 
-/// It takes no memory and never fails.
+/// It does not allocate and never fails.
 impl<'a> Clone for PasswordAlgorithms<'a> {
     ghost is_clone = { λ it copy. copy ≡ it };
 
@@ -93,7 +93,7 @@ fn entry_count(bytes: &[u8]) -> usize
 }
 
 impl<'a> PasswordAlgorithms<'a> {
-    /// The attribute of these algorithms. It takes no memory.
+    /// The attribute of these algorithms. It does not allocate.
     pub fn new(algorithms: &'a [PasswordAlgorithmValue]) -> Self
         ensures { result ≡ algorithms.now }
     {

@@ -35,7 +35,7 @@ impl<'a> Model for Realm<'a> {
     ghost invariant = { λ realm. length realm.text.now ≤ TEXT_LIMIT };
 }
 
-/// It takes no memory and never fails.
+/// It does not allocate and never fails.
 impl<'a> Clone for Realm<'a> {
     ghost is_clone = { λ it copy. copy ≡ it };
 
@@ -62,7 +62,7 @@ impl<'a> Eq for Realm<'a> {
 }
 
 impl<'a> Realm<'a> {
-    /// The attribute of this realm, or `TooLarge` where it has more than 763 bytes. It takes no memory.
+    /// The attribute of this realm, or `TooLarge` where it has more than 763 bytes. It does not allocate.
     pub fn new(text: &'a str) -> Result<Self, StunWriteError>
         ensures ok { IfOk result (λ realm. realm ≡ text.now) }
         ensures only_too_large { IsOkUnless result StunWriteError.TooLarge }

@@ -17,7 +17,7 @@ use stun_base::key::userhash;
 /// The bytes of a hash.
 const LENGTH: usize = 32;
 
-/// The hash that stands for a user name at a realm. Contracts see its bytes.
+/// The hash that names a user at a realm. Contracts see its bytes.
 #[derive(Clone, Copy, Debug, PartialEq, Eq)]
 pub struct Userhash {
     hash: [u8; LENGTH],
@@ -41,7 +41,7 @@ impl Userhash {
         Userhash { hash }
     }
 
-    /// The hash of a user name at a realm: SHA-256 of the two with a colon between them. It takes no memory.
+    /// The hash of a user name at a realm: SHA-256 of the two with a colon between them. It does not allocate.
     pub fn compute(user: &str, realm: &str) -> [u8; 32]
         ensures { result ≡ keys.userhash user.now realm.now }
     {

@@ -35,7 +35,7 @@ impl<'a> Model for Username<'a> {
     ghost invariant = { λ username. length username.text.now ≤ USERNAME_LIMIT };
 }
 
-/// It takes no memory and never fails.
+/// It does not allocate and never fails.
 impl<'a> Clone for Username<'a> {
     ghost is_clone = { λ it copy. copy ≡ it };
 
@@ -62,7 +62,7 @@ impl<'a> Eq for Username<'a> {
 }
 
 impl<'a> Username<'a> {
-    /// The attribute of this user name, or `TooLarge` where it has more than 513 bytes. It takes no memory.
+    /// The attribute of this user name, or `TooLarge` where it has more than 513 bytes. It does not allocate.
     pub fn new(text: &'a str) -> Result<Self, StunWriteError>
         ensures ok { IfOk result (λ username. username ≡ text.now) }
         ensures only_too_large { IsOkUnless result StunWriteError.TooLarge }

@@ -39,8 +39,8 @@ enum XoredOctets {
     V6([u8; 16]),
 }
 
-/// The address that a request came from, as it stands in a message: port and octets are hidden by the magic cookie and the
-/// transaction id. Contracts see its parts as they stand there.
+/// The address that a request came from, as a message has it: port and octets are hidden by the magic cookie and the
+/// transaction id. Contracts see its hidden parts.
 #[derive(Clone, Copy, Debug, PartialEq, Eq)]
 pub struct XorMappedAddress {
     port: u16,
@@ -130,7 +130,7 @@ impl XorMappedAddress {
         }
     }
 
-    /// The address, where the attribute stands in a message of this transaction. Flow information and scope of an IPv6
+    /// The address, where the attribute is of a message of this transaction. Flow information and scope of an IPv6
     /// address are 0.
     pub fn addr(&self, id: TransactionId) -> SocketAddr
         ensures ip { IsHidden id self.now (socket_ip result) }

@@ -7,9 +7,10 @@ use byteorder::{BigEndian, ByteOrder};
 use std::marker::Model;
 use stun_base::error::StunWriteError;
 
-/// Writes a message to a slice. It takes no memory.
+/// Writes a message to a slice. It does not allocate.
 ///
-/// Contracts see the bytes written so far and how many more there is room for.
+/// Contracts see the bytes written so far and how many more there is room for. Of what the slice holds after the bytes
+/// written nothing is promised.
 #[derive(Debug, Drop)]
 pub struct MessageWriteMutSlice<'a> {
     buffer: &'a mut [u8],

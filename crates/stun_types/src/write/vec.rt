@@ -1,4 +1,4 @@
-//! Messages in memory that grows.
+//! Messages written to a `Vec`, which grows.
 
 ghost use Rattle.std.specs.Prelude.{◌≡◌, []};
 ghost use Rattle.stun_types.specs.WriteVec.{Written};
@@ -33,7 +33,7 @@ impl<A: Allocator> Model for MessageWriteVec<A> {
 }
 
 impl<A: Allocator> MessageWriteVec<A> {
-    /// An empty message. It takes no memory.
+    /// An empty message. It does not allocate.
     pub fn new(alloc: A) -> Self
         ensures { result ≡ record { bytes = []; reserved = 0 } }
     {

@@ -1,7 +1,7 @@
 -- The statistics tell how many requests are outstanding, after each call as before it.
 use Rattle.std.proofs.Common.{ℕ, ◌≡◌, ◌+◌, Bool, true, false, cond, List, length, sym, subst, refl, arith}
 use Rattle.std.specs.Prelude.{Option, Some, None, IfSome}
-use Rattle.std.specs.Option.{option_map, option_map_or, is_some}
+use Rattle.std.specs.Option.{option_map, option_map_or, option_or, is_some}
 use Rattle.std.specs.declared.net.socket_addr.SocketAddr.{SocketAddr}
 use Rattle.std.proofs.lemmas.List.{length-map}
 use Rattle.stun_base.specs.Header.{transaction_id_field, header_refusal}
@@ -10,10 +10,11 @@ use Rattle.stun_base.specs.declared.message_type.MessageClass.{MessageClass}
 use Rattle.stun_base.specs.declared.message_type.MessageClass.TheVariants.{Request, Indication, Success, Error}
 use Rattle.stun_agent.specs.declared.error.StunError.{StunError}
 use Rattle.stun_agent.specs.declared.error.StunError.TheVariants.{ProtocolViolation, ParseError}
-use Rattle.stun_agent.specs.Agent.{Agent, tallied, with_validated, with_transactions, tally_of_end, tally_of_sent, class_of_bytes, is_request, sending_tally, sending_refusal, after_send, request_refusal, request_of, after_send_request, after_class, after_response, ended_by_poll, sent_by_poll, after_poll}
+use Rattle.stun_agent.specs.Agent.{Agent, tallied, with_validated, with_transactions, tally_of_end, tally_of_sent, class_of_bytes, is_request, sending_tally, address_refusal, class_refusal, sending_refusal, after_send, request_refusal, request_of, after_send_request, answered, after_class, after_response, ended_by_poll, sent_by_poll, after_poll}
 use Rattle.stun_agent.specs.Statistics.{Statistics, Tally, counted, LeavesOutstanding, IsNotFull, request_sent, request_sent_again, request_received, indication_received, response_received}
 use Rattle.stun_agent.specs.Steps.{Step, send, send_request, receive, validate, poll, poll_transmit, cancel_retransmissions, cancel, configure, after_step}
 use Rattle.stun_agent.specs.Transactions.{Transaction, repeats, is_over, at, without, changed, silenced, cancelled, configured, slot_passed, after_slots, round_trip}
+use Rattle.stun_agent.proofs.AnswerLemmas.{answered_there}
 use Rattle.stun_agent.proofs.LookupLemmas.{length-with, length-without, length-changed, found_there}
 use Rattle.stun_agent.proofs.OnceLemmas.{not_refused_is_new}
 use Rattle.stun_agent.proofs.StatisticsLemmas.{leaves_outstanding-counted}
@@ -43,7 +44,11 @@ sent_class Indication count stats n other h = tallied_tells (sending_tally Indic
 sent_class Success count stats n other h = tallied_tells (sending_tally Success count) stats n n (omega arith) h
 sent_class Error count stats n other h = tallied_tells (sending_tally Error count) stats n n (omega arith) h
 
-sent_is_other : (bytes : List ℕ) → sending_refusal bytes ≡ None → is_request (class_of_bytes bytes) ≡ false
+first_none : {X : Type 0} (o p : Option X) → option_or o p ≡ None → o ≡ None
+first_none None p h = refl
+first_none (Some x) p h = cc
+
+sent_is_other : (bytes : List ℕ) → class_refusal bytes ≡ None → is_request (class_of_bytes bytes) ≡ false
 sent_is_other bytes h = by (header_refusal bytes) h
   where
     by_class : (b : Bool) → cond b (Some ProtocolViolation) None ≡ None → b ≡ false
@@ -55,45 +60,45 @@ sent_is_other bytes h = by (header_refusal bytes) h
     by (Some error) h = cc
     by None h = by_class (is_request (class_of_bytes bytes)) h
 
-tells_send : (bytes : List ℕ) (a : Agent) → Tells a.statistics (length a.transactions)
-    → StillTells (cond (is_some (sending_refusal bytes)) a (after_send bytes a)).statistics (length (cond (is_some (sending_refusal bytes)) a (after_send bytes a)).transactions)
-tells_send bytes a h = by (sending_refusal bytes) refl
+tells_send : (bytes : List ℕ) (to : SocketAddr) (a : Agent) → Tells a.statistics (length a.transactions)
+    → StillTells (cond (is_some (sending_refusal a bytes to)) a (after_send bytes a)).statistics (length (cond (is_some (sending_refusal a bytes to)) a (after_send bytes a)).transactions)
+tells_send bytes to a h = by (sending_refusal a bytes to) refl
   where
-    by : (r : Option StunError) → sending_refusal bytes ≡ r
+    by : (r : Option StunError) → sending_refusal a bytes to ≡ r
         → StillTells (cond (is_some r) a (after_send bytes a)).statistics (length (cond (is_some r) a (after_send bytes a)).transactions)
     by (Some error) is = untouched_tells a.statistics _ _ refl h
-    by None is = sent_class (class_of_bytes bytes) (length bytes) a.statistics (length a.transactions) (sent_is_other bytes is) h
+    by None is = sent_class (class_of_bytes bytes) (length bytes) a.statistics (length a.transactions) (sent_is_other bytes (first_none (class_refusal bytes) (address_refusal a to) is)) h
 
 one_more : (n m : ℕ) → m ≡ n + 1 → n + 1 ≡ m + (0 + 0 + 0)
 one_more n m h = omega (arith, h)
 
 tells_request : (bytes : List ℕ) (to : SocketAddr) (now : ℕ) (a : Agent) → Tells a.statistics (length a.transactions)
-    → StillTells (cond (is_some (request_refusal a bytes)) a (after_send_request a bytes to now)).statistics
-    (length (cond (is_some (request_refusal a bytes)) a (after_send_request a bytes to now)).transactions)
-tells_request bytes to now a h = by (request_refusal a bytes) refl
+    → StillTells (cond (is_some (request_refusal a bytes to)) a (after_send_request a bytes to now)).statistics
+    (length (cond (is_some (request_refusal a bytes to)) a (after_send_request a bytes to now)).transactions)
+tells_request bytes to now a h = by (request_refusal a bytes to) refl
   where
-    by : (r : Option StunError) → request_refusal a bytes ≡ r
+    by : (r : Option StunError) → request_refusal a bytes to ≡ r
         → StillTells (cond (is_some r) a (after_send_request a bytes to now)).statistics (length (cond (is_some r) a (after_send_request a bytes to now)).transactions)
     by (Some error) is = untouched_tells a.statistics _ _ refl h
     by None is =
         tallied_tells (request_sent (length bytes)) a.statistics (length a.transactions) _
-        (one_more _ _ (length-with (transaction_id_field bytes) (request_of a bytes to now) a.transactions (not_refused_is_new a bytes is))) h
+        (one_more _ _ (length-with (transaction_id_field bytes) (request_of a bytes to now) a.transactions (not_refused_is_new a bytes to is))) h
 
 one_less : (n m : ℕ) → m + 1 ≡ n → n + 0 ≡ m + (1 + 0 + 0)
 one_less n m h = omega (arith, h)
 
 tells_response : (moment : Option ℕ) (bytes : List ℕ) (from : SocketAddr) (a : Agent) → Tells a.statistics (length a.transactions)
     → StillTells (after_response moment bytes from a).statistics (length (after_response moment bytes from a).transactions)
-tells_response moment bytes from a h = by (at (transaction_id_field bytes) a.transactions) refl
+tells_response moment bytes from a h = by (answered bytes from a) refl
   where
-    by : (found : Option Transaction) → at (transaction_id_field bytes) a.transactions ≡ found
+    by : (found : Option Transaction) → answered bytes from a ≡ found
         → let left = option_map_or
         (λ t. tallied (response_received (length bytes) (round_trip moment t)) (with_validated from (with_transactions a (without (transaction_id_field bytes) a.transactions))))
         found a in StillTells left.statistics (length left.transactions)
     by None is = untouched_tells a.statistics _ _ refl h
     by (Some t) is =
         tallied_tells (response_received (length bytes) (round_trip moment t)) a.statistics (length a.transactions) _
-        (one_less _ _ (length-without (transaction_id_field bytes) a.transactions t is)) h
+        (one_less _ _ (length-without (transaction_id_field bytes) a.transactions t (answered_there bytes from a t is))) h
 
 tells_class : (class : MessageClass) (moment : Option ℕ) (bytes : List ℕ) (from : SocketAddr) (a : Agent) → Tells a.statistics (length a.transactions)
     → StillTells (after_class class moment bytes from a).statistics (length (after_class class moment bytes from a).transactions)
@@ -128,7 +133,7 @@ tells_changed : (f : Transaction → Transaction) (id : ℕ) (a : Agent) → Tel
 tells_changed f id a h = untouched_tells a.statistics _ _ (length-changed f id a.transactions) h
 
 pub still_tells : (step : Step) (a : Agent) → Tells a.statistics (length a.transactions) → StillTells (after_step step a).statistics (length (after_step step a).transactions)
-still_tells (send bytes) a h = tells_send bytes a h
+still_tells (send bytes to) a h = tells_send bytes to a h
 still_tells (send_request bytes to now) a h = tells_request bytes to now a h
 still_tells (receive moment bytes from) a h = tells_class (class_of_bytes bytes) moment bytes from a h
 still_tells (validate address) a h = untouched_tells a.statistics _ _ refl h

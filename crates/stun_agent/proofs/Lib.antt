@@ -1,4 +1,5 @@
 pub mod AddressLemmas
+pub mod AnswerLemmas
 pub mod Ascending
 pub mod CountLemmas
 pub mod DeadlineLemmas
@@ -12,6 +13,7 @@ pub mod PeerLemmas
 pub mod PlaceLemmas
 pub mod QuietLemmas
 pub mod ReadLemmas
+pub mod RefusalLemmas
 pub mod RenewLemmas
 pub mod RepeatLemmas
 pub mod ResponseLemmas

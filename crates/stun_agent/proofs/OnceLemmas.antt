@@ -13,11 +13,12 @@ use Rattle.stun_base.specs.declared.message_type.MessageClass.{MessageClass}
 use Rattle.stun_base.specs.declared.message_type.MessageClass.TheVariants.{Request, Indication, Success, Error}
 use Rattle.stun_agent.specs.declared.error.StunError.{StunError}
 use Rattle.stun_agent.specs.declared.error.StunError.TheVariants.{AlreadyInProgress, ProtocolViolation, ParseError}
-use Rattle.stun_agent.specs.Agent.{Agent, tallied, with_validated, with_transactions, tally_of_end, tally_of_sent, class_of_bytes, is_request, sending_refusal, after_send, request_refusal, request_of, after_send_request, after_class, after_response, ended_by_poll, sent_by_poll, after_poll}
+use Rattle.stun_agent.specs.Agent.{Agent, tallied, with_validated, with_transactions, tally_of_end, tally_of_sent, class_of_bytes, is_request, is_elsewhere, sending_refusal, after_send, request_refusal, request_of, after_send_request, answered, after_class, after_response, ended_by_poll, sent_by_poll, after_poll}
 use Rattle.stun_agent.specs.Statistics.{response_received}
 use Rattle.stun_agent.specs.Steps.{Step, send, send_request, receive, validate, poll, poll_transmit, cancel_retransmissions, cancel, configure, after_step, after_steps, is_id, is_outstanding, begins, ends, takes_request, once, count}
 use Rattle.stun_agent.specs.Transactions.{Transaction, Transactions, IsAscending, at, with, without, changed, silenced, cancelled, configured, is_over, slot_passed, after_slots, round_trip}
 use Rattle.stun_agent.proofs.Ascending.{IsAscending-map, IsAscending-set_value, IsAscending-remove, IsAscending-insert, lookup-remove_other, lookup-insert_other, lookup-insert_same}
+use Rattle.stun_agent.proofs.AnswerLemmas.{answered_there}
 use Rattle.stun_agent.proofs.EntryLemmas.{same_key, lookup_found}
 use Rattle.stun_agent.proofs.LookupLemmas.{lookup-map, at-without, is_some-option_map, is_some-changed}
 
@@ -34,7 +35,7 @@ ascending_changed f id all s = by (at id all)
     by (Some t) = IsAscending-set_value (is_at (nat_cmp id)) all (f t) s
 
 ascending_response : (moment : Option ℕ) (bytes : List ℕ) (from : SocketAddr) (a : Agent) → IsAscending a.transactions → IsAscending (after_response moment bytes from a).transactions
-ascending_response moment bytes from a s = by (at (transaction_id_field bytes) a.transactions)
+ascending_response moment bytes from a s = by (answered bytes from a)
   where
     by : (found : Option Transaction)
         → IsAscending (option_map_or
@@ -66,9 +67,9 @@ ascending_if true x y p q = p
 ascending_if false x y p q = q
 
 pub ascending_step : (step : Step) (a : Agent) → IsAscending a.transactions → IsAscending (after_step step a).transactions
-ascending_step (send bytes) a s = ascending_if (is_some (sending_refusal bytes)) a (after_send bytes a) s s
+ascending_step (send bytes to) a s = ascending_if (is_some (sending_refusal a bytes to)) a (after_send bytes a) s s
 ascending_step (send_request bytes to now) a s =
-    ascending_if (is_some (request_refusal a bytes)) a (after_send_request a bytes to now) s (IsAscending-insert a.transactions (transaction_id_field bytes) (request_of a bytes to now) s)
+    ascending_if (is_some (request_refusal a bytes to)) a (after_send_request a bytes to now) s (IsAscending-insert a.transactions (transaction_id_field bytes) (request_of a bytes to now) s)
 ascending_step (receive moment bytes from) a s = ascending_class (class_of_bytes bytes) moment bytes from a s
 ascending_step (validate address) a s = s
 ascending_step (poll now) a s = ascending_poll now a s
@@ -83,21 +84,27 @@ ascending_steps (step ∷ steps) a s = ascending_steps steps (after_step step a)
 
 -- ---- what begins and what ends
 -- a request that is not refused is not outstanding
-pub not_refused_is_new : (a : Agent) (bytes : List ℕ) → request_refusal a bytes ≡ None → at (transaction_id_field bytes) a.transactions ≡ None
-not_refused_is_new a bytes h = by_header (header_refusal bytes) h
+pub not_refused_is_new : (a : Agent) (bytes : List ℕ) (to : SocketAddr) → request_refusal a bytes to ≡ None → at (transaction_id_field bytes) a.transactions ≡ None
+not_refused_is_new a bytes to h = by_header (header_refusal bytes) h
   where
     by_place : (o : Option Transaction) → cond (is_some o) (Some AlreadyInProgress) None ≡ None → o ≡ None
     by_place None h = refl
     by_place (Some t) h = cc
 
-    by_class : (b : Bool) → cond b (cond (is_some (at (transaction_id_field bytes) a.transactions)) (Some AlreadyInProgress) None) (Some ProtocolViolation) ≡ None
+    by_address : (b : Bool) → cond b (Some ProtocolViolation) (cond (is_some (at (transaction_id_field bytes) a.transactions)) (Some AlreadyInProgress) None) ≡ None
         → at (transaction_id_field bytes) a.transactions ≡ None
-    by_class true h = by_place (at (transaction_id_field bytes) a.transactions) h
+    by_address true h = cc
+    by_address false h = by_place (at (transaction_id_field bytes) a.transactions) h
+
+    by_class : (b : Bool)
+        → cond b (cond (is_elsewhere a to) (Some ProtocolViolation) (cond (is_some (at (transaction_id_field bytes) a.transactions)) (Some AlreadyInProgress) None)) (Some ProtocolViolation) ≡ None
+        → at (transaction_id_field bytes) a.transactions ≡ None
+    by_class true h = by_address (is_elsewhere a to) h
     by_class false h = cc
 
     by_header : (refused : Option StunParseError)
         → option_map_or (λ error. Some (ParseError error)) refused
-        (cond (is_request (class_of_bytes bytes)) (cond (is_some (at (transaction_id_field bytes) a.transactions)) (Some AlreadyInProgress) None) (Some ProtocolViolation))
+        (cond (is_request (class_of_bytes bytes)) (cond (is_elsewhere a to) (Some ProtocolViolation) (cond (is_some (at (transaction_id_field bytes) a.transactions)) (Some AlreadyInProgress) None)) (Some ProtocolViolation))
         ≡ None
         → at (transaction_id_field bytes) a.transactions ≡ None
     by_header (Some error) h = cc
@@ -108,22 +115,22 @@ abbrev IsBalanced : ℕ → Bool → Bool → Transactions → Transactions → 
 IsBalanced id begun ended before after = once begun + once (is_some (at id before)) ≡ once ended + once (is_some (at id after))
 
 balanced_request : (id : ℕ) (a : Agent) (bytes : List ℕ) (to : SocketAddr) (now : ℕ)
-    → IsBalanced id (is_none (request_refusal a bytes) && is_id id (transaction_id_field bytes)) false a.transactions
-    (cond (is_some (request_refusal a bytes)) a (after_send_request a bytes to now)).transactions
-balanced_request id a bytes to now = by (request_refusal a bytes) refl
+    → IsBalanced id (is_none (request_refusal a bytes to) && is_id id (transaction_id_field bytes)) false a.transactions
+    (cond (is_some (request_refusal a bytes to)) a (after_send_request a bytes to now)).transactions
+balanced_request id a bytes to now = by (request_refusal a bytes to) refl
   where
-    fresh : request_refusal a bytes ≡ None → (b : Bool) → is_id id (transaction_id_field bytes) ≡ b
+    fresh : request_refusal a bytes to ≡ None → (b : Bool) → is_id id (transaction_id_field bytes) ≡ b
         → IsBalanced id b false a.transactions (with (transaction_id_field bytes) (request_of a bytes to now) a.transactions)
     fresh is true same =
         let key : transaction_id_field bytes ≡ id = same_key id (transaction_id_field bytes) same in
-        let none : at id a.transactions ≡ None = subst (λ k. at k a.transactions ≡ None) key (not_refused_is_new a bytes is) in
+        let none : at id a.transactions ≡ None = subst (λ k. at k a.transactions ≡ None) key (not_refused_is_new a bytes to is) in
         let here : at id (with (transaction_id_field bytes) (request_of a bytes to now) a.transactions) ≡ Some (request_of a bytes to now) =
         subst (λ k. at id (with k (request_of a bytes to now) a.transactions) ≡ Some (request_of a bytes to now)) (sym key) (lookup-insert_same id (request_of a bytes to now) a.transactions) in
         ap (λ (o : Option Transaction). 1 + once (is_some o)) none ∙ sym (ap (λ (o : Option Transaction). 0 + once (is_some o)) here)
     fresh is false apart =
         sym (ap (λ (o : Option Transaction). 0 + once (is_some o)) (lookup-insert_other id (transaction_id_field bytes) (request_of a bytes to now) a.transactions apart))
 
-    by : (r : Option StunError) → request_refusal a bytes ≡ r
+    by : (r : Option StunError) → request_refusal a bytes to ≡ r
         → IsBalanced id (is_none r && is_id id (transaction_id_field bytes)) false a.transactions (cond (is_some r) a (after_send_request a bytes to now)).transactions
     by (Some error) is = refl
     by None is = fresh is (is_id id (transaction_id_field bytes)) refl
@@ -140,39 +147,35 @@ balanced_without id other all t s there = by (is_id id other) refl
     by false apart = sym (ap (λ (o : Option Transaction). 0 + once (is_some o)) (lookup-remove_other id other all apart))
 
 balanced_response : (id : ℕ) (moment : Option ℕ) (bytes : List ℕ) (from : SocketAddr) (a : Agent) → IsAscending a.transactions
-    → IsBalanced id false (is_id id (transaction_id_field bytes) && is_outstanding id a) a.transactions (after_response moment bytes from a).transactions
-balanced_response id moment bytes from a s = by (at (transaction_id_field bytes) a.transactions) refl
+    → IsBalanced id false (is_id id (transaction_id_field bytes) && is_some (answered bytes from a)) a.transactions (after_response moment bytes from a).transactions
+balanced_response id moment bytes from a s = by (answered bytes from a) refl
   where
-    known : (t : Transaction) → at (transaction_id_field bytes) a.transactions ≡ Some t → (is_id id (transaction_id_field bytes) && is_outstanding id a) ≡ is_id id (transaction_id_field bytes)
+    known : (t : Transaction) → answered bytes from a ≡ Some t → (is_id id (transaction_id_field bytes) && is_some (answered bytes from a)) ≡ is_id id (transaction_id_field bytes)
     known t there = test (is_id id (transaction_id_field bytes)) refl
       where
-        test : (b : Bool) → is_id id (transaction_id_field bytes) ≡ b → (b && is_outstanding id a) ≡ b
-        test true same =
-            let key : transaction_id_field bytes ≡ id = same_key id (transaction_id_field bytes) same in
-            ap is_some (subst (λ k. at k a.transactions ≡ Some t) key there)
+        test : (b : Bool) → is_id id (transaction_id_field bytes) ≡ b → (b && is_some (answered bytes from a)) ≡ b
+        test true same = ap is_some there
         test false apart = refl
 
-    unknown : at (transaction_id_field bytes) a.transactions ≡ None → (is_id id (transaction_id_field bytes) && is_outstanding id a) ≡ false
+    unknown : answered bytes from a ≡ None → (is_id id (transaction_id_field bytes) && is_some (answered bytes from a)) ≡ false
     unknown none = test (is_id id (transaction_id_field bytes)) refl
       where
-        test : (b : Bool) → is_id id (transaction_id_field bytes) ≡ b → (b && is_outstanding id a) ≡ false
-        test true same =
-            let key : transaction_id_field bytes ≡ id = same_key id (transaction_id_field bytes) same in
-            ap is_some (subst (λ k. at k a.transactions ≡ None) key none)
+        test : (b : Bool) → is_id id (transaction_id_field bytes) ≡ b → (b && is_some (answered bytes from a)) ≡ false
+        test true same = ap is_some none
         test false apart = refl
 
-    by : (found : Option Transaction) → at (transaction_id_field bytes) a.transactions ≡ found
-        → IsBalanced id false (is_id id (transaction_id_field bytes) && is_outstanding id a) a.transactions
+    by : (found : Option Transaction) → answered bytes from a ≡ found
+        → IsBalanced id false (is_id id (transaction_id_field bytes) && is_some (answered bytes from a)) a.transactions
         (option_map_or
         (λ t. tallied (response_received (length bytes) (round_trip moment t)) (with_validated from (with_transactions a (without (transaction_id_field bytes) a.transactions))))
         found a).transactions
     by None is = sym (ap (λ b. once b + once (is_some (at id a.transactions))) (unknown is))
     by (Some t) is =
-        balanced_without id (transaction_id_field bytes) a.transactions t s is
+        balanced_without id (transaction_id_field bytes) a.transactions t s (answered_there bytes from a t is)
         ∙ sym (ap (λ b. once b + once (is_some (at id (without (transaction_id_field bytes) a.transactions)))) (known t is))
 
 balanced_class : (class : MessageClass) (id : ℕ) (moment : Option ℕ) (bytes : List ℕ) (from : SocketAddr) (a : Agent) → IsAscending a.transactions
-    → IsBalanced id false (takes_request class id bytes a) a.transactions (after_class class moment bytes from a).transactions
+    → IsBalanced id false (takes_request class id bytes from a) a.transactions (after_class class moment bytes from a).transactions
 balanced_class Request id moment bytes from a s = refl
 balanced_class Indication id moment bytes from a s = refl
 balanced_class Success id moment bytes from a s = balanced_response id moment bytes from a s
@@ -205,7 +208,7 @@ balanced_send false id bytes a = refl
 
 pub balanced_step : (id : ℕ) (step : Step) (a : Agent) → IsAscending a.transactions
     → IsBalanced id (begins id step a) (ends id step a) a.transactions (after_step step a).transactions
-balanced_step id (send bytes) a s = balanced_send (is_some (sending_refusal bytes)) id bytes a
+balanced_step id (send bytes to) a s = balanced_send (is_some (sending_refusal a bytes to)) id bytes a
 balanced_step id (send_request bytes to now) a s = balanced_request id a bytes to now
 balanced_step id (receive moment bytes from) a s = balanced_class (class_of_bytes bytes) id moment bytes from a s
 balanced_step id (validate address) a s = refl

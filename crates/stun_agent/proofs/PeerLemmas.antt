@@ -1,6 +1,6 @@
 -- An address that is there stays there, and no other comes.
-use Rattle.std.proofs.Common.{◌≡◌, Bool, true, false, [], ◌∷◌, refl, sym, ap, ◌∙◌}
-use Rattle.std.specs.Prelude.{not, ◌||◌, IsTrue}
+use Rattle.std.proofs.Common.{◌≡◌, Bool, true, false, [], ◌∷◌, refl, sym, ap, subst, ◌∙◌}
+use Rattle.std.specs.Prelude.{not, ◌||◌, ◌↔◌, IsTrue}
 use Rattle.std.specs.Bool.{OnFalse}
 use Rattle.std.specs.Ordering.{is_eq, match_ordering, ordering_reverse}
 use Rattle.std.specs.declared.cmp.Ordering.{Ordering}
@@ -50,3 +50,21 @@ same_address-exact a b h = by (address_cmp a b) refl h
     by Less is h = cc
     by Equal is h = address_exact a b is
     by Greater is h = cc
+
+same_address-own : (a : SocketAddr) → same_address a a ≡ true
+same_address-own a = by (address_cmp a a) (address_total.antisymm a a)
+  where
+    by : (r : Ordering) → r ≡ ordering_reverse r → is_eq r ≡ true
+    by Less h = cc
+    by Equal h = refl
+    by Greater h = cc
+
+-- what tells whether two addresses are equal tells whether they tie
+pub same_address-told : (b : Bool) (x y : SocketAddr) → (IsTrue b ↔ (x ≡ y)) → b ≡ same_address x y
+same_address-told b x y told = by b (same_address x y) refl told
+  where
+    by : (c s : Bool) → same_address x y ≡ s → (IsTrue c ↔ (x ≡ y)) → c ≡ s
+    by true true is h = refl
+    by false false is h = refl
+    by true false is h = let own : same_address x y ≡ true = subst (λ z. same_address x z ≡ true) (h.0 refl) (same_address-own x) in cc
+    by false true is h = let no : false ≡ true = h.1 (same_address-exact x y is) in cc

@@ -10,7 +10,7 @@ use Rattle.stun_base.specs.declared.message_type.MessageClass.TheVariants.{Reque
 use Rattle.stun_base.specs.declared.transport.TransportType.{TransportType}
 use Rattle.stun_base.specs.declared.transport.TransportType.TheVariants.{Udp, Tcp}
 use Rattle.stun_agent.specs.declared.error.StunError.{StunError}
-use Rattle.stun_agent.specs.Agent.{Agent, tallied, with_validated, with_transactions, tally_of_end, tally_of_sent, class_of_bytes, sending_refusal, after_send, request_refusal, request_of, after_send_request, after_class, after_response, ended_by_poll, sent_by_poll, after_poll}
+use Rattle.stun_agent.specs.Agent.{Agent, tallied, with_validated, with_transactions, tally_of_end, tally_of_sent, class_of_bytes, sending_refusal, after_send, request_refusal, request_of, after_send_request, answered, after_class, after_response, ended_by_poll, sent_by_poll, after_poll}
 use Rattle.stun_agent.specs.Statistics.{response_received}
 use Rattle.stun_agent.specs.Steps.{Step, send, send_request, receive, validate, poll, poll_transmit, cancel_retransmissions, cancel, configure, after_step, after_steps, is_id, repeats_request, once, allowed, repetitions_until_end, most_allowed}
 use Rattle.stun_agent.specs.Timing.{slots}
@@ -40,8 +40,8 @@ transport_class class moment bytes from a = by class
     by : (c : MessageClass) → (after_class c moment bytes from a).transport ≡ a.transport
     by Request = refl
     by Indication = refl
-    by Success = response (at (transaction_id_field bytes) a.transactions)
-    by Error = response (at (transaction_id_field bytes) a.transactions)
+    by Success = response (answered bytes from a)
+    by Error = response (answered bytes from a)
 
 transport_poll : (a : Agent) (found : Option (ℕ × Transaction))
     → (option_map_or (λ e. tallied (tally_of_end e.1) (with_transactions a (without e.0 a.transactions))) found a).transport ≡ a.transport
@@ -53,8 +53,8 @@ transport_sent a None = refl
 transport_sent a (Some e) = refl
 
 pub transport_step : (step : Step) (a : Agent) → (after_step step a).transport ≡ a.transport
-transport_step (send bytes) a = transport_if (is_some (sending_refusal bytes)) a (after_send bytes a) a.transport refl refl
-transport_step (send_request bytes to now) a = transport_if (is_some (request_refusal a bytes)) a (after_send_request a bytes to now) a.transport refl refl
+transport_step (send bytes to) a = transport_if (is_some (sending_refusal a bytes to)) a (after_send bytes a) a.transport refl refl
+transport_step (send_request bytes to now) a = transport_if (is_some (request_refusal a bytes to)) a (after_send_request a bytes to now) a.transport refl refl
 transport_step (receive moment bytes from) a = transport_class (class_of_bytes bytes) moment bytes from a
 transport_step (validate address) a = refl
 transport_step (poll now) a = transport_poll a (ended_by_poll now a)
@@ -97,23 +97,23 @@ slot_changed f transport id other all t same there = by (is_id id other) refl
     by false apart = stays transport t t _ (at-changed_other f id other all apart ∙ there) refl
 
 slot_request : (id : ℕ) (a : Agent) (bytes : List ℕ) (to : SocketAddr) (now : ℕ) (t : Transaction) → at id a.transactions ≡ Some t
-    → TakesSlot a.transport t false (at id (cond (is_some (request_refusal a bytes)) a (after_send_request a bytes to now)).transactions)
-slot_request id a bytes to now t there = by (request_refusal a bytes) refl
+    → TakesSlot a.transport t false (at id (cond (is_some (request_refusal a bytes to)) a (after_send_request a bytes to now)).transactions)
+slot_request id a bytes to now t there = by (request_refusal a bytes to) refl
   where
-    fresh : request_refusal a bytes ≡ None → (b : Bool) → is_id id (transaction_id_field bytes) ≡ b
+    fresh : request_refusal a bytes to ≡ None → (b : Bool) → is_id id (transaction_id_field bytes) ≡ b
         → TakesSlot a.transport t false (at id (with (transaction_id_field bytes) (request_of a bytes to now) a.transactions))
     fresh is true same =
-        let none : at id a.transactions ≡ None = subst (λ k. at k a.transactions ≡ None) (same_key id (transaction_id_field bytes) same) (not_refused_is_new a bytes is) in
+        let none : at id a.transactions ≡ None = subst (λ k. at k a.transactions ≡ None) (same_key id (transaction_id_field bytes) same) (not_refused_is_new a bytes to is) in
         cc
     fresh is false apart = stays a.transport t t _ (lookup-insert_other id (transaction_id_field bytes) (request_of a bytes to now) a.transactions apart ∙ there) refl
 
-    by : (r : Option StunError) → request_refusal a bytes ≡ r → TakesSlot a.transport t false (at id (cond (is_some r) a (after_send_request a bytes to now)).transactions)
+    by : (r : Option StunError) → request_refusal a bytes to ≡ r → TakesSlot a.transport t false (at id (cond (is_some r) a (after_send_request a bytes to now)).transactions)
     by (Some error) is = stays a.transport t t _ there refl
     by None is = fresh is (is_id id (transaction_id_field bytes)) refl
 
 slot_response : (id : ℕ) (moment : Option ℕ) (bytes : List ℕ) (from : SocketAddr) (a : Agent) (t : Transaction) → IsAscending a.transactions → at id a.transactions ≡ Some t
     → TakesSlot a.transport t false (at id (after_response moment bytes from a).transactions)
-slot_response id moment bytes from a t s there = by (at (transaction_id_field bytes) a.transactions)
+slot_response id moment bytes from a t s there = by (answered bytes from a)
   where
     by : (found : Option Transaction)
         → TakesSlot a.transport t false (at id (option_map_or
@@ -179,7 +179,7 @@ slot_send false id bytes a t there = stays a.transport t t _ there refl
 
 slot_step : (id : ℕ) (step : Step) (a : Agent) (t : Transaction) → IsAscending a.transactions → at id a.transactions ≡ Some t
     → TakesSlot a.transport t (repeats_request id step a) (at id (after_step step a).transactions)
-slot_step id (send bytes) a t s there = slot_send (is_some (sending_refusal bytes)) id bytes a t there
+slot_step id (send bytes to) a t s there = slot_send (is_some (sending_refusal a bytes to)) id bytes a t there
 slot_step id (send_request bytes to now) a t s there = slot_request id a bytes to now t there
 slot_step id (receive moment bytes from) a t s there = slot_class (class_of_bytes bytes) id moment bytes from a t s there
 slot_step id (validate address) a t s there = stays a.transport t t _ there refl
@@ -239,7 +239,7 @@ first_too r m h = omega arith
 
 -- from an accepted request on
 pub transmitted_at_most : (earlier later : List Step) (start : Agent) (bytes : List ℕ) (to : SocketAddr) (now : ℕ) → start.transactions ≡ []
-    → request_refusal (after_steps earlier start) bytes ≡ None
+    → request_refusal (after_steps earlier start) bytes to ≡ None
     → (1 + repetitions_until_end (transaction_id_field bytes) later (after_send_request (after_steps earlier start) bytes to now)
     ≤ max 1 (most_allowed (transaction_id_field bytes) later (after_send_request (after_steps earlier start) bytes to now)))
     × (start.transport ≡ Tcp → repetitions_until_end (transaction_id_field bytes) later (after_send_request (after_steps earlier start) bytes to now) ≡ 0)

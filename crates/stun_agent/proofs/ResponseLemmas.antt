@@ -9,16 +9,16 @@ use Rattle.stun_base.specs.MessageType.{IsResponse}
 use Rattle.stun_base.specs.declared.message_type.MessageClass.{MessageClass}
 use Rattle.stun_base.specs.declared.message_type.MessageClass.TheVariants.{Request, Indication, Success, Error}
 use Rattle.stun_base.specs.declared.transport.TransportType.TheVariants.{Udp, Tcp}
-use Rattle.stun_agent.specs.Agent.{Agent, takes, after_class, after_response, tallied, with_validated, with_transactions}
+use Rattle.stun_agent.specs.Agent.{Agent, takes, answered, after_class, after_response, tallied, with_validated, with_transactions}
 use Rattle.stun_agent.specs.Laws.{planned_end}
 use Rattle.stun_agent.specs.Statistics.{response_received}
 use Rattle.stun_agent.specs.Timing.{Settings, sum_of_timeouts, repetitions}
 use Rattle.stun_agent.specs.Transactions.{Transaction, at, without, round_trip}
 use Rattle.stun_agent.proofs.TimingLemmas.{sum_of_timeouts-zero}
 
-ignored : (moment : Option ℕ) (bytes : List ℕ) (from : SocketAddr) (agent : Agent) → at (transaction_id_field bytes) agent.transactions ≡ None
-    → (is_some (at (transaction_id_field bytes) agent.transactions) ≡ false) × (after_response moment bytes from agent ≡ agent)
-ignored moment bytes from agent none = (ap is_some none, by (at (transaction_id_field bytes) agent.transactions) none)
+ignored : (moment : Option ℕ) (bytes : List ℕ) (from : SocketAddr) (agent : Agent) → answered bytes from agent ≡ None
+    → (is_some (answered bytes from agent) ≡ false) × (after_response moment bytes from agent ≡ agent)
+ignored moment bytes from agent none = (ap is_some none, by (answered bytes from agent) none)
   where
     by : (found : Option Transaction) → found ≡ None
         → option_map_or
@@ -28,12 +28,12 @@ ignored moment bytes from agent none = (ap is_some none, by (at (transaction_id_
     by None h = refl
     by (Some t) h = cc
 
-pub unknown_ignored : (class : MessageClass) (moment : Option ℕ) (bytes : List ℕ) (from : SocketAddr) (agent : Agent) → IsResponse class
-    → at (transaction_id_field bytes) agent.transactions ≡ None → (takes class bytes agent ≡ false) × (after_class class moment bytes from agent ≡ agent)
-unknown_ignored Request moment bytes from agent response none = absurd response
-unknown_ignored Indication moment bytes from agent response none = absurd response
-unknown_ignored Success moment bytes from agent response none = ignored moment bytes from agent none
-unknown_ignored Error moment bytes from agent response none = ignored moment bytes from agent none
+pub unanswering_ignored : (class : MessageClass) (moment : Option ℕ) (bytes : List ℕ) (from : SocketAddr) (agent : Agent) → IsResponse class
+    → answered bytes from agent ≡ None → (takes class bytes from agent ≡ false) × (after_class class moment bytes from agent ≡ agent)
+unanswering_ignored Request moment bytes from agent response none = absurd response
+unanswering_ignored Indication moment bytes from agent response none = absurd response
+unanswering_ignored Success moment bytes from agent response none = ignored moment bytes from agent none
+unanswering_ignored Error moment bytes from agent response none = ignored moment bytes from agent none
 
 capped : (start sum last : ℕ) → min (start + (sum + last)) (2 ^ 64 - 1) ≡ min (start + (0 + min (last + sum) max_nanos)) (2 ^ 64 - 1)
 capped start sum last = omega arith

@@ -1,10 +1,11 @@
 -- An agent, and what each call makes of it (RFC 8489, sections 6.2 and 6.3).
-use Rattle.std.specs.Prelude.{ℕ, Bool, true, false, List, [], length, if◌then◌else◌, Option, Some, None}
-use Rattle.std.specs.Option.{option_map_or, option_map, is_some}
+use Rattle.std.specs.Prelude.{ℕ, Bool, true, false, not, List, [], length, if◌then◌else◌, Option, Some, None}
+use Rattle.std.specs.Option.{option_map_or, option_map, option_or, is_some}
 use Rattle.std.specs.declared.net.socket_addr.SocketAddr.{SocketAddr}
 use Rattle.stun_base.specs.declared.message_type.MessageClass.{MessageClass}
 use Rattle.stun_base.specs.declared.message_type.MessageClass.TheVariants.{Request, Indication, Success, Error}
 use Rattle.stun_base.specs.declared.transport.TransportType.{TransportType}
+use Rattle.stun_base.specs.Address.{same_address}
 use Rattle.stun_base.specs.Header.{type_field, transaction_id_field, header_refusal}
 use Rattle.stun_base.specs.MessageType.{class_of}
 use Rattle.stun_agent.specs.declared.agent.StunAgentPollRet.{StunAgentPollRet}
@@ -74,21 +75,34 @@ sending_tally Success count = response_sent count
 sending_tally Error count = response_sent count
 
 -- ---- sending
--- why bytes are not sent as a message that wants no answer, the first reason that holds
-abbrev pub sending_refusal : List ℕ → Option StunError
-sending_refusal bytes =
+-- the agent has a fixed peer, and this is another address
+abbrev pub is_elsewhere : Agent → SocketAddr → Bool
+is_elsewhere agent to = option_map_or (λ peer. not (same_address to peer)) agent.remote_addr false
+
+-- why nothing is sent to an address
+abbrev pub address_refusal : Agent → SocketAddr → Option StunError
+address_refusal agent to = if is_elsewhere agent to then Some ProtocolViolation else None
+
+-- why bytes are no message that wants no answer, the first reason that holds
+abbrev pub class_refusal : List ℕ → Option StunError
+class_refusal bytes =
     option_map_or (λ error. Some (ParseError error)) (header_refusal bytes)
     (if is_request (class_of_bytes bytes) then Some ProtocolViolation else None)
+
+-- why bytes are not sent as such a message, the first reason that holds
+abbrev pub sending_refusal : Agent → List ℕ → SocketAddr → Option StunError
+sending_refusal agent bytes to = option_or (class_refusal bytes) (address_refusal agent to)
 
 abbrev pub after_send : List ℕ → Agent → Agent
 after_send bytes agent = tallied (sending_tally (class_of_bytes bytes) (length bytes)) agent
 
 -- why bytes are not sent as a request, the first reason that holds
-abbrev pub request_refusal : Agent → List ℕ → Option StunError
-request_refusal agent bytes =
+abbrev pub request_refusal : Agent → List ℕ → SocketAddr → Option StunError
+request_refusal agent bytes to =
     option_map_or (λ error. Some (ParseError error)) (header_refusal bytes)
     (if is_request (class_of_bytes bytes) then
-    (if is_some (at (transaction_id_field bytes) agent.transactions) then Some AlreadyInProgress else None)
+    (if is_elsewhere agent to then Some ProtocolViolation else
+    (if is_some (at (transaction_id_field bytes) agent.transactions) then Some AlreadyInProgress else None))
     else Some ProtocolViolation)
 
 -- the transaction of a request
@@ -105,21 +119,30 @@ abbrev pub datagram_of : Agent → Transaction → Datagram
 datagram_of agent t = (t.bytes, agent.transport, agent.local_addr, t.to)
 
 -- ---- receiving
--- a response ends its transaction and validates its sender, and changes nothing where there is no such transaction
+-- the one that was found, where its request went to this address
+abbrev pub went_to : SocketAddr → Option Transaction → Option Transaction
+went_to address None = None
+went_to address (Some t) = if same_address address t.to then Some t else None
+
+-- the outstanding request that a response answers: that of its transaction, where it went to the sender
+abbrev pub answered : List ℕ → SocketAddr → Agent → Option Transaction
+answered bytes from agent = went_to from (at (transaction_id_field bytes) agent.transactions)
+
+-- a response ends the request that it answers and validates its sender, and changes nothing where it answers none
 abbrev pub after_response : Option ℕ → List ℕ → SocketAddr → Agent → Agent
 after_response moment bytes from agent =
     option_map_or
     (λ t. tallied (response_received (length bytes) (round_trip moment t))
     (with_validated from (with_transactions agent (without (transaction_id_field bytes) agent.transactions))))
-    (at (transaction_id_field bytes) agent.transactions)
+    (answered bytes from agent)
     agent
 
--- whether a message is taken, by its class: a response only where its transaction is outstanding
-abbrev pub takes : MessageClass → List ℕ → Agent → Bool
-takes Request bytes agent = true
-takes Indication bytes agent = true
-takes Success bytes agent = is_some (at (transaction_id_field bytes) agent.transactions)
-takes Error bytes agent = is_some (at (transaction_id_field bytes) agent.transactions)
+-- whether a message is taken, by its class: a response only where it answers an outstanding request
+abbrev pub takes : MessageClass → List ℕ → SocketAddr → Agent → Bool
+takes Request bytes from agent = true
+takes Indication bytes from agent = true
+takes Success bytes from agent = is_some (answered bytes from agent)
+takes Error bytes from agent = is_some (answered bytes from agent)
 
 -- the agent after a message, by its class
 abbrev pub after_class : MessageClass → Option ℕ → List ℕ → SocketAddr → Agent → Agent
@@ -128,8 +151,8 @@ after_class Indication moment bytes from agent = tallied (indication_received (l
 after_class Success moment bytes from agent = after_response moment bytes from agent
 after_class Error moment bytes from agent = after_response moment bytes from agent
 
-abbrev pub takes_message : List ℕ → Agent → Bool
-takes_message bytes agent = takes (class_of_bytes bytes) bytes agent
+abbrev pub takes_message : List ℕ → SocketAddr → Agent → Bool
+takes_message bytes from agent = takes (class_of_bytes bytes) bytes from agent
 
 abbrev pub after_message : Option ℕ → List ℕ → SocketAddr → Agent → Agent
 after_message moment bytes from agent = after_class (class_of_bytes bytes) moment bytes from agent

@@ -1,5 +1,5 @@
 -- What holds of an agent whatever is done to it, moments that go back included (RFC 8489, section 6.2).
-use Rattle.std.specs.Prelude.{◌≡◌, ◌≤◌, ◌<◌, ◌+◌, ℕ, false, max, List, [], Option, Some, None, IfSome, length}
+use Rattle.std.specs.Prelude.{◌≡◌, ◌≢◌, ◌≤◌, ◌<◌, ◌+◌, ℕ, false, max, List, [], Option, Some, None, IfSome, length}
 use Rattle.std.specs.declared.net.socket_addr.SocketAddr.{SocketAddr}
 use Rattle.stun_base.specs.Header.{transaction_id_field}
 use Rattle.stun_base.specs.MessageType.{IsResponse}
@@ -40,7 +40,14 @@ abbrev pub IgnoresUnknown : Type 0
 IgnoresUnknown =
     (moment : Option ℕ) (bytes : List ℕ) (from : SocketAddr) (agent : Agent)
     → IsResponse (class_of_bytes bytes) → at (transaction_id_field bytes) agent.transactions ≡ None
-    → (takes_message bytes agent ≡ false) × (after_message moment bytes from agent ≡ agent)
+    → (takes_message bytes from agent ≡ false) × (after_message moment bytes from agent ≡ agent)
+
+-- a response from another address than its request went to is not taken, and changes nothing
+abbrev pub IgnoresElsewhere : Type 0
+IgnoresElsewhere =
+    (moment : Option ℕ) (bytes : List ℕ) (from : SocketAddr) (agent : Agent) (t : Transaction)
+    → IsResponse (class_of_bytes bytes) → at (transaction_id_field bytes) agent.transactions ≡ Some t → from ≢ t.to
+    → (takes_message bytes from agent ≡ false) × (after_message moment bytes from agent ≡ agent)
 
 -- the end of a request that is sent at a moment and never answered, and whose agent is asked at each moment that it awaits
 abbrev pub planned_end : TransportType → Settings → ℕ → ℕ
@@ -61,7 +68,7 @@ EndsOnce =
 abbrev pub IsTransmittedAtMost : Type 0
 IsTransmittedAtMost =
     (earlier later : List Step) (start : Agent) (bytes : List ℕ) (to : SocketAddr) (now : ℕ) → start.transactions ≡ []
-    → request_refusal (after_steps earlier start) bytes ≡ None
+    → request_refusal (after_steps earlier start) bytes to ≡ None
     → let begun = after_send_request (after_steps earlier start) bytes to now in
     let id = transaction_id_field bytes in
     (1 + repetitions_until_end id later begun ≤ max 1 (most_allowed id later begun))

@@ -7,14 +7,14 @@ use Rattle.std.specs.BTreeMap.{is_at}
 use Rattle.stun_base.specs.Header.{transaction_id_field}
 use Rattle.stun_base.specs.declared.message_type.MessageClass.{MessageClass}
 use Rattle.stun_base.specs.declared.message_type.MessageClass.TheVariants.{Request, Indication, Success, Error}
-use Rattle.stun_agent.specs.Agent.{Agent, with_transactions, with_validated, class_of_bytes, sending_refusal, after_send, request_refusal, after_send_request, after_message, ended_by_poll, after_poll, sent_by_poll, after_poll_transmit}
+use Rattle.stun_agent.specs.Agent.{Agent, with_transactions, with_validated, class_of_bytes, sending_refusal, after_send, request_refusal, after_send_request, answered, after_message, ended_by_poll, after_poll, sent_by_poll, after_poll_transmit}
 use Rattle.stun_agent.specs.Timing.{Settings}
 use Rattle.stun_agent.specs.Transactions.{at, changed, silenced, cancelled, configured}
 
 -- a call: a message is sent, a request is sent, a message comes, an address is validated, both polls, and what the
 -- user of a request does to it
 pub data Step : Type 0 where
-  send : List ℕ → Step
+  send : List ℕ → SocketAddr → Step
   send_request : List ℕ → SocketAddr → ℕ → Step
   receive : Option ℕ → List ℕ → SocketAddr → Step
   validate : SocketAddr → Step
@@ -26,8 +26,8 @@ pub data Step : Type 0 where
 
 -- the agent after a call
 abbrev pub after_step : Step → Agent → Agent
-after_step (send bytes) agent = if is_some (sending_refusal bytes) then agent else after_send bytes agent
-after_step (send_request bytes to now) agent = if is_some (request_refusal agent bytes) then agent else after_send_request agent bytes to now
+after_step (send bytes to) agent = if is_some (sending_refusal agent bytes to) then agent else after_send bytes agent
+after_step (send_request bytes to now) agent = if is_some (request_refusal agent bytes to) then agent else after_send_request agent bytes to now
 after_step (receive moment bytes from) agent = after_message moment bytes from agent
 after_step (validate address) agent = with_validated address agent
 after_step (poll now) agent = after_poll now agent
@@ -52,8 +52,8 @@ is_outstanding id agent = is_some (at id agent.transactions)
 
 -- a call sends a request of the transaction for the first time
 abbrev pub begins : ℕ → Step → Agent → Bool
-begins id (send_request bytes to now) agent = is_none (request_refusal agent bytes) && is_id id (transaction_id_field bytes)
-begins id (send bytes) agent = false
+begins id (send_request bytes to now) agent = is_none (request_refusal agent bytes to) && is_id id (transaction_id_field bytes)
+begins id (send bytes to) agent = false
 begins id (receive moment bytes from) agent = false
 begins id (validate address) agent = false
 begins id (poll now) agent = false
@@ -63,17 +63,17 @@ begins id (cancel other) agent = false
 begins id (configure other settings) agent = false
 
 -- a message of a class takes the request of the transaction
-abbrev pub takes_request : MessageClass → ℕ → List ℕ → Agent → Bool
-takes_request Request id bytes agent = false
-takes_request Indication id bytes agent = false
-takes_request Success id bytes agent = is_id id (transaction_id_field bytes) && is_outstanding id agent
-takes_request Error id bytes agent = is_id id (transaction_id_field bytes) && is_outstanding id agent
+abbrev pub takes_request : MessageClass → ℕ → List ℕ → SocketAddr → Agent → Bool
+takes_request Request id bytes from agent = false
+takes_request Indication id bytes from agent = false
+takes_request Success id bytes from agent = is_id id (transaction_id_field bytes) && is_some (answered bytes from agent)
+takes_request Error id bytes from agent = is_id id (transaction_id_field bytes) && is_some (answered bytes from agent)
 
 -- a call ends the transaction: by a response that comes, or by a poll, as timed out or cancelled
 abbrev pub ends : ℕ → Step → Agent → Bool
-ends id (receive moment bytes from) agent = takes_request (class_of_bytes bytes) id bytes agent
+ends id (receive moment bytes from) agent = takes_request (class_of_bytes bytes) id bytes from agent
 ends id (poll now) agent = option_map_or (λ e. is_id id e.0) (ended_by_poll now agent) false
-ends id (send bytes) agent = false
+ends id (send bytes to) agent = false
 ends id (send_request bytes to now) agent = false
 ends id (validate address) agent = false
 ends id (poll_transmit now) agent = false
@@ -84,7 +84,7 @@ ends id (configure other settings) agent = false
 -- a call sends the request of the transaction again
 abbrev pub repeats_request : ℕ → Step → Agent → Bool
 repeats_request id (poll_transmit now) agent = option_map_or (λ e. is_id id e.0) (sent_by_poll now agent) false
-repeats_request id (send bytes) agent = false
+repeats_request id (send bytes to) agent = false
 repeats_request id (send_request bytes to now) agent = false
 repeats_request id (receive moment bytes from) agent = false
 repeats_request id (validate address) agent = false

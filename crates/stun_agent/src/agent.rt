@@ -143,7 +143,8 @@ impl<A: Allocator + Copy> StunAgent<A> {
         self.local_addr
     }
 
-    /// The address that the agent was told to speak to. No call enforces it.
+    /// The address that the agent was told to speak to. Where it is set, nothing is sent to another one. Receiving does
+    /// not look at it.
     pub fn remote_addr(&self) -> Option<SocketAddr>
         ensures { result ≡ self.now.remote_addr }
     {

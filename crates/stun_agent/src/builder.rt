@@ -38,7 +38,7 @@ impl<A: Allocator> Model for StunAgentBuilder<A> {
 }
 
 impl<A: Allocator + Copy> StunAgentBuilder<A> {
-    /// Names the address that the agent is to speak to. No call enforces it.
+    /// Names the one address that the agent is to send to. Receiving does not look at it.
     pub fn remote_addr(mut self, addr: SocketAddr) -> Self
         ensures { result ≡ record self { remote_addr = Some addr } }
     {

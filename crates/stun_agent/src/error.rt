@@ -15,7 +15,7 @@ pub enum StunError {
     /// Never answered by an agent.
     #[error("An operation timed out")]
     TimedOut,
-    /// The message has a class that this call does not send.
+    /// The message has a class that this call does not send, or the agent is to speak to another address.
     #[error("Unexpected data was received")]
     ProtocolViolation,
     /// Never answered by an agent.

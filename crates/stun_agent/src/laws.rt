@@ -2,7 +2,7 @@
 ghost use Rattle.std.specs.Prelude.{◌≡◌, ◌||◌, ◌↔◌, IsTrue, true};
 ghost use Rattle.std.specs.declared.net.socket_addr.SocketAddr.{SocketAddr};
 ghost use Rattle.stun_base.specs.Address.{same_address};
-ghost use Rattle.stun_agent.specs.Laws.{IsNeverEarly, WaitsAsTold, IgnoresUnknown, EndsAlike, EndsOnce, IsTransmittedAtMost, KeepsCount};
+ghost use Rattle.stun_agent.specs.Laws.{IsNeverEarly, WaitsAsTold, IgnoresUnknown, IgnoresElsewhere, EndsAlike, EndsOnce, IsTransmittedAtMost, KeepsCount};
 ghost use Rattle.stun_agent.specs.Peers.{Peers, is_peer, with_peer};
 
 use crate::agent::StunAgentPollRet;
@@ -37,6 +37,12 @@ pub fn a_request_ends_once()
 /// (RFC 8489, section 6.3.3).
 pub fn a_response_to_no_request_changes_nothing()
     ensures { IgnoresUnknown }
+{}
+
+/// A response from another address than its request went to is not taken, and leaves requests, peers and statistics
+/// as they were.
+pub fn a_response_from_elsewhere_changes_nothing()
+    ensures { IgnoresElsewhere }
 {}
 
 /// Over UDP and over TCP a request of the same settings that is sent at one moment ends at one moment (RFC 8489,

@@ -1,6 +1,7 @@
 //! A STUN agent without sockets and clocks: requests, their retransmissions and their ends.
 #![tactic(auto)]
 
+mod address;
 pub mod agent;
 mod builder;
 mod counting;

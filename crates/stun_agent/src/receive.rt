@@ -2,7 +2,7 @@
 ghost use Rattle.std.specs.Prelude.{◌≡◌, ◌||◌, not, IsTrue, IsOk, IfOk, OnOk, OnErr, Some, None};
 ghost use Rattle.stun_base.specs.Header.{transaction_id_field};
 ghost use Rattle.std.specs.Option.{is_some};
-ghost use Rattle.stun_agent.specs.Agent.{class_of_bytes, with_validated, takes_message, after_message, after_response};
+ghost use Rattle.stun_agent.specs.Agent.{class_of_bytes, with_validated, answered, takes_message, after_message, after_response};
 ghost use Rattle.stun_agent.specs.Peers.{is_peer};
 ghost use Rattle.stun_agent.specs.Transactions.{at};
 
@@ -35,12 +35,12 @@ impl<A: Allocator + Copy> StunAgent<A> {
 
     /// Takes a message from an address, and tells whether it was taken.
     ///
-    /// A response is taken where a request of its transaction is outstanding, whatever address it comes from. The
-    /// request ends, and the address is validated. Another response changes nothing. A request or an indication is
-    /// taken, and its address validated.
+    /// A response is taken where a request of its transaction is outstanding and went to the very address that the
+    /// response comes from. The request ends, and the address is validated. Another response answers `false` and
+    /// changes nothing. A request or an indication is taken, and its address validated.
     ///
-    /// Ask the authenticator before: the agent checks no digest. Whoever knows the id of an outstanding request,
-    /// and they stand in the clear, else ends it by a forged response and is taken for a validated peer.
+    /// Ask the authenticator before: the agent checks no digest. Whoever can send from the address that was asked and
+    /// knows the id of the request, which stands in the clear, else ends it by a forged response.
     ///
     /// Where memory is wanting to note the address, the agent is as before, and a response's request is still
     /// outstanding. An address that is noted already, and a message that is not taken, take no memory.
@@ -49,10 +49,10 @@ impl<A: Allocator + Copy> StunAgent<A> {
         msg: &Message<'_>,
         from: SocketAddr,
     ) -> Result<bool, AllocError>
-        ensures answer { IfOk result (λ taken. taken ≡ takes_message msg.now self.old) }
+        ensures answer { IfOk result (λ taken. taken ≡ takes_message msg.now from self.old) }
         ensures ok { OnOk result (self.new ≡ after_message None msg.now from self.old) }
         ensures err { OnErr result (self.new ≡ self.old) }
-        ensures no_memory { IsTrue (is_peer from self.old.peers || not (takes_message msg.now self.old)) → IsOk result }
+        ensures no_memory { IsTrue (is_peer from self.old.peers || not (takes_message msg.now from self.old)) → IsOk result }
     {
         self.receive(msg, from, None)
     }
@@ -64,10 +64,10 @@ impl<A: Allocator + Copy> StunAgent<A> {
         from: SocketAddr,
         now: Instant,
     ) -> Result<bool, AllocError>
-        ensures answer { IfOk result (λ taken. taken ≡ takes_message msg.now self.old) }
+        ensures answer { IfOk result (λ taken. taken ≡ takes_message msg.now from self.old) }
         ensures ok { OnOk result (self.new ≡ after_message (Some now) msg.now from self.old) }
         ensures err { OnErr result (self.new ≡ self.old) }
-        ensures no_memory { IsTrue (is_peer from self.old.peers || not (takes_message msg.now self.old)) → IsOk result }
+        ensures no_memory { IsTrue (is_peer from self.old.peers || not (takes_message msg.now from self.old)) → IsOk result }
     {
         self.receive(msg, from, Some(now))
     }
@@ -78,10 +78,10 @@ impl<A: Allocator + Copy> StunAgent<A> {
         from: SocketAddr,
         moment: Option<Instant>,
     ) -> Result<bool, AllocError>
-        ensures answer { IfOk result (λ taken. taken ≡ takes_message msg.now self.old) }
+        ensures answer { IfOk result (λ taken. taken ≡ takes_message msg.now from self.old) }
         ensures ok { OnOk result (self.new ≡ after_message moment msg.now from self.old) }
         ensures err { OnErr result (self.new ≡ self.old) }
-        ensures no_memory { IsTrue (is_peer from self.old.peers || not (takes_message msg.now self.old)) → IsOk result }
+        ensures no_memory { IsTrue (is_peer from self.old.peers || not (takes_message msg.now from self.old)) → IsOk result }
     {
         let count = msg.as_bytes().len();
         match msg.class() {
@@ -106,14 +106,19 @@ impl<A: Allocator + Copy> StunAgent<A> {
         from: SocketAddr,
         moment: Option<Instant>,
     ) -> Result<bool, AllocError>
-        ensures answer { IfOk result (λ taken. taken ≡ is_some (at (transaction_id_field msg.now) self.old.transactions)) }
+        ensures answer { IfOk result (λ taken. taken ≡ is_some (answered msg.now from self.old)) }
         ensures ok { OnOk result (self.new ≡ after_response moment msg.now from self.old) }
         ensures err { OnErr result (self.new ≡ self.old) }
-        ensures no_memory { IsTrue (is_peer from self.old.peers || not (is_some (at (transaction_id_field msg.now) self.old.transactions))) → IsOk result }
+        ensures no_memory { IsTrue (is_peer from self.old.peers || not (is_some (answered msg.now from self.old))) → IsOk result }
     {
         let id = msg.transaction_id();
         let round_trip = match self.outstanding.get(id) {
-            Some(request) => request.round_trip(moment),
+            Some(request) => {
+                if !request.went_to(from) {
+                    return Ok(false);
+                }
+                request.round_trip(moment)
+            }
             None => return Ok(false),
         };
         self.validated_peer(from)?;

@@ -1,9 +1,11 @@
 //! A request that waits for its response.
 ghost use Rattle.std.specs.Prelude.{◌≡◌, IsTrue};
+ghost use Rattle.stun_base.specs.Address.{same_address};
 ghost use Rattle.stun_agent.specs.code.Deadlines.{deadline_of};
 ghost use Rattle.stun_agent.specs.Timing.{settings_of};
 ghost use Rattle.stun_agent.specs.Transactions.{repeats, is_cancelled, after_silence, new_transaction, silenced, cancelled, configured, has_slots, awaited, is_due, is_over, is_reached, after_slot, slot_passed, round_trip};
 
+use crate::address::is_same;
 use crate::deadlines::{Deadline, DeadlineKind};
 use crate::rto::RequestRto;
 use std::alloc::{Allocator, Global};
@@ -103,6 +105,13 @@ impl<A: Allocator> Transaction<A> {
         ensures { result ≡ self.now.to }
     {
         self.to
+    }
+
+    /// Whether it was sent to this address.
+    pub(crate) fn went_to(&self, address: SocketAddr) -> bool
+        ensures { result ≡ same_address address self.now.to }
+    {
+        is_same(address, self.to)
     }
 
     pub(crate) fn integrity(&self) -> Option<IntegrityAlgorithm>

@@ -1,0 +1,12 @@
+//! Addresses that are compared.
+ghost use Rattle.std.specs.Prelude.{◌≡◌};
+ghost use Rattle.stun_base.specs.Address.{same_address};
+
+use std::net::SocketAddr;
+
+/// Whether two addresses are one.
+pub(crate) fn is_same(one: SocketAddr, other: SocketAddr) -> bool
+    ensures { result ≡ same_address one other }
+{
+    one == other
+}

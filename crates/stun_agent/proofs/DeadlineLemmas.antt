@@ -12,7 +12,7 @@ use Rattle.std.specs.declared.cmp.Ordering.{Ordering}
 use Rattle.std.specs.declared.cmp.Ordering.TheVariants.{Less, Equal, Greater}
 use Rattle.std.specs.BTreeMap.{is_at}
 use Rattle.std.proofs.lemmas.List.{get_or-drop}
-use Rattle.std.proofs.lemmas.List.Sorted.{IsNonDecreasingBy-drop, IsNonDecreasingBy-insert}
+use Rattle.std.proofs.lemmas.List.Sorted.{IsNonDecreasingBy-drop}
 use Rattle.std.proofs.lemmas.Option.{get_or_from_slice_get}
 use Rattle.stun_base.specs.declared.transport.TransportType.{TransportType}
 use Rattle.stun_agent.specs.declared.deadlines.Deadline.{Deadline}
@@ -22,6 +22,7 @@ use Rattle.stun_agent.specs.code.Deadlines.{deadline_of, is_end, has_ended, leas
 use Rattle.stun_agent.proofs.Ascending.{find-none, find-least, lookup_among, lookup-remove_other, lookup-insert_same, lookup-insert_other, IsAscending-insert}
 use Rattle.stun_agent.proofs.EntryLemmas.{lookup_found, own_key, same_key, later_key}
 use Rattle.stun_agent.proofs.LookupLemmas.{at-without, found_passes}
+use Rattle.stun_agent.proofs.OrderLemmas.{ordered-filter, ordered-insert, ordered_rises}
 use Rattle.stun_agent.proofs.SoonerLemmas.{first_le, sooner_stays, one_of}
 
 -- ---- one deadline
@@ -227,6 +228,7 @@ without-other id n (x ∷ xs) apart = by (x.id == id) refl (without-other id n x
 pub index_without : (transport : TransportType) (all : Transactions) (ds : List Deadline) (id : ℕ) → IsAscending all → IsIndexOf transport all ds
     → IsIndexOf transport (without id all) (filter (λ d. not (d.id == id)) ds)
 index_without transport all ds id ascends index = record {
+  ordered = ordered-filter (λ d. not (d.id == id)) ds index.ordered;
   rises = IsNonDecreasingBy-filter (λ d. d.moment) (λ d. not (d.id == id)) ds index.rises;
   entries = λ n. by n (is_at (nat_cmp n) id) refl;
 }
@@ -259,7 +261,8 @@ insert-own n (suc i) (x ∷ xs) d own none = by (n == x.id) none (insert-own n i
 pub index_with : (transport : TransportType) (all : Transactions) (ds new : List Deadline) (id : ℕ) (t : Transaction) → at id all ≡ None → IsIndexOf transport all ds
     → IsPlaced (deadline_of transport (id, t)) ds new → IsIndexOf transport (with id t all) new
 index_with transport all ds new id t absent index (i, place, is) = subst (IsIndexOf transport (with id t all)) (sym is) (record {
-  rises = IsNonDecreasingBy-insert (λ d. d.moment) ds i (deadline_of transport (id, t)) index.rises place.within place.before place.after;
+  ordered = ordered-insert (deadline_of transport (id, t)) ds i index.ordered place;
+  rises = ordered_rises (insert ds i (deadline_of transport (id, t))) (ordered-insert (deadline_of transport (id, t)) ds i index.ordered place);
   entries = λ n. by n (is_at (nat_cmp n) id) refl;
 })
   where

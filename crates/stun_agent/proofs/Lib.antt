@@ -1,6 +1,7 @@
 pub mod AddressLemmas
 pub mod AnswerLemmas
 pub mod Ascending
+pub mod AwaitedLemmas
 pub mod CountLemmas
 pub mod DeadlineLemmas
 pub mod EntryLemmas
@@ -9,8 +10,8 @@ pub mod LastLemmas
 pub mod LookupLemmas
 pub mod NamedLemmas
 pub mod OnceLemmas
+pub mod OrderLemmas
 pub mod PeerLemmas
-pub mod PlaceLemmas
 pub mod QuietLemmas
 pub mod ReadLemmas
 pub mod RefusalLemmas

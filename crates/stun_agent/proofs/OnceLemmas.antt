@@ -27,7 +27,7 @@ unfolding IsStrictlySortedBy
 ascending_none = tt
 
 -- ---- the ids ascend
-ascending_changed : (f : Transaction → Transaction) (id : ℕ) (all : Transactions) → IsAscending all → IsAscending (changed f id all)
+pub ascending_changed : (f : Transaction → Transaction) (id : ℕ) (all : Transactions) → IsAscending all → IsAscending (changed f id all)
 ascending_changed f id all s = by (at id all)
   where
     by : (found : Option Transaction) → IsAscending (option_map_or (λ t. set_value (is_at (nat_cmp id)) all (f t)) found all)

@@ -14,10 +14,11 @@ use Rattle.std.proofs.lemmas.Map.Keys.{sorted_head, sorted_tail}
 use Rattle.stun_base.specs.declared.transport.TransportType.{TransportType}
 use Rattle.stun_agent.specs.declared.deadlines.Deadline.{Deadline}
 use Rattle.stun_agent.specs.Transactions.{Transaction, Transactions, IsAscending, at, changed}
-use Rattle.stun_agent.specs.code.Deadlines.{deadline_of, entries_at, without_entry, IsIndexOf, IsPlaced, IsReplaced, IsRenewed}
+use Rattle.stun_agent.specs.code.Deadlines.{deadline_of, entries_at, without_entry, IsInOrder, IsIndexOf, IsPlaced, IsReplaced, IsRenewed}
 use Rattle.stun_agent.proofs.DeadlineLemmas.{without-own, without-other, insert-own, insert-other}
 use Rattle.stun_agent.proofs.EntryLemmas.{own_key, same_key}
 use Rattle.stun_agent.proofs.LookupLemmas.{at-changed, at-changed_other}
+use Rattle.stun_agent.proofs.OrderLemmas.{ordered-filter, ordered-insert, ordered_rises}
 
 pub other_key : (n k : ℕ) → is_at (nat_cmp n) k ≡ false → n ≡ k → ⊥
 other_key n k off same = let own : is_at (nat_cmp n) n ≡ true = own_key n in let here : is_at (nat_cmp n) n ≡ false = subst (λ x. is_at (nat_cmp n) x ≡ false) (sym same) off in cc
@@ -28,10 +29,8 @@ placed_own d ds new (i, place, is) = ap (entries_at d.id) is ∙ insert-own d.id
 pub placed_other : (d : Deadline) (ds new : List Deadline) (n : ℕ) → (n ≡ d.id → ⊥) → IsPlaced d (without_entry d.id ds) new → entries_at n new ≡ entries_at n ds
 placed_other d ds new n apart (i, place, is) = ap (entries_at n) is ∙ insert-other n i (without_entry d.id ds) d (ne_eqb n d.id apart) ∙ without-other d.id n ds apart
 
-pub placed_rises : (d : Deadline) (ds new : List Deadline) → IsNonDecreasingBy (λ x. x.moment) ds → IsPlaced d (without_entry d.id ds) new → IsNonDecreasingBy (λ x. x.moment) new
-placed_rises d ds new rises (i, place, is) =
-    subst (IsNonDecreasingBy (λ x. x.moment)) (sym is)
-    (IsNonDecreasingBy-insert (λ x. x.moment) (without_entry d.id ds) i d (IsNonDecreasingBy-filter (λ x. x.moment) (λ x. not (x.id == d.id)) ds rises) place.within place.before place.after)
+pub placed_ordered : (d : Deadline) (ds new : List Deadline) → IsInOrder ds → IsPlaced d (without_entry d.id ds) new → IsInOrder new
+placed_ordered d ds new up (i, place, is) = subst IsInOrder (sym is) (ordered-insert d (without_entry d.id ds) i (ordered-filter (λ x. not (x.id == d.id)) ds up) place)
 
 pub same_test : (a b : ℕ) → (a == b) ≡ (b == a)
 same_test a b = by (a == b) refl
@@ -39,16 +38,6 @@ same_test a b = by (a == b) refl
     by : (c : Bool) → (a == b) ≡ c → c ≡ (b == a)
     by true is = sym (eq-eqb b a (sym (eqb-true a b is)))
     by false is = sym (ne_eqb b a (λ same. eqb-false a b is (sym same)))
-
--- one that has an entry has fewer without it
-pub shorter : (id : ℕ) (d : Deadline) (ds : List Deadline) → entries_at id ds ≡ d ∷ [] → length (without_entry id ds) < length ds
-shorter id d ds is =
-    let both = length-filter_both (λ (x : Deadline). id == x.id) (λ (x : Deadline). not (x.id == id)) (λ x. ap not (same_test x.id id)) ds in
-    let one : length (entries_at id ds) ≡ 1 = ap length is ∙ omega arith in
-    omega (arith, both, one)
-
-pub replaced_placed : (d e : Deadline) (ds new : List Deadline) → entries_at d.id ds ≡ e ∷ [] → IsReplaced d ds new → IsPlaced d (without_entry d.id ds) new
-replaced_placed d e ds new is replaced = replaced.there (shorter d.id e ds is)
 
 -- the map is changed at one id, and its entry is replaced
 pub index_changed : (transport : TransportType) (f : Transaction → Transaction) (id : ℕ) (all : Transactions) (ds new : List Deadline) → IsIndexOf transport all ds
@@ -67,10 +56,11 @@ index_changed transport f id all ds new index renewed = by (at id all) refl
     there : (t : Transaction) → at id all ≡ Some t → IsIndexOf transport (changed f id all) new
     there t is =
         let here : at id (changed f id all) ≡ Some (f t) = at-changed f id all ∙ ap (option_map f) is in
-        let replaced : IsReplaced (deadline_of transport (id, f t)) ds new = subst (λ o. MatchOption o (new ≡ ds) (λ t. IsReplaced (deadline_of transport (id, t)) ds new)) here renewed in
-        let placed = replaced_placed (deadline_of transport (id, f t)) (deadline_of transport (id, t)) ds new (index.entries id ∙ ap (entry id) is) replaced in
+        let placed : IsReplaced (deadline_of transport (id, f t)) ds new = subst (λ o. MatchOption o (new ≡ ds) (λ t. IsReplaced (deadline_of transport (id, t)) ds new)) here renewed in
+        let up = placed_ordered (deadline_of transport (id, f t)) ds new index.ordered placed in
         record {
-          rises = placed_rises (deadline_of transport (id, f t)) ds new index.rises placed;
+          ordered = up;
+          rises = ordered_rises new up;
           entries = λ n. at_each t is here placed n (is_at (nat_cmp n) id) refl;
         }
       where

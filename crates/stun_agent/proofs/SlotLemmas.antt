@@ -11,12 +11,13 @@ use Rattle.std.proofs.lemmas.Map.Keys.{sorted_head, sorted_tail}
 use Rattle.stun_base.specs.declared.transport.TransportType.{TransportType}
 use Rattle.stun_agent.specs.declared.deadlines.Deadline.{Deadline}
 use Rattle.stun_agent.specs.Transactions.{Transaction, Transactions, IsAscending, at, awaited, has_slots, is_cancelled, is_due, is_over, is_reached, repeats, first_over, next_sent, after_slot, slot_passed, after_slots, sooner}
-use Rattle.stun_agent.specs.code.Deadlines.{deadline_of, entries_at, without_entry, earliest, is_later, IsIndexOf, IsReplaced, IsMoved}
+use Rattle.stun_agent.specs.code.Deadlines.{deadline_of, entries_at, without_entry, earliest, is_later, IsInOrder, IsIndexOf, IsReplaced, IsMoved}
 use Rattle.stun_agent.proofs.Ascending.{find-none, fold-min-le, fold-min-le_first}
 use Rattle.stun_agent.proofs.DeadlineLemmas.{IsIn, entry_of, entry_at}
 use Rattle.stun_agent.proofs.EntryLemmas.{own_key, same_key, lookup_found}
 use Rattle.stun_agent.proofs.LookupLemmas.{lookup-map, none_above}
-use Rattle.stun_agent.proofs.RenewLemmas.{other_key, placed_own, placed_other, placed_rises, replaced_placed}
+use Rattle.stun_agent.proofs.RenewLemmas.{other_key, placed_own, placed_other, placed_ordered}
+use Rattle.stun_agent.proofs.OrderLemmas.{ordered_rises}
 
 -- ---- entries of the rest of a map
 tail_key : (n : ℕ) (e : ℕ × Transaction) (es : Transactions) (t : Transaction) → IsAscending (e ∷ es) → at n es ≡ Some t → is_at (nat_cmp n) e.0 ≡ false
@@ -29,7 +30,7 @@ tail_key n e es t s h = by (is_at (nat_cmp n) e.0) refl
         let none : at e.0 es ≡ None = none_above e.0 es (sorted_head nat_cmp e.0 (keys_of es) s) in
         let none_here : at n es ≡ None = subst (λ k. at k es ≡ None) key none in cc
 
-tail_at : (n : ℕ) (e : ℕ × Transaction) (es : Transactions) (t : Transaction) → IsAscending (e ∷ es) → at n es ≡ Some t → at n (e ∷ es) ≡ Some t
+pub tail_at : (n : ℕ) (e : ℕ × Transaction) (es : Transactions) (t : Transaction) → IsAscending (e ∷ es) → at n es ≡ Some t → at n (e ∷ es) ≡ Some t
 tail_at n e es t s h = ap (λ b. cond b (Some e.1) (at n es)) (tail_key n e es t s h) ∙ h
 
 pub head_at : (e : ℕ × Transaction) (es : Transactions) → at e.0 (e ∷ es) ≡ Some e.1
@@ -45,7 +46,7 @@ module _ (transport : TransportType) (now : ℕ) (sent : Option ℕ) (all : Tran
 
   -- the transactions in `rest` have their old deadlines, and the others their new ones
   pub record IsHalfway (rest : Transactions) (ds : List Deadline) : Type 0 where
-    pub rises : IsNonDecreasingBy (λ d. d.moment) ds
+    pub ordered : IsInOrder ds
     pub ascending : IsAscending rest
     pub part : (n : ℕ) (t : Transaction) → at n rest ≡ Some t → at n all ≡ Some t
     pub left : (n : ℕ) (t : Transaction) → at n rest ≡ Some t → entries_at n ds ≡ deadline_of transport (n, t) ∷ []
@@ -53,17 +54,17 @@ module _ (transport : TransportType) (now : ℕ) (sent : Option ℕ) (all : Tran
 
   pub halfway_start : (ds : List Deadline) → IsAscending all → IsIndexOf transport all ds → IsHalfway all ds
   halfway_start ds ascends index = record {
-    rises = index.rises;
+    ordered = index.ordered;
     ascending = ascends;
     part = λ n t h. h;
     left = λ n t h. index.entries n ∙ ap (old_entry n) h;
     done = λ n h. index.entries n ∙ ap (old_entry n) h ∙ sym (ap (new_entry n) h);
   }
 
-  halfway_next : (e : ℕ × Transaction) (rest : Transactions) (ds new : List Deadline) → IsHalfway (e ∷ rest) ds → IsNonDecreasingBy (λ d. d.moment) new
+  halfway_next : (e : ℕ × Transaction) (rest : Transactions) (ds new : List Deadline) → IsHalfway (e ∷ rest) ds → IsInOrder new
       → entries_at e.0 new ≡ new_entry e.0 (Some e.1) → ((n : ℕ) → (n ≡ e.0 → ⊥) → entries_at n new ≡ entries_at n ds) → IsHalfway rest new
-  halfway_next e rest ds new half rises own other = record {
-    rises = rises;
+  halfway_next e rest ds new half up own other = record {
+    ordered = up;
     ascending = sorted_tail nat_cmp e.0 (keys_of rest) half.ascending;
     part = λ n t h. half.part n t (tail_at n e rest t half.ascending h);
     left = λ n t h. other n (other_key n e.0 (tail_key n e rest t half.ascending h)) ∙ half.left n t (tail_at n e rest t half.ascending h);
@@ -79,7 +80,7 @@ module _ (transport : TransportType) (now : ℕ) (sent : Option ℕ) (all : Tran
   -- one whose slot does not pass
   halfway_skip : (e : ℕ × Transaction) (rest : Transactions) (ds : List Deadline) → (is_reached sent e.0 && is_due transport now e.1) ≡ false → IsHalfway (e ∷ rest) ds → IsHalfway rest ds
   halfway_skip e rest ds stays half =
-      halfway_next e rest ds ds half half.rises
+      halfway_next e rest ds ds half half.ordered
       (half.left e.0 e.1 (head_at e rest) ∙ sym (ap (λ b. deadline_of transport (e.0, cond b (after_slot now e.1) e.1) ∷ []) stays)) (λ n apart. refl)
 
   -- one whose slot passes
@@ -87,10 +88,9 @@ module _ (transport : TransportType) (now : ℕ) (sent : Option ℕ) (all : Tran
       → IsReplaced (deadline_of transport (e.0, after_slot now e.1)) ds new → IsHalfway (e ∷ rest) ds → IsHalfway rest new
   halfway_move e rest ds new passes replaced half =
       let d = deadline_of transport (e.0, after_slot now e.1) in
-      let placed = replaced_placed d (deadline_of transport (e.0, e.1)) ds new (half.left e.0 e.1 (head_at e rest)) replaced in
-      halfway_next e rest ds new half (placed_rises d ds new half.rises placed)
-      (placed_own d ds new placed ∙ sym (ap (λ b. deadline_of transport (e.0, cond b (after_slot now e.1) e.1) ∷ []) passes))
-      (λ n apart. placed_other d ds new n apart placed)
+      halfway_next e rest ds new half (placed_ordered d ds new half.ordered replaced)
+      (placed_own d ds new replaced ∙ sym (ap (λ b. deadline_of transport (e.0, cond b (after_slot now e.1) e.1) ∷ []) passes))
+      (λ n apart. placed_other d ds new n apart replaced)
 
   pub halfway_each : (e : ℕ × Transaction) (rest : Transactions) (ds new : List Deadline) → IsMoved transport now sent e ds new → IsHalfway (e ∷ rest) ds → IsHalfway rest new
   halfway_each e rest ds new moved half = by (is_reached sent e.0 && is_due transport now e.1) refl
@@ -101,7 +101,8 @@ module _ (transport : TransportType) (now : ℕ) (sent : Option ℕ) (all : Tran
 
   pub halfway_end : (ds : List Deadline) → IsHalfway [] ds → IsIndexOf transport (after_slots transport now sent all) ds
   halfway_end ds half = record {
-    rises = half.rises;
+    ordered = half.ordered;
+    rises = ordered_rises ds half.ordered;
     entries = λ n. half.done n refl ∙ sym (ap (old_entry n) (lookup-map (slot_passed transport now sent) n all) ∙ by n (at n all));
   }
     where
@@ -118,7 +119,7 @@ in_at d (y ∷ ys) (inr later) = let rest = in_at d ys later in (suc rest.0, fur
     further : (j n : ℕ) → j < n → suc j < suc n
     further j n less = omega (arith, less)
 
-first_least : (d y : Deadline) (ys : List Deadline) → IsNonDecreasingBy (λ d. d.moment) (y ∷ ys) → IsIn d (y ∷ ys) → y.moment ≤ d.moment
+pub first_least : (d y : Deadline) (ys : List Deadline) → IsNonDecreasingBy (λ d. d.moment) (y ∷ ys) → IsIn d (y ∷ ys) → y.moment ≤ d.moment
 first_least d y ys rises h =
     let place = in_at d (y ∷ ys) h in
     let up = rises 0 place.0 y (omega arith) place.1 in

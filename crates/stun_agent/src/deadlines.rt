@@ -1,9 +1,9 @@
 //! What outstanding requests await, in the order of the moments.
 ghost use Rattle.std.specs.Prelude.{◌≡◌, [], ◌+◌, ◌<◌, length, slice_get, Some, OnOk, OnErr};
-ghost use Rattle.std.specs.List.Sorted.{IsNonDecreasingBy};
-ghost use Rattle.stun_agent.specs.code.Deadlines.{earliest, without_entry, IsPlace, IsPlaced, IsReplaced};
+ghost use Rattle.stun_agent.specs.code.Deadlines.{earliest, without_entry, is_before, is_cancellation, first_awaited, IsInOrder, HasEntry, IsPlace, IsPlaced, IsReplaced};
 
 use std::alloc::{AllocError, Allocator, Global};
+use std::collections::VecDeque;
 use std::marker::Model;
 use std::sync::ledger::{Blank, Book, Ledger, Share};
 use stun_base::instant::Instant;
@@ -56,19 +56,36 @@ pub(crate) enum DeadlineKind {
     Cancelled,
 }
 
+impl DeadlineKind {
+    fn is_cancellation(self) -> bool
+        ensures { result ≡ is_cancellation self }
+    {
+        matches!(&self, DeadlineKind::Cancelled)
+    }
+}
+
 /// The moment that a request awaits. A cancelled one awaits moment zero.
 #[derive(Clone, Copy, Debug, PartialEq, Eq)]
 pub(crate) struct Deadline {
-    pub(crate) moment: Instant,
     pub(crate) id: TransactionId,
+    pub(crate) moment: Instant,
     pub(crate) kind: DeadlineKind,
 }
 
-/// Deadlines by ascending moments.
+impl Deadline {
+    fn is_before(self, moment: Instant, id: TransactionId) -> bool
+        ensures { result ≡ is_before moment id self }
+    {
+        self.moment < moment || self.moment == moment && self.id < id
+    }
+}
+
+/// Deadlines by ascending moments, and at one moment by ascending ids. It is a ring, so that the first entry leaves
+/// and the last one comes without a move of the others.
 #[derive(Drop)]
 #[derive_where(Debug)]
 pub(crate) struct DeadlineIndex<A: Allocator = Global> {
-    entries: Vec<Deadline, A>,
+    entries: VecDeque<Deadline, A>,
 }
 
 impl<A: Allocator> Model for DeadlineIndex<A> {
@@ -85,7 +102,7 @@ impl<A: Allocator> DeadlineIndex<A> {
         ensures { result ≡ [] }
     {
         DeadlineIndex {
-            entries: Vec::new(alloc),
+            entries: VecDeque::new(alloc),
         }
     }
 
@@ -118,54 +135,77 @@ impl<A: Allocator> DeadlineIndex<A> {
 
     /// Puts a deadline at its place. Where memory is refused, nothing changes.
     pub(crate) fn insert(&mut self, deadline: Deadline) -> Result<(), AllocError>
-        requires { IsNonDecreasingBy (λ d. d.moment) self.old }
+        requires { IsInOrder self.old }
         ensures ok { OnOk result (IsPlaced deadline self.old self.new) }
         ensures err { OnErr result (self.new ≡ self.old) }
     {
-        let place = place(&self.entries, deadline.moment);
+        let place = place(&self.entries, deadline.moment, deadline.id);
         match self.entries.insert(place, deadline) {
             Ok(()) => Ok(()),
             Err(_refused) => Err(AllocError),
         }
     }
 
-    /// Takes out the deadline of a request.
-    pub(crate) fn remove(&mut self, id: TransactionId)
+    /// Takes out the deadline of a request, which is at this moment.
+    pub(crate) fn remove(&mut self, moment: Instant, id: TransactionId)
+        requires order { IsInOrder self.old }
+        requires entry { HasEntry moment id self.old }
         ensures { self.new ≡ without_entry id self.old }
     {
-        self.entries.retain(|deadline| deadline.id != id);
+        take_out(&mut self.entries, moment, id);
     }
 
-    /// Puts another deadline of a request in place of the one that it has. Takes no memory.
-    pub(crate) fn replace(&mut self, deadline: Deadline)
-        requires { IsNonDecreasingBy (λ d. d.moment) self.old }
+    /// Puts another deadline of a request in place of the one that it has at this moment. Takes no memory.
+    pub(crate) fn replace(&mut self, moment: Instant, deadline: Deadline)
+        requires order { IsInOrder self.old }
+        requires entry { HasEntry moment deadline.id self.old }
         ensures { IsReplaced deadline self.old self.new }
     {
-        replace(&mut self.entries, deadline);
+        replace(&mut self.entries, moment, deadline);
+    }
+
+    /// The first moment of a request that is not cancelled.
+    pub(crate) fn first_awaited(&self) -> Option<Instant>
+        ensures { result ≡ first_awaited self.now }
+    {
+        for i in 0..self.entries.len() {
+            let deadline = self.entries[i];
+            if !deadline.kind.is_cancellation() {
+                return Some(deadline.moment);
+            }
+        }
+        None
     }
 }
 
-// Behind all that are not later.
-fn place(entries: &[Deadline], moment: Instant) -> usize
-    requires { IsNonDecreasingBy (λ d. d.moment) entries.now }
-    ensures { IsPlace moment entries.now result }
+// After all that are sooner.
+fn place<A: Allocator>(entries: &VecDeque<Deadline, A>, moment: Instant, id: TransactionId) -> usize
+    requires { IsInOrder entries.now.items }
+    ensures { IsPlace moment id entries.now.items result }
 {
-    entries.partition_point(|deadline| deadline.moment <= moment)
+    entries.partition_point(|entry| entry.is_before(moment, id))
+}
+
+fn take_out<A: Allocator>(entries: &mut VecDeque<Deadline, A>, moment: Instant, id: TransactionId)
+    requires order { IsInOrder entries.old.items }
+    requires entry { HasEntry moment id entries.old.items }
+    ensures items { entries.new.items ≡ without_entry id entries.old.items }
+    ensures room { entries.new.len < entries.new.cap }
+{
+    let place = place(entries, moment, id);
+    let _taken = entries.remove(place);
 }
 
 // What is taken out leaves the room for what is put in.
-fn replace<A: Allocator>(entries: &mut Vec<Deadline, A>, deadline: Deadline)
-    requires { IsNonDecreasingBy (λ d. d.moment) entries.old.items }
+fn replace<A: Allocator>(entries: &mut VecDeque<Deadline, A>, moment: Instant, deadline: Deadline)
+    requires order { IsInOrder entries.old.items }
+    requires entry { HasEntry moment deadline.id entries.old.items }
     ensures { IsReplaced deadline entries.old.items entries.new.items }
 {
-    let id = deadline.id;
-    let count = entries.len();
-    entries.retain(|entry| entry.id != id);
-    if entries.len() < count {
-        let place = place(entries, deadline.moment);
-        match entries.insert(place, deadline) {
-            Ok(()) => {}
-            Err(_refused) => unreachable!(),
-        }
+    take_out(entries, moment, deadline.id);
+    let place = place(entries, deadline.moment, deadline.id);
+    match entries.insert(place, deadline) {
+        Ok(()) => {}
+        Err(_refused) => unreachable!(),
     }
 }

@@ -80,11 +80,13 @@ impl<A: Allocator + Copy> Outstanding<A> {
         ensures there { OnOk result (at id self.new.requests ≡ Some request) }
         ensures err { OnErr result (self.new ≡ self.old) }
     {
-        self.deadlines.insert(request.deadline(id, self.transport))?;
+        let deadline = request.deadline(id, self.transport);
+        let moment = deadline.moment;
+        self.deadlines.insert(deadline)?;
         match self.requests.insert(id, request) {
             Ok(_absent) => Ok(()),
             Err(_refused) => {
-                self.deadlines.remove(id);
+                self.deadlines.remove(moment, id);
                 Err(AllocError)
             }
         }
@@ -95,10 +97,10 @@ impl<A: Allocator + Copy> Outstanding<A> {
         ensures answer { result ≡ at id self.old.requests }
         ensures after { self.new ≡ record self.old { requests = without id self.old.requests } }
     {
-        // For the proof: a map that is asked tells that it is ordered.
-        let _count = self.requests.len();
-        self.deadlines.remove(id);
-        self.requests.remove(&id)
+        let request = self.requests.remove(&id)?;
+        self.deadlines
+            .remove(request.deadline(id, self.transport).moment, id);
+        Some(request)
     }
 
     /// The id of the request that is to end, and whether it was still sent again. The deadlines alone decide, and
@@ -111,8 +113,6 @@ impl<A: Allocator + Copy> Outstanding<A> {
         ensures answer { result ≡ option_map (λ e. (e.0, repeats e.1.sending)) (first_over self.now.transport now self.now.requests) }
         ensures work { reads.new ≤ reads.old + early_requests self.now.transport now self.now.requests + 1 }
     {
-        // For the proof: a map that is asked tells that it is ordered.
-        let _count = self.requests.len();
         let ended = ending::least_ended(&self.deadlines, now, reads);
         transactions::with_repeats(&self.requests, ended)
     }
@@ -122,8 +122,6 @@ impl<A: Allocator + Copy> Outstanding<A> {
         requires { first_over self.now.transport now self.now.requests ≡ None }
         ensures { result ≡ wake_up self.now.transport now self.now.requests }
     {
-        // For the proof: a map that is asked tells that it is ordered.
-        let _count = self.requests.len();
         let longest = now + Duration::from_secs(LONGEST_WAIT_SECONDS);
         now.max(transactions::sooner(self.deadlines.earliest(), longest))
     }
@@ -133,9 +131,7 @@ impl<A: Allocator + Copy> Outstanding<A> {
         ensures least { result ≡ next_awaited self.now.transport self.now.requests }
         ensures kept { AreKept self.now.requests }
     {
-        // For the proof: a map that is asked tells that it is ordered.
-        let _count = self.requests.len();
-        transactions::next_awaited(&self.requests, self.transport)
+        self.deadlines.first_awaited()
     }
 
     /// Passes the slots that are due, and tells of the request that is to be sent again its id and how many bytes it has.
@@ -145,8 +141,6 @@ impl<A: Allocator + Copy> Outstanding<A> {
         ensures request { IfSome (next_sent self.old.transport now self.old.requests) IsNamed }
         ensures kept { IfSome result (λ s. option_map contents (at s.0 self.new.requests) ≡ option_map (λ e. contents e.1) (next_sent self.old.transport now self.old.requests)) }
     {
-        // For the proof: a map that is asked tells that it is ordered.
-        let _count = self.requests.len();
         if is_later(self.deadlines.earliest(), now) {
             return None;
         }
@@ -157,24 +151,33 @@ impl<A: Allocator + Copy> Outstanding<A> {
     pub(crate) fn cancel_retransmissions(&mut self, id: TransactionId)
         ensures { self.new ≡ record self.old { requests = changed silenced id self.old.requests } }
     {
+        let Some(before) = transactions::deadline_at(&self.requests, self.transport, id) else {
+            return;
+        };
         transactions::cancel_retransmissions(&mut self.requests, id);
-        transactions::renew(&mut self.deadlines, &self.requests, self.transport, id);
+        transactions::renew(&mut self.deadlines, &self.requests, self.transport, before);
     }
 
     /// Lets a request end at the next poll that reaches it, where it is there.
     pub(crate) fn cancel(&mut self, id: TransactionId)
         ensures { self.new ≡ record self.old { requests = changed cancelled id self.old.requests } }
     {
+        let Some(before) = transactions::deadline_at(&self.requests, self.transport, id) else {
+            return;
+        };
         transactions::cancel(&mut self.requests, id);
-        transactions::renew(&mut self.deadlines, &self.requests, self.transport, id);
+        transactions::renew(&mut self.deadlines, &self.requests, self.transport, before);
     }
 
     /// Replaces the timeouts of a request, where it is there.
     pub(crate) fn configure(&mut self, id: TransactionId, settings: RequestRto)
         ensures { self.new ≡ record self.old { requests = changed (configured (settings_of settings)) id self.old.requests } }
     {
+        let Some(before) = transactions::deadline_at(&self.requests, self.transport, id) else {
+            return;
+        };
         transactions::configure(&mut self.requests, id, settings);
-        transactions::renew(&mut self.deadlines, &self.requests, self.transport, id);
+        transactions::renew(&mut self.deadlines, &self.requests, self.transport, before);
     }
 }
 

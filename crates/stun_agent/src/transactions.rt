@@ -3,13 +3,12 @@ ghost use Rattle.std.specs.Prelude.{◌≡◌, length, Some, None, IfSome, Match
 ghost use Rattle.std.specs.Ordering.{nat_cmp};
 ghost use Rattle.std.specs.BTreeMap.{get, IsOrdered};
 ghost use Rattle.std.specs.Option.{option_map};
-ghost use Rattle.std.specs.List.Sorted.{IsNonDecreasingBy};
-ghost use Rattle.stun_agent.specs.code.Deadlines.{IsIndexOf, IsMoved, IsRenewed};
+ghost use Rattle.stun_agent.specs.code.Deadlines.{deadline_of, IsInOrder, HasEntry, IsIndexOf, IsMoved, IsRenewed};
 ghost use Rattle.stun_agent.specs.Timing.{settings_of};
-ghost use Rattle.stun_agent.specs.Transactions.{repeats, at, sooner, next_awaited, next_sent, after_slots, changed, silenced, cancelled, configured};
+ghost use Rattle.stun_agent.specs.Transactions.{repeats, IsAscending, at, sooner, next_sent, after_slots, changed, silenced, cancelled, configured};
 ghost use Rattle.stun_agent.specs.code.Transactions.{contents};
 
-use crate::deadlines::DeadlineIndex;
+use crate::deadlines::{Deadline, DeadlineIndex};
 use crate::rto::RequestRto;
 use crate::transaction::{Transaction, is_reached};
 use std::alloc::Allocator;
@@ -36,22 +35,6 @@ pub(crate) fn with_repeats<A: Allocator>(
     }
 }
 
-/// The least moment that a transaction which is not cancelled awaits.
-pub(crate) fn next_awaited<A: Allocator>(
-    all: &Transactions<A>,
-    transport: TransportType,
-) -> Option<Instant>
-    ensures { result ≡ next_awaited transport all.now.entries }
-{
-    let mut least = None;
-    for (_, transaction) in all {
-        if !transaction.is_cancelled() {
-            least = Some(sooner(least, transaction.awaited(transport)));
-        }
-    }
-    least
-}
-
 /// The lesser of a moment that may be there and another one.
 pub(crate) fn sooner(least: Option<Instant>, moment: Instant) -> Instant
     ensures { Some result ≡ sooner least moment }
@@ -70,7 +53,8 @@ pub(crate) fn pass_due_slots<A: Allocator>(
     transport: TransportType,
     now: Instant,
 ) -> Option<(TransactionId, usize)>
-    requires { IsIndexOf transport all.old.entries deadlines.old }
+    requires index { IsIndexOf transport all.old.entries deadlines.old }
+    requires ascending { IsAscending all.old.entries }
     ensures sent { result ≡ option_map (λ e. (e.0, length e.1.bytes)) (next_sent transport now all.old.entries) }
     ensures after { all.new.entries ≡ after_slots transport now (option_map (λ s. s.0) result) all.old.entries }
     ensures kept { IfSome result (λ s. option_map contents (get nat_cmp all.new s.0) ≡ option_map (λ e. contents e.1) (next_sent transport now all.old.entries)) }
@@ -98,11 +82,10 @@ fn move_deadlines<A: Allocator>(
     now: Instant,
     sent: &Option<TransactionId>,
 )
-    requires { IsIndexOf transport all.now.entries deadlines.old }
+    requires index { IsIndexOf transport all.now.entries deadlines.old }
+    requires ascending { IsAscending all.now.entries }
     ensures { IsIndexOf transport (after_slots transport now sent.now all.now.entries) deadlines.new }
 {
-    // For the proof: a map that is asked tells that it is ordered.
-    let _count = all.len();
     for (id, transaction) in all {
         move_deadline(deadlines, *id, transaction, transport, now, sent);
     }
@@ -117,11 +100,16 @@ fn move_deadline<A: Allocator>(
     now: Instant,
     sent: &Option<TransactionId>,
 )
-    requires { IsNonDecreasingBy (λ d. d.moment) deadlines.old }
+    requires order { IsInOrder deadlines.old }
+    requires entry { HasEntry (deadline_of transport (id, transaction.now)).moment id deadlines.old }
     ensures { IsMoved transport now sent.now (id, transaction.now) deadlines.old deadlines.new }
 {
     if is_reached(*sent, id) && transaction.is_due(transport, now) {
-        deadlines.replace(transaction.deadline_after_slot(id, transport, now));
+        let before = transaction.deadline(id, transport);
+        deadlines.replace(
+            before.moment,
+            transaction.deadline_after_slot(id, transport, now),
+        );
     }
 }
 
@@ -187,17 +175,30 @@ pub(crate) fn configure<A: Allocator>(
     }
 }
 
-/// Puts what the transaction at an id awaits now in place of what it awaited, where there is one.
+/// What the transaction at an id awaits, where there is one.
+pub(crate) fn deadline_at<A: Allocator>(
+    all: &Transactions<A>,
+    transport: TransportType,
+    id: TransactionId,
+) -> Option<Deadline>
+    ensures { result ≡ option_map (λ t. deadline_of transport (id, t)) (at id all.now.entries) }
+{
+    let transaction = all.get(&id)?;
+    Some(transaction.deadline(id, transport))
+}
+
+/// Puts what a transaction awaits now in place of what it awaited before, where it is there.
 pub(crate) fn renew<A: Allocator>(
     deadlines: &mut DeadlineIndex<A>,
     all: &Transactions<A>,
     transport: TransportType,
-    id: TransactionId,
+    before: Deadline,
 )
-    requires { IsNonDecreasingBy (λ d. d.moment) deadlines.old }
-    ensures { IsRenewed transport id all.now.entries deadlines.old deadlines.new }
+    requires order { IsInOrder deadlines.old }
+    requires entry { HasEntry before.moment before.id deadlines.old }
+    ensures { IsRenewed transport before.id all.now.entries deadlines.old deadlines.new }
 {
-    if let Some(transaction) = all.get(&id) {
-        deadlines.replace(transaction.deadline(id, transport));
+    if let Some(transaction) = all.get(&before.id) {
+        deadlines.replace(before.moment, transaction.deadline(before.id, transport));
     }
 }

@@ -1,13 +1,13 @@
 -- The deadlines of outstanding requests as the index keeps them, and how one is placed, moved and found.
-use Rattle.std.specs.Prelude.{ℕ, ◌≡◌, ◌<◌, ◌≤◌, length, slice_index_or, slice_get, insert, Bool, true, false, not, ◌&&◌, ◌==◌, nat_le, nat_lt, if◌then◌else◌, List, [], ◌∷◌, Option, None, MatchOption, map, filter, fold, count_by}
+use Rattle.std.specs.Prelude.{ℕ, ◌≡◌, ◌<◌, ◌≤◌, length, slice_index_or, slice_get, insert, Bool, true, false, not, ◌&&◌, ◌||◌, ◌==◌, nat_le, nat_lt, if◌then◌else◌, List, [], ◌∷◌, Option, None, MatchOption, map, find, filter, fold, count_by}
 use Rattle.std.specs.List.{AllByRecursion}
 use Rattle.std.specs.Option.{option_map, option_map_or}
-use Rattle.std.specs.List.Sorted.{IsNonDecreasingBy}
+use Rattle.std.specs.List.Sorted.{IsNonDecreasingBy, IsSortedBy}
 use Rattle.stun_base.specs.declared.transport.TransportType.{TransportType}
 use Rattle.stun_agent.specs.declared.deadlines.Deadline.{Deadline}
 use Rattle.stun_agent.specs.declared.deadlines.DeadlineKind.{DeadlineKind}
 use Rattle.stun_agent.specs.declared.deadlines.DeadlineKind.TheVariants.{Cancelled, End, Slot}
-use Rattle.stun_agent.specs.Transactions.{Transaction, Transactions, at, awaited, has_slots, is_cancelled, is_due, is_reached, after_slot, sooner, IsNamed}
+use Rattle.stun_agent.specs.Transactions.{Transaction, Transactions, IsAscending, at, awaited, has_slots, is_cancelled, is_due, is_reached, after_slot, sooner, IsNamed}
 
 -- what a transaction awaits: a cancelled one is to end at once, one with slots left is to be sent again, another is to end
 abbrev pub kind_of : TransportType → Transaction → DeadlineKind
@@ -41,25 +41,43 @@ entries_at id ds = filter (λ d. id == d.id) ds
 abbrev pub without_entry : ℕ → List Deadline → List Deadline
 without_entry id ds = filter (λ d. not (d.id == id)) ds
 
--- the deadlines of these transactions: one each and no other, in the order of their moments
+-- of two deadlines the one at the earlier moment is the sooner, and at one moment that of the lesser id
+abbrev pub is_before : ℕ → ℕ → Deadline → Bool
+is_before moment id d = nat_lt d.moment moment || ((d.moment == moment) && nat_lt d.id id)
+
+abbrev pub is_sooner : Deadline → Deadline → Bool
+is_sooner a b = is_before b.moment b.id a
+
+-- no later deadline is the sooner
+abbrev pub IsInOrder : List Deadline → Type 0
+IsInOrder ds = IsSortedBy is_sooner ds
+
+-- the deadlines of these transactions: one each and no other, in order, so that their moments do not fall
 pub record IsIndexOf (transport : TransportType) (all : Transactions) (ds : List Deadline) : Type 0 where
+  pub ordered : IsInOrder ds
   pub rises : IsNonDecreasingBy (λ d. d.moment) ds
   pub entries : (id : ℕ) → entries_at id ds ≡ option_map_or (λ t. deadline_of transport (id, t) ∷ []) (at id all) []
 
--- where a moment has its place: behind no later one, and before no earlier one
-pub record IsPlace (moment : ℕ) (ds : List Deadline) (i : ℕ) : Type 0 where
+-- where a deadline of this moment and id has its place: after all that are sooner, and before all others
+pub record IsPlace (moment id : ℕ) (ds : List Deadline) (i : ℕ) : Type 0 where
   pub within : i ≤ length ds
-  pub before : (k : ℕ) (d : Deadline) → k < i → (slice_index_or ds k d).moment ≤ moment
-  pub after : (k : ℕ) (d : Deadline) → i ≤ k → k < length ds → moment ≤ (slice_index_or ds k d).moment
+  pub before : (k : ℕ) (x : Deadline) → k < i → is_before moment id (slice_index_or ds k x) ≡ true
+  pub after : (k : ℕ) (x : Deadline) → i ≤ k → k < length ds → is_before moment id (slice_index_or ds k x) ≡ false
 
 -- a deadline more, at its place
 abbrev pub IsPlaced : Deadline → List Deadline → List Deadline → Type 0
-IsPlaced d old new = (i : ℕ) × IsPlace d.moment old i × (new ≡ insert old i d)
+IsPlaced d old new = (i : ℕ) × IsPlace d.moment d.id old i × (new ≡ insert old i d)
 
--- a deadline in place of the one of its id, where there is one
-pub record IsReplaced (d : Deadline) (old new : List Deadline) : Type 0 where
-  pub there : length (without_entry d.id old) < length old → IsPlaced d (without_entry d.id old) new
-  pub absent : length old ≤ length (without_entry d.id old) → new ≡ without_entry d.id old
+-- a deadline in place of the one of its id
+abbrev pub IsReplaced : Deadline → List Deadline → List Deadline → Type 0
+IsReplaced d old new = IsPlaced d (without_entry d.id old) new
+
+-- this id has one deadline, which is at this moment
+pub record HasEntry (moment id : ℕ) (ds : List Deadline) : Type 0 where
+  pub entry : Deadline
+  pub at_moment : entry.moment ≡ moment
+  pub at_id : entry.id ≡ id
+  pub alone : entries_at id ds ≡ entry ∷ []
 
 -- the deadline of the transaction at an id in place of its old one, if there is such a transaction
 abbrev pub IsRenewed : TransportType → ℕ → Transactions → List Deadline → List Deadline → Type 0
@@ -70,10 +88,21 @@ pub record IsMoved (transport : TransportType) (now : ℕ) (sent : Option ℕ) (
   pub moves : (is_reached sent e.0 && is_due transport now e.1) ≡ true → IsReplaced (deadline_of transport (e.0, after_slot now e.1)) old new
   pub stays : (is_reached sent e.0 && is_due transport now e.1) ≡ false → new ≡ old
 
--- each request has the id under which it stands, and each its deadline
+-- the ids ascend, each request has the id under which it stands, and each its deadline
 pub record AreIndexed (transport : TransportType) (all : Transactions) (ds : List Deadline) : Type 0 where
+  pub ascending : IsAscending all
   pub named : AllByRecursion IsNamed all
   pub index : IsIndexOf transport all ds
+
+-- of a cancelled request
+abbrev pub is_cancellation : DeadlineKind → Bool
+is_cancellation Slot = false
+is_cancellation End = false
+is_cancellation Cancelled = true
+
+-- the first moment of a request that is not cancelled, if there is any
+abbrev pub first_awaited : List Deadline → Option ℕ
+first_awaited ds = option_map (λ d. d.moment) (find (λ d. not (is_cancellation d.kind)) ds)
 
 -- the first moment, if there is any
 abbrev pub earliest : List Deadline → Option ℕ

@@ -1,12 +1,12 @@
--- The entries up to a moment come first, since the moments rise.
+-- The sooner entries come first.
 use Rattle.std.proofs.Common.{rules, of_calls}
-use Rattle.std.specs.Prelude.{nat_le}
-use Rattle.std.proofs.lemmas.List.Sorted.{IsPartitionedBy-leb, IsPartitionPoint-from_clause}
-use Rattle.stun_agent.proofs.PlaceLemmas.{place_from_point}
+use Rattle.std.proofs.lemmas.List.Sorted.{IsPartitionPoint-from_clause}
+use Rattle.stun_agent.specs.code.Deadlines.{is_before}
+use Rattle.stun_agent.proofs.OrderLemmas.{ordered-partitioned, place-from_point}
 use Rattle.stun_agent.proofs.deadlines.place.Goals as goal
 
 pub returns : goal.returns
-returns c =
-    place_from_point c.args.moment c.args.entries.now c.partition_point.result c.partition_point.ensures.bound
-    (IsPartitionPoint-from_clause (λ d. nat_le d.moment c.args.moment) c.args.entries.now c.partition_point.result c.partition_point.ensures.partitioned
-    (IsPartitionedBy-leb (λ d. d.moment) c.args.entries.now c.args.moment c.requires) (λ a r f k. search (rules, of_calls)))
+returns g c =
+    place-from_point c.args.moment c.args.id c.args.entries.now.items c.partition_point.result (search rules)
+    (IsPartitionPoint-from_clause (is_before c.args.moment c.args.id) c.args.entries.now.items c.partition_point.result c.partition_point.ensures.partitioned
+    (ordered-partitioned c.args.moment c.args.id c.args.entries.now.items c.requires) (λ a r f k. search (rules, of_calls)))

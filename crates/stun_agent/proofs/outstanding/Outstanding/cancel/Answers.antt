@@ -1,7 +1,13 @@
-use Rattle.std.proofs.Common.{refl}
-use Rattle.stun_agent.specs.Transactions.{cancelled}
-use Rattle.stun_agent.proofs.IndexedLemmas.{indexed_changed}
+-- The deadline that the request had is its entry, and the new one takes its place.
+use Rattle.std.proofs.Common.{◌≡◌, ◌∙◌, ap, sym, refl, rules}
+use Rattle.stun_agent.specs.Transactions.{Transactions, cancelled, changed}
+use Rattle.stun_agent.specs.code.Transactions.{Outstanding}
+use Rattle.stun_agent.proofs.IndexedLemmas.{indexed_changed, entry_told, absent_stays}
 use Rattle.stun_agent.proofs.outstanding.Outstanding.cancel.Goals as goal
 
+pub renew-requires-clause-entry : goal.renew-requires-clause-entry
+renew-requires-clause-entry g c = (entry_told _ _ _ c.self.invariant.index c.args.id c.in-Some.before c.in-Some.ensures).0
+
 pub invariant_of-self : goal.invariant_of-self
-invariant_of-self g c = indexed_changed _ _ _ _ _ c.self.invariant cancelled c.args.id (λ t. refl) c.cancel.ensures c.renew.ensures
+invariant_of-self g c =
+    indexed_changed _ _ _ _ _ c.self.invariant cancelled c.args.id c.in-Some.before.id (λ t. refl) (entry_told _ _ _ c.self.invariant.index c.args.id c.in-Some.before c.in-Some.ensures).1 c.cancel.ensures c.renew.ensures

@@ -14,7 +14,7 @@ pub returns-then-is_later-clause-sent : goal.returns-then-is_later-clause-sent
 returns-then-is_later-clause-sent g c =
     let inside = c.self.inside in
     let late : is_later (earliest inside.deadlines) c.args.now ≡ true = sym (c.is_later.ensures ∙ ap (λ o. is_later o c.args.now) c.earliest.ensures) ∙ c.if-is_later.true in
-    let quiet = nothing_due inside.transport inside.requests.entries inside.deadlines c.self.invariant.index c.args.now c.len-count.ensures.ordered late in
+    let quiet = nothing_due inside.transport inside.requests.entries inside.deadlines c.self.invariant.index c.args.now c.self.invariant.ascending late in
     let none = subst (λ (o : Outstanding). next_sent o.transport c.args.now o.requests ≡ None) c.self.view_is quiet.0 in
     let told : ℕ × Transaction → ℕ × ℕ = λ e. (e.0, length e.1.bytes) in
     ap (option_map told) (sym none)
@@ -23,7 +23,7 @@ pub returns-then-is_later-clause-after : goal.returns-then-is_later-clause-after
 returns-then-is_later-clause-after g c =
     let inside = c.self.inside in
     let late : is_later (earliest inside.deadlines) c.args.now ≡ true = sym (c.is_later.ensures ∙ ap (λ o. is_later o c.args.now) c.earliest.ensures) ∙ c.if-is_later.true in
-    let quiet = nothing_due inside.transport inside.requests.entries inside.deadlines c.self.invariant.index c.args.now c.len-count.ensures.ordered late in
+    let quiet = nothing_due inside.transport inside.requests.entries inside.deadlines c.self.invariant.index c.args.now c.self.invariant.ascending late in
     let stays = subst (λ (o : Outstanding). after_slots o.transport c.args.now None o.requests ≡ o.requests) c.self.view_is quiet.1 in
     let holds : Transactions → Outstanding = λ all. record { transport = c.args.self.now.transport; requests = all } in
     ap holds (sym stays)

@@ -24,6 +24,7 @@ pub mod RepliesLemmas
 pub mod RunLemmas
 pub mod Runs
 pub mod ScheduleLaw
+pub mod Sending
 pub mod ServedCalls
 pub mod ShardsLemmas
 pub mod Sights

@@ -1,6 +1,7 @@
 -- All steps of a request that is asked once: there are none before it is asked, and none after its end.
-use Rattle.std.proofs.Common.{ℕ, ◌≡◌, ◌+◌, ◌≤◌, Bool, true, false, cond, List, [], ◌∷◌, ◌++◌, length, subst, ap, sym, refl, ◌∙◌, append_assoc, arith}
+use Rattle.std.proofs.Common.{ℕ, ◌≡◌, ◌+◌, ◌≤◌, Bool, true, false, not, cond, List, [], ◌∷◌, ◌++◌, length, subst, ap, sym, refl, ◌∙◌, append_assoc, arith}
 use Rattle.std.specs.Prelude.{filter, ◌==◌, Option, Some, None}
+use Rattle.std.specs.Cmp.{eq_by_cmp_equiv}
 use Rattle.std.specs.Duration.{as_nanos}
 use Rattle.std.specs.List.{AllByRecursion}
 use Rattle.std.specs.Map.{set_value}
@@ -12,6 +13,7 @@ use Rattle.std.specs.declared.net.socket_addr.SocketAddr.{SocketAddr}
 use Rattle.std.proofs.lemmas.Bool.{ne_eqb, eqb-true}
 use Rattle.std.proofs.lemmas.List.{append-nil}
 use Rattle.std.proofs.lemmas.List.Elements.{filter-append}
+use Rattle.stun_base.specs.Address.{same_address}
 use Rattle.stun_base.specs.Header.{header_refusal, transaction_id_field}
 use Rattle.stun_base.specs.Moments.{last_moment}
 use Rattle.stun_base.specs.declared.error.StunParseError.{StunParseError}
@@ -19,11 +21,12 @@ use Rattle.stun_base.specs.declared.message_type.MessageClass.{MessageClass}
 use Rattle.stun_base.specs.declared.message_type.MessageClass.TheVariants.{Request, Indication, Success, Error}
 use Rattle.stun_base.specs.declared.transport.TransportType.{TransportType}
 use Rattle.stun_types.specs.Message.{refusal}
-use Rattle.stun_agent.specs.Agent.{Agent, with_transactions, class_of_bytes, is_request, sending_refusal, after_send, request_refusal, request_of, after_send_request, takes_message, after_class, tallied, tally_of_sent, tally_of_end, sent_by_poll, after_poll_transmit, ended_by_poll, after_poll}
+use Rattle.stun_agent.specs.Agent.{Agent, with_transactions, class_of_bytes, is_request, is_elsewhere, answered, sending_refusal, after_send, request_refusal, request_of, after_send_request, takes_message, after_class, tallied, tally_of_sent, tally_of_end, sent_by_poll, after_poll_transmit, ended_by_poll, after_poll}
 use Rattle.stun_agent.specs.Timing.{Settings}
 use Rattle.stun_agent.specs.Transactions.{IsAscending, Transaction, at, without, cancelled, silenced, configured, repeats, slot_passed}
 use Rattle.stun_agent.specs.declared.error.StunError.{StunError}
 use Rattle.stun_agent.specs.declared.error.StunError.TheVariants.{AlreadyInProgress, ProtocolViolation, ParseError}
+use Rattle.stun_agent.proofs.AnswerLemmas.{answered_there}
 use Rattle.stun_agent.proofs.LookupLemmas.{lookup-map, at-without}
 use Rattle.stun_proto.specs.declared.replay.event.AgentEvent.{AgentEvent}
 use Rattle.stun_proto.specs.declared.replay.event.AgentEvent.TheVariants.{Send, SendRequest, Receive, Cancel, CancelRetransmissions, Configure, ValidatePeer}
@@ -31,6 +34,7 @@ use Rattle.stun_proto.specs.Headline.{IsAskedOnce, SendsByPlan}
 use Rattle.stun_proto.specs.Run.{Phase, Turn, sends, rests, ends, again, stops, sending, Turns, turn, none, Run, IsDriven, done, event, transmitted, ended, after_change, after_event, steps_of_event}
 use Rattle.stun_proto.specs.Schedule.{Asks, AreInOrder, IsUndisturbed, plan, end, cut}
 use Rattle.stun_proto.specs.Steps.{Step, Transmitted, Sent, Received, Refused, TimedOut, Cancelled, is_of, own}
+use Rattle.stun_proto.proofs.Addresses.{address_total}
 use Rattle.stun_proto.proofs.AfterCalls.{transmit_transport, transmit_transactions, poll_transport, poll_transactions}
 use Rattle.stun_proto.proofs.Ascending.{IsAscending-map, IsAscending-remove, lookup-remove_other, lookup-set_other, lookup-insert_other}
 use Rattle.stun_proto.proofs.EntryLemmas.{same_key, lookup_found}
@@ -41,40 +45,41 @@ use Rattle.stun_proto.proofs.ScheduleLaw.{keeps_plan, response_taken}
 record Fixed (a b : Agent) : Type 0 where
   pub settings : b.settings ≡ a.settings
   pub transport : b.transport ≡ a.transport
+  pub remote_addr : b.remote_addr ≡ a.remote_addr
 
 fixed : (a : Agent) → Fixed a a
-fixed a = record { settings = refl; transport = refl }
+fixed a = record { settings = refl; transport = refl; remote_addr = refl }
 
 response_fixed : (moment : Option ℕ) (bs : List ℕ) (from : SocketAddr) (a : Agent) (o : Option Transaction) → Fixed a (response_taken moment bs from a o)
 response_fixed moment bs from a None = fixed a
-response_fixed moment bs from a (Some t) = record { settings = refl; transport = refl }
+response_fixed moment bs from a (Some t) = record { settings = refl; transport = refl; remote_addr = refl }
 
 class_fixed : (class : MessageClass) (now : ℕ) (bs : List ℕ) (from : SocketAddr) (a : Agent) → Fixed a (after_class class (Some now) bs from a)
-class_fixed Request now bs from a = record { settings = refl; transport = refl }
-class_fixed Indication now bs from a = record { settings = refl; transport = refl }
-class_fixed Success now bs from a = response_fixed (Some now) bs from a (at (transaction_id_field bs) a.transactions)
-class_fixed Error now bs from a = response_fixed (Some now) bs from a (at (transaction_id_field bs) a.transactions)
+class_fixed Request now bs from a = record { settings = refl; transport = refl; remote_addr = refl }
+class_fixed Indication now bs from a = record { settings = refl; transport = refl; remote_addr = refl }
+class_fixed Success now bs from a = response_fixed (Some now) bs from a (answered bs from a)
+class_fixed Error now bs from a = response_fixed (Some now) bs from a (answered bs from a)
 
 event_fixed : (now : ℕ) (e : AgentEvent) (a : Agent) → Fixed a (after_event now e a)
-event_fixed now (Send bs target) a = by (sending_refusal bs.items)
+event_fixed now (Send bs target) a = by (sending_refusal a bs.items target)
   where
     by : (o : Option StunError) → Fixed a (option_map_or (λ _. a) o (after_send bs.items a))
-    by None = record { settings = refl; transport = refl }
+    by None = record { settings = refl; transport = refl; remote_addr = refl }
     by (Some error) = fixed a
-event_fixed now (SendRequest bs target) a = by (request_refusal a bs.items)
+event_fixed now (SendRequest bs target) a = by (request_refusal a bs.items target)
   where
     by : (o : Option StunError) → Fixed a (option_map_or (λ _. a) o (after_send_request a bs.items target now))
-    by None = record { settings = refl; transport = refl }
+    by None = record { settings = refl; transport = refl; remote_addr = refl }
     by (Some error) = fixed a
 event_fixed now (Receive bs from) a = by (refusal bs.items)
   where
     by : (o : Option StunParseError) → Fixed a (option_map_or (λ _. a) o (after_class (class_of_bytes bs.items) (Some now) bs.items from a))
     by None = class_fixed (class_of_bytes bs.items) now bs.items from a
     by (Some error) = fixed a
-event_fixed now (Cancel j) a = record { settings = refl; transport = refl }
-event_fixed now (CancelRetransmissions j) a = record { settings = refl; transport = refl }
-event_fixed now (Configure j initial retransmits last max) a = record { settings = refl; transport = refl }
-event_fixed now (ValidatePeer address) a = record { settings = refl; transport = refl }
+event_fixed now (Cancel j) a = record { settings = refl; transport = refl; remote_addr = refl }
+event_fixed now (CancelRetransmissions j) a = record { settings = refl; transport = refl; remote_addr = refl }
+event_fixed now (Configure j initial retransmits last max) a = record { settings = refl; transport = refl; remote_addr = refl }
+event_fixed now (ValidatePeer address) a = record { settings = refl; transport = refl; remote_addr = refl }
 
 module _ (id : ℕ) where
   off_key : (j : ℕ) → (j ≡ id → ⊥) → is_at (nat_cmp id) j ≡ false
@@ -129,12 +134,15 @@ module _ (id : ℕ) where
       by (Some t) is = lookup-set_other id j (f t) a.transactions (off_key j (apart a j t is absent)) ∙ absent
 
   response_absent : (moment : Option ℕ) (bs : List ℕ) (from : SocketAddr) (a : Agent) → IsAbsent a
-      → IsAbsent (response_taken moment bs from a (at (transaction_id_field bs) a.transactions))
-  response_absent moment bs from a absent = by (at (transaction_id_field bs) a.transactions) refl
+      → IsAbsent (response_taken moment bs from a (answered bs from a))
+  response_absent moment bs from a absent = by (answered bs from a) refl
     where
-      by : (o : Option Transaction) → at (transaction_id_field bs) a.transactions ≡ o → IsAbsent (response_taken moment bs from a o)
+      by : (o : Option Transaction) → answered bs from a ≡ o → IsAbsent (response_taken moment bs from a o)
       by None is = absent
-      by (Some t) is = lookup-remove_other id (transaction_id_field bs) a.transactions (off_key (transaction_id_field bs) (apart a (transaction_id_field bs) t is absent)) ∙ absent
+      by (Some t) is =
+          lookup-remove_other id (transaction_id_field bs) a.transactions
+          (off_key (transaction_id_field bs) (apart a (transaction_id_field bs) t (answered_there bs from a t is) absent))
+          ∙ absent
 
   class_absent : (class : MessageClass) (now : ℕ) (bs : List ℕ) (from : SocketAddr) (a : Agent) → IsAbsent a → IsAbsent (after_class class (Some now) bs from a)
   class_absent Request now bs from a absent = absent
@@ -143,12 +151,12 @@ module _ (id : ℕ) where
   class_absent Error now bs from a absent = response_absent (Some now) bs from a absent
 
   event_absent : (now : ℕ) (e : AgentEvent) (a : Agent) → (Asks id e → ⊥) → IsAbsent a → IsAbsent (after_event now e a)
-  event_absent now (Send bs target) a other absent = by (sending_refusal bs.items)
+  event_absent now (Send bs target) a other absent = by (sending_refusal a bs.items target)
     where
       by : (o : Option StunError) → IsAbsent (option_map_or (λ _. a) o (after_send bs.items a))
       by None = absent
       by (Some error) = absent
-  event_absent now (SendRequest bs target) a other absent = by (request_refusal a bs.items)
+  event_absent now (SendRequest bs target) a other absent = by (request_refusal a bs.items target)
     where
       by : (o : Option StunError) → IsAbsent (option_map_or (λ _. a) o (after_send_request a bs.items target now))
       by None = lookup-insert_other id (transaction_id_field bs.items) (request_of a bs.items target now) a.transactions (off_key (transaction_id_field bs.items) other) ∙ absent
@@ -174,14 +182,14 @@ module _ (id : ℕ) where
 
   event_none : (now : ℕ) (e : AgentEvent) (a : Agent) → (Asks id e → ⊥) → HaveNone (steps_of_event now e a)
   unfolding own
-  event_none now (Send bs target) a other more = by (sending_refusal bs.items)
+  event_none now (Send bs target) a other more = by (sending_refusal a bs.items target)
     where
       by : (o : Option StunError)
           → (steps_of_id (option_map_or (λ error. Refused now error) o (Sent now target bs.items) ∷ more) ≡ steps_of_id more)
           × (own id (option_map_or (λ error. Refused now error) o (Sent now target bs.items) ∷ more) ≡ own id more)
       by None = (refl, refl)
       by (Some error) = (refl, refl)
-  event_none now (SendRequest bs target) a other more = by (request_refusal a bs.items)
+  event_none now (SendRequest bs target) a other more = by (request_refusal a bs.items target)
     where
       off : (id == transaction_id_field bs.items) ≡ false
       off = ne_eqb id (transaction_id_field bs.items) (λ h. other (sym h))
@@ -197,8 +205,8 @@ module _ (id : ℕ) where
   event_none now (Receive bs from) a other more = by (refusal bs.items)
     where
       by : (o : Option StunParseError)
-          → (steps_of_id (option_map_or (λ error. Refused now (ParseError error)) o (Received now (takes_message bs.items a)) ∷ more) ≡ steps_of_id more)
-          × (own id (option_map_or (λ error. Refused now (ParseError error)) o (Received now (takes_message bs.items a)) ∷ more) ≡ own id more)
+          → (steps_of_id (option_map_or (λ error. Refused now (ParseError error)) o (Received now (takes_message bs.items from a)) ∷ more) ≡ steps_of_id more)
+          × (own id (option_map_or (λ error. Refused now (ParseError error)) o (Received now (takes_message bs.items from a)) ∷ more) ≡ own id more)
       by None = (refl, refl)
       by (Some error) = (refl, refl)
   event_none now (Cancel j) a other more = (refl, refl)
@@ -288,20 +296,27 @@ module _ (id : ℕ) where
     pub absent : IsAbsent a → IsAbsent b
     pub settings : b.settings ≡ a.settings
     pub transport : b.transport ≡ a.transport
+    pub remote_addr : b.remote_addr ≡ a.remote_addr
 
   same : (a : Agent) → Stays a a
-  same a = record { absent = λ absent. absent; settings = refl; transport = refl }
+  same a = record { absent = λ absent. absent; settings = refl; transport = refl; remote_addr = refl }
 
   then : (a b c : Agent) → Stays a b → Stays b c → Stays a c
   then a b c first second = record {
     absent = λ absent. second.absent (first.absent absent);
     settings = second.settings ∙ first.settings;
     transport = second.transport ∙ first.transport;
+    remote_addr = second.remote_addr ∙ first.remote_addr;
   }
 
   transmit_stays : (now : ℕ) (a : Agent) → Stays a (after_poll_transmit now a)
-  transmit_stays now a = record { absent = transmit_absent now a; settings = by (sent_by_poll now a) _; transport = transmit_transport now a }
+  transmit_stays now a =
+      record { absent = transmit_absent now a; settings = by (sent_by_poll now a) _; transport = transmit_transport now a; remote_addr = by_address (sent_by_poll now a) _ }
     where
+      by_address : (sent : Option (ℕ × Transaction)) (b : Agent) → (tally_of_sent sent b).remote_addr ≡ b.remote_addr
+      by_address None b = refl
+      by_address (Some e) b = refl
+
       by : (sent : Option (ℕ × Transaction)) (b : Agent) → (tally_of_sent sent b).settings ≡ b.settings
       by None b = refl
       by (Some e) b = refl
@@ -311,6 +326,7 @@ module _ (id : ℕ) where
     absent = λ absent. poll_absent now a e f (apart a e.0 e.1 (ended_there now a e s f) absent) absent;
     settings = ap (λ o. (option_map_or (λ (x : ℕ × Transaction). tallied (tally_of_end x.1) (with_transactions a (without x.0 a.transactions))) o a).settings) f;
     transport = poll_transport now a e f;
+    remote_addr = ap (λ o. (option_map_or (λ (x : ℕ × Transaction). tallied (tally_of_end x.1) (with_transactions a (without x.0 a.transactions))) o a).remote_addr) f;
   }
 
   turn_stays : (now : ℕ) {phase : Phase} {a b : Agent} {steps : List Step} → Turn now phase a steps b → IsAscending a.transactions → Stays a b
@@ -325,7 +341,7 @@ module _ (id : ℕ) where
   turns_stay {a = a} (none h) s = same a
 
   event_stays : (now : ℕ) (e : AgentEvent) (a : Agent) → (Asks id e → ⊥) → Stays a (after_event now e a)
-  event_stays now e a other = record { absent = event_absent now e a other; settings = (event_fixed now e a).settings; transport = (event_fixed now e a).transport }
+  event_stays now e a other = record { absent = event_absent now e a other; settings = (event_fixed now e a).settings; transport = (event_fixed now e a).transport; remote_addr = (event_fixed now e a).remote_addr }
 
   pub run_stays : {bound from : ℕ} {a b : Agent} {events : List (ℕ × AgentEvent)} {steps : List Step} → Run bound from a events steps b
       → IsAscending a.transactions → AllByRecursion (λ e. Asks id e.1 → ⊥) events → Stays a b
@@ -338,17 +354,25 @@ module _ (id : ℕ) where
       (then (after_event moment e b) c d (turn_stays moment t after_it) (run_stays rest (turn_ascends moment t after_it) others.1)))
 
 -- ---- the law
+-- an agent sends to the address that it was told to speak to
+not_elsewhere : (a b : Agent) (to : SocketAddr) → b.remote_addr ≡ a.remote_addr → ((peer : SocketAddr) → a.remote_addr ≡ Some peer → to ≡ peer) → is_elsewhere b to ≡ false
+not_elsewhere a b to same there = ap (λ o. option_map_or (λ peer. not (same_address to peer)) o false) same ∙ by a.remote_addr there
+  where
+    by : (o : Option SocketAddr) → ((peer : SocketAddr) → o ≡ Some peer → to ≡ peer) → option_map_or (λ peer. not (same_address to peer)) o false ≡ false
+    by None there = refl
+    by (Some peer) there = ap (λ p. not (same_address to p)) (sym (there peer refl)) ∙ ap not ((eq_by_cmp_equiv address_total).refl to)
+
 -- bytes with the header of a request are accepted where no request of their id is outstanding
-accepted_there : (a : Agent) (bytes : List ℕ) → header_refusal bytes ≡ None → class_of_bytes bytes ≡ Request → at (transaction_id_field bytes) a.transactions ≡ None
-    → request_refusal a bytes ≡ None
-accepted_there a bytes header class absent = λ i.
+accepted_there : (a : Agent) (bytes : List ℕ) (to : SocketAddr) → header_refusal bytes ≡ None → class_of_bytes bytes ≡ Request → is_elsewhere a to ≡ false
+    → at (transaction_id_field bytes) a.transactions ≡ None → request_refusal a bytes to ≡ None
+accepted_there a bytes to header class there absent = λ i.
     option_map_or (λ error. Some (ParseError error)) (header i)
-    (cond (is_request (class i)) (cond (is_some (absent i)) (Some AlreadyInProgress) None) (Some ProtocolViolation))
+    (cond (is_request (class i)) (cond (there i) (Some ProtocolViolation) (cond (is_some (absent i)) (Some AlreadyInProgress) None)) (Some ProtocolViolation))
 
 sent_by_plan : (until : ℕ) (a b : Agent) (steps : List Step) (start : ℕ) (bytes : Vec ℕ) (to : SocketAddr) (earlier later : List (ℕ × AgentEvent))
     → until ≤ last_moment → IsAscending a.transactions → AreInOrder until 0 (earlier ++ (start, SendRequest bytes to) ∷ later)
     → Run (until + 1) 0 a (earlier ++ (start, SendRequest bytes to) ∷ later) steps b
-    → IsAskedOnce a (transaction_id_field bytes.items) start bytes.items earlier later
+    → IsAskedOnce a (transaction_id_field bytes.items) start bytes.items to earlier later
     → filter (is_of (transaction_id_field bytes.items)) steps ≡ cut until (plan a.transport start a.settings (transaction_id_field bytes.items) to bytes.items)
 unfolding own
 sent_by_plan until a b steps start bytes to earlier later within ascends order r once =
@@ -358,13 +382,13 @@ sent_by_plan until a b steps start bytes to earlier later within ascends order r
     let after = in_order_then until 0 earlier later (start, e) order in
     let stays = run_stays id found.comes ascends once.not_before in
     let there = run_ascends found.comes ascends in
-    let accepted = accepted_there found.agent bytes.items once.header once.class (stays.absent once.new) in
+    let accepted = accepted_there found.agent bytes.items to once.header once.class (not_elsewhere a found.agent to stays.remote_addr once.goes_there) (stays.absent once.new) in
     let asked : steps_of_event start e found.agent ≡ Transmitted start id to bytes.items ∷ [] =
     ap (λ (o : Option StunError). option_map_or (λ error. Refused start error) o (Transmitted start id to bytes.items) ∷ []) accepted in
     let added : after_event start e found.agent ≡ after_send_request found.agent bytes.items to start =
     ap (λ (o : Option StunError). option_map_or (λ _. found.agent) o (after_send_request found.agent bytes.items to start)) accepted in
-    let quiet : IsUndisturbed id (end start found.agent.settings found.agent.transport) later =
-    subst (λ (p : Settings × TransportType). IsUndisturbed id (end start p.0 p.1) later) (λ i. (sym stays.settings i, sym stays.transport i)) once.undisturbed in
+    let quiet : IsUndisturbed id to (end start found.agent.settings found.agent.transport) later =
+    subst (λ (p : Settings × TransportType). IsUndisturbed id to (end start p.0 p.1) later) (λ i. (sym stays.settings i, sym stays.transport i)) once.undisturbed in
     let kept =
     keeps_plan until start bytes.items to found.agent found.next b later found.at_once found.rest after.0 within there accepted
     (subst (λ x. Turn start sending x found.at_once found.next) added found.turned) found.goes_on after.1 quiet in
@@ -384,7 +408,7 @@ pub sends_by_plan : (until : ℕ) (a b : Agent) (events : List (ℕ × AgentEven
 sends_by_plan until a b events steps within ascends order r id start bytes to earlier later is once =
     subst (λ j. filter (is_of j) steps ≡ cut until (plan a.transport start a.settings j to bytes.items)) once.names
     (sent_by_plan until a b steps start bytes to earlier later within ascends (subst (AreInOrder until 0) is order) (subst (λ es. Run (until + 1) 0 a es steps b) is r)
-    (subst (λ j. IsAskedOnce a j start bytes.items earlier later) (sym once.names) once))
+    (subst (λ j. IsAskedOnce a j start bytes.items to earlier later) (sym once.names) once))
 
 -- without events nothing is asked
 pub nothing_is_asked : (until : ℕ) (a : Agent) (events : List (ℕ × AgentEvent)) (steps : List Step) → length events ≡ 0 → SendsByPlan until a events steps

@@ -13,7 +13,7 @@ use Rattle.stun_base.specs.declared.error.StunParseError.{StunParseError}
 use Rattle.stun_base.specs.declared.message_type.MessageClass.{MessageClass}
 use Rattle.stun_base.specs.declared.message_type.MessageClass.TheVariants.{Request, Indication, Success, Error}
 use Rattle.stun_types.specs.Message.{refusal}
-use Rattle.stun_agent.specs.Agent.{Agent, class_of_bytes, sending_refusal, after_send, request_refusal, request_of, after_send_request, after_class, sent_by_poll}
+use Rattle.stun_agent.specs.Agent.{Agent, class_of_bytes, answered, sending_refusal, after_send, request_refusal, request_of, after_send_request, after_class, sent_by_poll}
 use Rattle.stun_agent.specs.Transactions.{IsAscending, Transaction, at, cancelled, silenced, configured, slot_passed}
 use Rattle.stun_agent.specs.declared.error.StunError.{StunError}
 use Rattle.stun_proto.specs.declared.replay.event.AgentEvent.{AgentEvent}
@@ -50,8 +50,8 @@ change_ascends f j a s = by (at j a.transactions)
     by None = s
     by (Some t) = IsAscending-set_value (is_at (nat_cmp j)) a.transactions (f t) s
 
-response_ascends : (now : ℕ) (bs : List ℕ) (from : SocketAddr) (a : Agent) → IsAscending a.transactions → IsAscending (response_taken (Some now) bs from a (at (transaction_id_field bs) a.transactions)).transactions
-response_ascends now bs from a s = by (at (transaction_id_field bs) a.transactions)
+response_ascends : (now : ℕ) (bs : List ℕ) (from : SocketAddr) (a : Agent) → IsAscending a.transactions → IsAscending (response_taken (Some now) bs from a (answered bs from a)).transactions
+response_ascends now bs from a s = by (answered bs from a)
   where
     by : (o : Option Transaction) → IsAscending (response_taken (Some now) bs from a o).transactions
     by None = s
@@ -64,12 +64,12 @@ class_ascends Success now bs from a s = response_ascends now bs from a s
 class_ascends Error now bs from a s = response_ascends now bs from a s
 
 pub event_ascends : (now : ℕ) (e : AgentEvent) (a : Agent) → IsAscending a.transactions → IsAscending (after_event now e a).transactions
-event_ascends now (Send bs target) a s = by (sending_refusal bs.items)
+event_ascends now (Send bs target) a s = by (sending_refusal a bs.items target)
   where
     by : (o : Option StunError) → IsAscending (option_map_or (λ _. a) o (after_send bs.items a)).transactions
     by None = s
     by (Some error) = s
-event_ascends now (SendRequest bs target) a s = by (request_refusal a bs.items)
+event_ascends now (SendRequest bs target) a s = by (request_refusal a bs.items target)
   where
     by : (o : Option StunError) → IsAscending (option_map_or (λ _. a) o (after_send_request a bs.items target now)).transactions
     by None = IsAscending-insert a.transactions (transaction_id_field bs.items) (request_of a bs.items target now) s

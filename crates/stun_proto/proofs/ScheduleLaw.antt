@@ -20,7 +20,7 @@ use Rattle.stun_base.specs.declared.message_type.MessageClass.{MessageClass}
 use Rattle.stun_base.specs.declared.message_type.MessageClass.TheVariants.{Request, Indication, Success, Error}
 use Rattle.stun_base.specs.declared.transport.TransportType.{TransportType}
 use Rattle.stun_types.specs.Message.{refusal}
-use Rattle.stun_agent.specs.Agent.{Agent, with_transactions, class_of_bytes, is_request, sending_refusal, after_send, request_refusal, request_of, after_send_request, takes_message, tallied, with_validated, after_class, after_response, sent_by_poll, after_poll_transmit, ended_by_poll, after_poll}
+use Rattle.stun_agent.specs.Agent.{Agent, with_transactions, class_of_bytes, is_request, is_elsewhere, answered, sending_refusal, after_send, request_refusal, request_of, after_send_request, takes_message, tallied, with_validated, after_class, after_response, sent_by_poll, after_poll_transmit, ended_by_poll, after_poll}
 use Rattle.stun_agent.specs.Integrity.{integrity_of}
 use Rattle.stun_agent.specs.Statistics.{response_received}
 use Rattle.stun_agent.specs.Timing.{Settings, timeout, slots, final_wait, sum_of_timeouts}
@@ -28,6 +28,7 @@ use Rattle.stun_agent.specs.Transactions.{IsAscending, Transaction, at, without,
 use Rattle.stun_agent.specs.declared.error.StunError.{StunError}
 use Rattle.stun_agent.specs.declared.error.StunError.TheVariants.{AlreadyInProgress, ProtocolViolation, ParseError}
 use Rattle.stun_agent.specs.declared.transaction.Sending.TheVariants.{Repeats}
+use Rattle.stun_agent.proofs.AnswerLemmas.{elsewhere_unanswered}
 use Rattle.stun_proto.specs.declared.replay.event.AgentEvent.{AgentEvent}
 use Rattle.stun_proto.specs.declared.replay.event.AgentEvent.TheVariants.{Send, SendRequest, Receive, Cancel, CancelRetransmissions, Configure, ValidatePeer}
 use Rattle.stun_proto.specs.Run.{Run, done, event, Turns, turn, none, IsAwaited, Turn, sends, rests, ends, again, stops, Phase, sending, ending, transmitted, ended, after_change, after_event, steps_of_event}
@@ -40,15 +41,17 @@ use Rattle.stun_proto.proofs.OneTransaction.{other_key, sent_same, sent_other, s
 
 -- ---- requests that are accepted
 -- there is no request of its id yet
-pub fresh_request : (a : Agent) (bytes : List ℕ) → request_refusal a bytes ≡ None → at (transaction_id_field bytes) a.transactions ≡ None
-fresh_request a bytes h = by (header_refusal bytes) (is_request (class_of_bytes bytes)) (at (transaction_id_field bytes) a.transactions) h
+pub fresh_request : (a : Agent) (bytes : List ℕ) (to : SocketAddr) → request_refusal a bytes to ≡ None → at (transaction_id_field bytes) a.transactions ≡ None
+fresh_request a bytes to h = by (header_refusal bytes) (is_request (class_of_bytes bytes)) (is_elsewhere a to) (at (transaction_id_field bytes) a.transactions) h
   where
-    by : (o : Option StunParseError) (r : Bool) (t : Option Transaction)
-        → option_map_or (λ error. Some (ParseError error)) o (cond r (cond (is_some t) (Some AlreadyInProgress) None) (Some ProtocolViolation)) ≡ None → t ≡ None
-    by (Some error) r t h = cc
-    by None false t h = cc
-    by None true (Some t) h = cc
-    by None true None h = refl
+    by : (o : Option StunParseError) (r e : Bool) (t : Option Transaction)
+        → option_map_or (λ error. Some (ParseError error)) o (cond r (cond e (Some ProtocolViolation) (cond (is_some t) (Some AlreadyInProgress) None)) (Some ProtocolViolation)) ≡ None
+        → t ≡ None
+    by (Some error) r e t h = cc
+    by None false e t h = cc
+    by None true true t h = cc
+    by None true false (Some t) h = cc
+    by None true false None h = refl
 
 -- the agent after a response, by the request that it takes
 abbrev pub response_taken : Option ℕ → List ℕ → SocketAddr → Agent → Option Transaction → Agent
@@ -360,51 +363,58 @@ module _ (until start id : ℕ) (transport : TransportType) (settings : Settings
   absent_key : (j : ℕ) (b : Agent) (k count : ℕ) → Live k count b → at j b.transactions ≡ None → j ≡ id → ⊥
   absent_key j b k count live absent same = let clash : Some (stage k) ≡ None = sym live.stands ∙ ap (λ q. at q b.transactions) (sym same) ∙ absent in cc
 
-  keeps_request : (now : ℕ) (bs : List ℕ) (target : SocketAddr) (b : Agent) (k count : ℕ) → Live k count b → request_refusal b bs ≡ None → Live k count (after_send_request b bs target now)
+  keeps_request : (now : ℕ) (bs : List ℕ) (target : SocketAddr) (b : Agent) (k count : ℕ) → Live k count b → request_refusal b bs target ≡ None → Live k count (after_send_request b bs target now)
   keeps_request now bs target b k count live accepted = record {
     same_transport = live.same_transport;
     ascends = IsAscending-insert b.transactions (transaction_id_field bs) (request_of b bs target now) live.ascends;
     stands =
         lookup-insert_other id (transaction_id_field bs) (request_of b bs target now) b.transactions
-        (off_key (transaction_id_field bs) (absent_key (transaction_id_field bs) b k count live (fresh_request b bs accepted)))
+        (off_key (transaction_id_field bs) (absent_key (transaction_id_field bs) b k count live (fresh_request b bs target accepted)))
         ∙ live.stands;
     all = live.all;
   }
 
-  keeps_response : (moment : Option ℕ) (bs : List ℕ) (from : SocketAddr) (b : Agent) (k count : ℕ) → Live k count b → (transaction_id_field bs ≡ id → ⊥) → Live k count (after_response moment bs from b)
-  keeps_response moment bs from b k count live apart = by (at (transaction_id_field bs) b.transactions)
+  keeps_response : (moment : Option ℕ) (bs : List ℕ) (from : SocketAddr) (b : Agent) (k count : ℕ) → Live k count b → (transaction_id_field bs ≡ id → from ≡ to → ⊥)
+      → Live k count (after_response moment bs from b)
+  keeps_response moment bs from b k count live off = by (answered bs from b) refl
     where
-      by : (o : Option Transaction) → Live k count (response_taken moment bs from b o)
-      by None = live
-      by (Some t) = record {
+      -- a response of the id that is taken comes from the address
+      apart : (t : Transaction) → answered bs from b ≡ Some t → transaction_id_field bs ≡ id → ⊥
+      apart t is same =
+          let none : answered bs from b ≡ None = elsewhere_unanswered bs from b (stage k) (ap (λ q. at q b.transactions) same ∙ live.stands) (off same) in
+          let clash : Some t ≡ None = sym is ∙ none in cc
+
+      by : (o : Option Transaction) → answered bs from b ≡ o → Live k count (response_taken moment bs from b o)
+      by None is = live
+      by (Some t) is = record {
         same_transport = live.same_transport;
         ascends = IsAscending-remove (is_at (nat_cmp (transaction_id_field bs))) b.transactions live.ascends;
-        stands = lookup-remove_other id (transaction_id_field bs) b.transactions (off_key (transaction_id_field bs) apart) ∙ live.stands;
+        stands = lookup-remove_other id (transaction_id_field bs) b.transactions (off_key (transaction_id_field bs) (apart t is)) ∙ live.stands;
         all = live.all;
       }
 
   keeps_class : (class : MessageClass) (now : ℕ) (bs : List ℕ) (from : SocketAddr) (b : Agent) (k count : ℕ) → Live k count b
-      → (IsResponse class → transaction_id_field bs ≡ id → ⊥) → Live k count (after_class class (Some now) bs from b)
+      → (IsResponse class → transaction_id_field bs ≡ id → from ≡ to → ⊥) → Live k count (after_class class (Some now) bs from b)
   keeps_class Request now bs from b k count live off = record { same_transport = live.same_transport; ascends = live.ascends; stands = live.stands; all = live.all }
   keeps_class Indication now bs from b k count live off = record { same_transport = live.same_transport; ascends = live.ascends; stands = live.stands; all = live.all }
   keeps_class Success now bs from b k count live off = keeps_response (Some now) bs from b k count live (off tt)
   keeps_class Error now bs from b k count live off = keeps_response (Some now) bs from b k count live (off tt)
 
-  keeps_event : (now : ℕ) (e : AgentEvent) (b : Agent) (k count : ℕ) → Live k count b → (IsAimedAt id e → ⊥) → Live k count (after_event now e b)
-  keeps_event now (Send bs target) b k count live off = by (sending_refusal bs.items)
+  keeps_event : (now : ℕ) (e : AgentEvent) (b : Agent) (k count : ℕ) → Live k count b → (IsAimedAt id to e → ⊥) → Live k count (after_event now e b)
+  keeps_event now (Send bs target) b k count live off = by (sending_refusal b bs.items target)
     where
       by : (o : Option StunError) → Live k count (option_map_or (λ _. b) o (after_send bs.items b))
       by None = record { same_transport = live.same_transport; ascends = live.ascends; stands = live.stands; all = live.all }
       by (Some error) = live
-  keeps_event now (SendRequest bs target) b k count live off = by (request_refusal b bs.items) refl
+  keeps_event now (SendRequest bs target) b k count live off = by (request_refusal b bs.items target) refl
     where
-      by : (o : Option StunError) → request_refusal b bs.items ≡ o → Live k count (option_map_or (λ _. b) o (after_send_request b bs.items target now))
+      by : (o : Option StunError) → request_refusal b bs.items target ≡ o → Live k count (option_map_or (λ _. b) o (after_send_request b bs.items target now))
       by None is = keeps_request now bs.items target b k count live is
       by (Some error) is = live
   keeps_event now (Receive bs from) b k count live off = by (refusal bs.items) refl
     where
       by : (o : Option StunParseError) → refusal bs.items ≡ o → Live k count (option_map_or (λ _. b) o (after_class (class_of_bytes bs.items) (Some now) bs.items from b))
-      by None is = keeps_class (class_of_bytes bs.items) now bs.items from b k count live (λ response same. off (is, response, same))
+      by None is = keeps_class (class_of_bytes bs.items) now bs.items from b k count live (λ response same there. off (is, response, same, there))
       by (Some error) is = live
   keeps_event now (Cancel j) b k count live off = keeps_change cancelled j b k count live off
   keeps_event now (CancelRetransmissions j) b k count live off = keeps_change silenced j b k count live off
@@ -414,21 +424,21 @@ module _ (until start id : ℕ) (transport : TransportType) (settings : Settings
 
   own-event : (now : ℕ) (e : AgentEvent) (b : Agent) (k count : ℕ) (more : List Step) → Live k count b → own id (steps_of_event now e b ++ more) ≡ own id more
   unfolding own
-  own-event now (Send bs target) b k count more live = by (sending_refusal bs.items)
+  own-event now (Send bs target) b k count more live = by (sending_refusal b bs.items target)
     where
       by : (o : Option StunError) → own id (option_map_or (λ error. Refused now error) o (Sent now target bs.items) ∷ more) ≡ own id more
       by None = refl
       by (Some error) = refl
-  own-event now (SendRequest bs target) b k count more live = by (request_refusal b bs.items) refl
+  own-event now (SendRequest bs target) b k count more live = by (request_refusal b bs.items target) refl
     where
-      by : (o : Option StunError) → request_refusal b bs.items ≡ o → own id (option_map_or (λ error. Refused now error) o (Transmitted now (transaction_id_field bs.items) target bs.items) ∷ more) ≡ own id more
+      by : (o : Option StunError) → request_refusal b bs.items target ≡ o → own id (option_map_or (λ error. Refused now error) o (Transmitted now (transaction_id_field bs.items) target bs.items) ∷ more) ≡ own id more
       by None is =
-          let apart = absent_key (transaction_id_field bs.items) b k count live (fresh_request b bs.items is) in
+          let apart = absent_key (transaction_id_field bs.items) b k count live (fresh_request b bs.items target is) in
           ap (λ c. cond c (Transmitted now (transaction_id_field bs.items) target bs.items ∷ own id more) (own id more)) (ne_eqb id (transaction_id_field bs.items) (λ h. apart (sym h)))
       by (Some error) is = refl
   own-event now (Receive bs from) b k count more live = by (refusal bs.items)
     where
-      by : (o : Option StunParseError) → own id (option_map_or (λ error. Refused now (ParseError error)) o (Received now (takes_message bs.items b)) ∷ more) ≡ own id more
+      by : (o : Option StunParseError) → own id (option_map_or (λ error. Refused now (ParseError error)) o (Received now (takes_message bs.items from b)) ∷ more) ≡ own id more
       by None = refl
       by (Some error) = refl
   own-event now (Cancel j) b k count more live = refl
@@ -442,7 +452,7 @@ module _ (until start id : ℕ) (transport : TransportType) (settings : Settings
   own-nil = refl
 
   pub run_law : {from : ℕ} {a b : Agent} {events : List (ℕ × AgentEvent)} {steps : List Step} → Run (until + 1) from a events steps b → (k count earlier : ℕ) → Live k count a
-      → from ≤ awaited transport (stage k) → AreInOrder until earlier events → IsUndisturbed id (end start settings transport) events → own id steps ≡ cut until (left k count)
+      → from ≤ awaited transport (stage k) → AreInOrder until earlier events → IsUndisturbed id to (end start settings transport) events → own id steps ≡ cut until (left k count)
   run_law {steps = steps} (done t) k count earlier live early order quiet =
       ap (own id) (sym (append-nil steps))
       ∙ turns_law t k count [] live early (omega arith) (λ k count live late. own-nil ∙ sym (cut-none count k live.all (omega arith)))
@@ -461,11 +471,11 @@ first_transmission start settings within = omega arith
 
 -- a request that is accepted at `start`, with the turn there and the run after it
 pub keeps_plan : (until start : ℕ) (bytes : List ℕ) (to : SocketAddr) (a b c : Agent) (events : List (ℕ × AgentEvent)) (at_start run : List Step)
-    → start ≤ until → until ≤ last_moment → IsAscending a.transactions → request_refusal a bytes ≡ None
+    → start ≤ until → until ≤ last_moment → IsAscending a.transactions → request_refusal a bytes to ≡ None
     → Turn start sending (after_send_request a bytes to start) at_start b
     → Run (until + 1) (start + 1) b events run c
     → AreInOrder until start events
-    → IsUndisturbed (transaction_id_field bytes) (end start a.settings a.transport) events
+    → IsUndisturbed (transaction_id_field bytes) to (end start a.settings a.transport) events
     → own (transaction_id_field bytes) (Transmitted start (transaction_id_field bytes) to bytes ∷ (at_start ++ run)) ≡ cut until (plan a.transport start a.settings (transaction_id_field bytes) to bytes)
 unfolding own plan_from
 keeps_plan until start bytes to a b c events at_start run bound within ascends accepted t r order quiet =

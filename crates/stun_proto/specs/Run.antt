@@ -26,31 +26,31 @@ abbrev pub after_change : (Transaction → Transaction) → ℕ → Agent → Ag
 after_change f id agent = with_transactions agent (changed f id agent.transactions)
 
 -- a message is sent that wants no answer
-abbrev pub after_sending : List ℕ → Agent → Agent
-after_sending bytes agent = option_map_or (λ _. agent) (sending_refusal bytes) (after_send bytes agent)
+abbrev pub after_sending : List ℕ → SocketAddr → Agent → Agent
+after_sending bytes to agent = option_map_or (λ _. agent) (sending_refusal agent bytes to) (after_send bytes agent)
 
-abbrev pub step_of_sending : ℕ → List ℕ → SocketAddr → Step
-step_of_sending now bytes to = option_map_or (λ error. Refused now error) (sending_refusal bytes) (Sent now to bytes)
+abbrev pub step_of_sending : ℕ → List ℕ → SocketAddr → Agent → Step
+step_of_sending now bytes to agent = option_map_or (λ error. Refused now error) (sending_refusal agent bytes to) (Sent now to bytes)
 
 -- a request is sent
 abbrev pub after_asking : ℕ → List ℕ → SocketAddr → Agent → Agent
-after_asking now bytes to agent = option_map_or (λ _. agent) (request_refusal agent bytes) (after_send_request agent bytes to now)
+after_asking now bytes to agent = option_map_or (λ _. agent) (request_refusal agent bytes to) (after_send_request agent bytes to now)
 
 abbrev pub step_of_asking : ℕ → List ℕ → SocketAddr → Agent → Step
 step_of_asking now bytes to agent =
-    option_map_or (λ error. Refused now error) (request_refusal agent bytes) (Transmitted now (transaction_id_field bytes) to bytes)
+    option_map_or (λ error. Refused now error) (request_refusal agent bytes to) (Transmitted now (transaction_id_field bytes) to bytes)
 
 -- bytes are received
 abbrev pub after_receiving : ℕ → List ℕ → SocketAddr → Agent → Agent
 after_receiving now bytes from agent = option_map_or (λ _. agent) (refusal bytes) (after_message (Some now) bytes from agent)
 
-abbrev pub step_of_receiving : ℕ → List ℕ → Agent → Step
-step_of_receiving now bytes agent =
-    option_map_or (λ error. Refused now (ParseError error)) (refusal bytes) (Received now (takes_message bytes agent))
+abbrev pub step_of_receiving : ℕ → List ℕ → SocketAddr → Agent → Step
+step_of_receiving now bytes from agent =
+    option_map_or (λ error. Refused now (ParseError error)) (refusal bytes) (Received now (takes_message bytes from agent))
 
 -- the agent after an event. What is refused changes nothing
 abbrev pub after_event : ℕ → AgentEvent → Agent → Agent
-after_event now (Send bytes to) agent = after_sending bytes.items agent
+after_event now (Send bytes to) agent = after_sending bytes.items to agent
 after_event now (SendRequest bytes to) agent = after_asking now bytes.items to agent
 after_event now (Receive bytes from) agent = after_receiving now bytes.items from agent
 after_event now (Cancel id) agent = after_change cancelled id agent
@@ -63,9 +63,9 @@ after_event now (ValidatePeer address) agent = with_validated address agent
 
 -- the step of an event, if it has one
 abbrev pub steps_of_event : ℕ → AgentEvent → Agent → List Step
-steps_of_event now (Send bytes to) agent = step_of_sending now bytes.items to ∷ []
+steps_of_event now (Send bytes to) agent = step_of_sending now bytes.items to agent ∷ []
 steps_of_event now (SendRequest bytes to) agent = step_of_asking now bytes.items to agent ∷ []
-steps_of_event now (Receive bytes from) agent = step_of_receiving now bytes.items agent ∷ []
+steps_of_event now (Receive bytes from) agent = step_of_receiving now bytes.items from agent ∷ []
 steps_of_event now (Cancel id) agent = []
 steps_of_event now (CancelRetransmissions id) agent = []
 steps_of_event now (Configure id initial retransmits last max) agent = []

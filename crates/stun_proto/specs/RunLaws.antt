@@ -17,8 +17,8 @@ use Rattle.stun_proto.specs.Steps.{Step, own}
 pub record GoesByPlan (until : ℕ) (agent : Agent) (later : List (ℕ × AgentEvent)) (start : ℕ) (bytes : List ℕ) (to : SocketAddr) (before steps : List Step) : Type 0 where
   pub after : List Step
   pub divided : steps ≡ before ++ after
-  pub keeps : request_refusal agent bytes ≡ None
-      → IsUndisturbed (transaction_id_field bytes) (end start agent.settings agent.transport) later
+  pub keeps : request_refusal agent bytes to ≡ None
+      → IsUndisturbed (transaction_id_field bytes) to (end start agent.settings agent.transport) later
       → own (transaction_id_field bytes) after ≡ cut until (plan agent.transport start agent.settings (transaction_id_field bytes) to bytes)
 
 -- a request of a run: the earlier events have a run up to its moment, and whatever agent and steps that run comes to, from there the

@@ -43,20 +43,21 @@ Asks id (CancelRetransmissions other) = ⊥
 Asks id (Configure other initial retransmits last max) = ⊥
 Asks id (ValidatePeer address) = ⊥
 
--- the event takes, cancels or changes the request of this id: a response with its id, or a call that names it
-abbrev pub IsAimedAt : ℕ → AgentEvent → Type 0
-IsAimedAt id (Send bytes to) = ⊥
-IsAimedAt id (SendRequest bytes to) = ⊥
-IsAimedAt id (Receive bytes from) =
-    (refusal bytes.items ≡ None) × IsResponse (class_of_bytes bytes.items) × (transaction_id_field bytes.items ≡ id)
-IsAimedAt id (Cancel other) = other ≡ id
-IsAimedAt id (CancelRetransmissions other) = other ≡ id
-IsAimedAt id (Configure other initial retransmits last max) = other ≡ id
-IsAimedAt id (ValidatePeer address) = ⊥
+-- the event takes, cancels or changes the request of this id, which went to this address: a response of its id that comes from there,
+-- or a call that names it
+abbrev pub IsAimedAt : ℕ → SocketAddr → AgentEvent → Type 0
+IsAimedAt id peer (Send bytes to) = ⊥
+IsAimedAt id peer (SendRequest bytes to) = ⊥
+IsAimedAt id peer (Receive bytes from) =
+    (refusal bytes.items ≡ None) × IsResponse (class_of_bytes bytes.items) × (transaction_id_field bytes.items ≡ id) × (from ≡ peer)
+IsAimedAt id peer (Cancel other) = other ≡ id
+IsAimedAt id peer (CancelRetransmissions other) = other ≡ id
+IsAimedAt id peer (Configure other initial retransmits last max) = other ≡ id
+IsAimedAt id peer (ValidatePeer address) = ⊥
 
--- nothing is aimed at the request up to its end
-abbrev pub IsUndisturbed : ℕ → ℕ → List (ℕ × AgentEvent) → Type 0
-IsUndisturbed id last events = AllByRecursion (λ e. e.0 ≤ last → IsAimedAt id e.1 → ⊥) events
+-- nothing is aimed at the request of this id to this address up to its end, whatever responses other addresses send
+abbrev pub IsUndisturbed : ℕ → SocketAddr → ℕ → List (ℕ × AgentEvent) → Type 0
+IsUndisturbed id peer last events = AllByRecursion (λ e. e.0 ≤ last → IsAimedAt id peer e.1 → ⊥) events
 
 -- the moments never go back, from this one on, and none is past `until`
 abbrev pub AreInOrder : ℕ → ℕ → List (ℕ × AgentEvent) → Type 0

@@ -19,10 +19,12 @@ ghost use Rattle.stun_proto.specs.RunLaws.{EventsHaveRuns, IsDetermined, IsDeter
 ghost use Rattle.stun_proto.specs.Schedule.{AreInOrder, plan};
 ghost use Rattle.stun_proto.specs.Serving.{reply_of};
 ghost use Rattle.stun_proto.specs.Shards.{ShardsServeAsOne};
-ghost use Rattle.stun_proto.specs.Steps.{Step};
+ghost use Rattle.stun_proto.specs.Steps.{Step, step_of};
 ghost use Rattle.stun_proto.specs.declared.replay.event.AgentEvent.{AgentEvent as TheEvent};
 
-use crate::replay::{NegotiateError, Outcome, ServerCall, ServerReply, Stopped, WordSource};
+use crate::replay::{
+    AgentStep, NegotiateError, Outcome, ServerCall, ServerReply, Stopped, WordSource,
+};
 use std::alloc::Allocator;
 
 /// Events have one run at most: its steps and the agent after it are determined, up to every moment, and from every moment on.
@@ -49,7 +51,7 @@ pub fn runs_send_by_plan()
 pub fn plan_of_a_request()
     ensures udp { (to : Address) → plan Udp 0 default_settings 7 to binding_request ≡ udp_steps to }
     ensures tcp { (to : Address) → plan Tcp 0 default_settings 7 to binding_request ≡ tcp_steps to }
-    ensures asked { (transport : Transport) (here : Address) → IsAskedOnce (new_agent transport here) 7 0 binding_request [] [] }
+    ensures asked { (transport : Transport) (here to : Address) → IsAskedOnce (new_agent transport here) 7 0 binding_request to [] [] }
 {}
 
 /// The answer to one request or indication is `Validated` if and only if the message is accepted (RFC 8489, section 9.2.4).
@@ -110,6 +112,13 @@ pub fn is_same_stop(one: Stopped, other: Stopped) -> bool
 /// Sources are equal where the same words are left.
 pub fn is_same_source(one: &WordSource, other: &WordSource) -> bool
     ensures { IsTrue result ↔ (one.now ≡ other.now) }
+{
+    one == other
+}
+
+/// Steps of an agent are equal where moments, ids, addresses, bytes and answers are.
+pub fn is_same_step(one: &AgentStep, other: &AgentStep) -> bool
+    ensures { IsTrue result ↔ (step_of one.now ≡ step_of other.now) }
 {
     one == other
 }

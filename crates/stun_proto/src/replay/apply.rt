@@ -67,18 +67,23 @@ fn send<A: Allocator + Copy>(
     to: SocketAddr,
     steps: &mut Vec<AgentStep<A>, A>,
 ) -> Result<(), AllocError>
-    ensures after { agent.new ≡ after_sending bytes.now agent.old }
-    ensures added { OnOk result (steps_of steps.new.items ≡ steps_of steps.old.items ++ step_of_sending now bytes.now to ∷ []) }
+    ensures after { agent.new ≡ after_sending bytes.now to agent.old }
+    ensures added { OnOk result (steps_of steps.new.items ≡ steps_of steps.old.items ++ step_of_sending now bytes.now to agent.old ∷ []) }
 {
-    let step = match agent.send(bytes, to, now) {
-        Ok(transmit) => AgentStep::Sent {
-            at: now,
-            to: transmit.to,
-            bytes: Vec::from_slice(alloc, transmit.data)?,
-        },
-        Err(error) => AgentStep::Refused { at: now, error },
-    };
-    add(steps, step)
+    match agent.send(bytes, to, now) {
+        Ok(transmit) => {
+            let bytes = Vec::from_slice(alloc, transmit.data)?;
+            add(
+                steps,
+                AgentStep::Sent {
+                    at: now,
+                    to: transmit.to,
+                    bytes,
+                },
+            )
+        }
+        Err(error) => add(steps, AgentStep::Refused { at: now, error }),
+    }
 }
 
 // Sends a request, and tells its step. Where the request is refused, no memory is wanting.
@@ -92,7 +97,7 @@ fn ask<A: Allocator + Copy>(
     ensures after { OnOk result (agent.new ≡ after_asking now bytes.now to agent.old) }
     ensures step { IfOk result (λ step. step_of step ≡ step_of_asking now bytes.now to agent.old) }
     ensures broken { OnErr result ((agent.new ≡ agent.old) ⊎ (agent.new ≡ after_asking now bytes.now to agent.old)) }
-    ensures refused { request_refusal agent.old bytes.now ≢ None → IsOk result }
+    ensures refused { request_refusal agent.old bytes.now to ≢ None → IsOk result }
 {
     match agent.send_request(bytes, to, now) {
         Ok(transmit) => transmitted(alloc, now, transmit.to, transmit.data),
@@ -109,7 +114,7 @@ fn receive<A: Allocator + Copy>(
     steps: &mut Vec<AgentStep<A>, A>,
 ) -> Result<(), AllocError>
     ensures whole { OnOk result (agent.new ≡ after_receiving now bytes.now from agent.old) }
-    ensures added { OnOk result (steps_of steps.new.items ≡ steps_of steps.old.items ++ step_of_receiving now bytes.now agent.old ∷ []) }
+    ensures added { OnOk result (steps_of steps.new.items ≡ steps_of steps.old.items ++ step_of_receiving now bytes.now from agent.old ∷ []) }
     ensures broken { OnErr result ((agent.new ≡ agent.old) ⊎ (agent.new ≡ after_receiving now bytes.now from agent.old)) }
 {
     let step = match Message::from_bytes(bytes) {

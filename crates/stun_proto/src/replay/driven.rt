@@ -15,22 +15,26 @@ use std::alloc::{AllocError, Allocator};
 use stun_agent::agent::StunAgent;
 use stun_base::instant::Instant;
 
-/// Drives an agent: makes the events happen at their moments, and a turn at each moment that a request awaits up
-/// to `until`, and tells what the agent did, in order.
+/// Drives an agent by a list of events, each at its moment, and answers what the agent did, in order.
 ///
-/// A turn at a moment takes `poll_transmit` until it answers `None`, then `poll` until it answers `WaitUntil`, and
-/// again while that moment is this one; at `Instant::MAX` there is one turn. Before an event the moments that were
-/// awaited before its own have their turns; then comes the event, and a turn at its moment. After the last event
-/// the awaited moments up to `until` have their turns. Without events nothing happens.
+/// The moments of the events must not go back, and none may be after `until`. The run is this:
 ///
-/// The moments of the events must not go back, and none may be past `until`.
+/// 1. Before an event, each moment below the event's own that a request awaits has a turn, in order.
+/// 2. Then the event comes, and a turn at its moment.
+/// 3. After the last event, each awaited moment up to `until` has a turn. Without events nothing happens.
 ///
-/// A request that no response, cancellation or change meets up to its end is sent exactly at its moments: the first
-/// one, and then at the sums of its timeouts from there; and it times out once, at its end (RFC 8489, section 6.2.1),
-/// whatever other requests do. The clause `plans` says so.
+/// A turn at a moment calls `poll_transmit` until it answers `None`, then `poll` until it answers `WaitUntil`, and
+/// begins again while that moment is this one. At `Instant::MAX` there is one turn.
 ///
-/// Where memory is wanting it answers `Stopped`: the first `done` events are complete with their turns, and the agent
-/// stands after a beginning of the run's calls.
+/// A request that is asked once, and that no response from its address, no cancellation and no change meets up to
+/// its end, is sent at its first moment and at the sums of its timeouts from there, at no other moment, and times
+/// out once (RFC 8489, section 6.2.1), whatever responses other addresses send. The clause `headline` says so, and
+/// the clause `plans` says it for ids that come again.
+///
+/// Where an allocation fails the answer is `Stopped`, and the steps are lost. The agent then stands after some calls
+/// of the run: at least the first `done` events are complete with their turns, and event `done` may have happened
+/// too, with none, some or all of its turn. So whoever goes on from there first looks whether event `done` is still
+/// to come.
 pub fn drive<A: Allocator + Copy>(
     alloc: A,
     agent: &mut StunAgent<A>,

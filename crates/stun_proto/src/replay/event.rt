@@ -49,7 +49,7 @@ pub enum AgentEvent {
         /// The longest wait between two transmissions.
         max: Duration,
     },
-    /// An address is named as one whose messages were taken.
+    /// An address is validated: its messages are accepted.
     ValidatePeer(SocketAddr),
 }
 
@@ -81,11 +81,12 @@ pub enum AgentStep<A: Allocator = Global> {
     Received {
         /// The moment.
         at: Instant,
-        /// Whether the agent took it.
+        /// Whether the agent took it: a request or an indication always, a response where it answers an outstanding
+        /// request that went to its sender.
         accepted: bool,
     },
-    /// A call was refused. Bytes that were received and are no message are `ParseError`; want of memory never
-    /// stands here.
+    /// A call was refused. Bytes that were received and are no message are `ParseError`. It is never `OutOfMemory`:
+    /// where an allocation fails, the run is `Stopped`.
     Refused {
         /// The moment.
         at: Instant,
@@ -99,7 +100,7 @@ pub enum AgentStep<A: Allocator = Global> {
         /// The transaction of the request.
         id: TransactionId,
     },
-    /// A request has ended whose user has cancelled it, or its retransmissions.
+    /// A request has ended after it was cancelled, or its retransmissions were.
     Cancelled {
         /// The moment.
         at: Instant,
@@ -108,10 +109,10 @@ pub enum AgentStep<A: Allocator = Global> {
     },
 }
 
-/// Memory was wanting in a run.
+/// An allocation failed in a run.
 #[derive(Clone, Copy, PartialEq, Eq, Debug, Error)]
 #[error("out of memory, {done} of them complete")]
 pub struct Stopped {
-    /// How many of the events or calls are complete.
+    /// How many of the events or calls are complete: of a driven run at least so many, of a served list exactly.
     pub done: usize,
 }

@@ -26,7 +26,7 @@ impl From<AllocError> for Failure {
 
 /// A reader whose reads contracts can count.
 pub trait CountedRead: Read {
-    // How often the reader has been asked. A reader that does not tell stays at one number.
+    // How often the reader has been asked.
     ghost asked: { Self → ℕ };
 
     /// One read, as `read` makes it, which counts also where it is interrupted.
@@ -36,23 +36,34 @@ pub trait CountedRead: Read {
         ensures counted { asked self.new ≤ asked self.old + 1 };
 }
 
-/// A reader that does not tell how often it is asked.
+/// A reader that counts how often it is asked.
 #[derive(Drop)]
-pub struct Uncounted<R: Read + Drop>(pub R);
+pub struct Counted<R: Read + Drop> {
+    pub reader: R,
+    asked: u32,
+}
 
-impl<R: Read + Drop> Read for Uncounted<R> {
-    ghost remaining = { λ reader. R.remaining reader.0 };
-
-    fn read(&mut self, buf: &mut [u8]) -> io::Result<usize> {
-        self.0.read(buf)
+impl<R: Read + Drop> Counted<R> {
+    /// Has not been asked yet.
+    pub fn new(reader: R) -> Counted<R> {
+        Counted { reader, asked: 0 }
     }
 }
 
-impl<R: Read + Drop> CountedRead for Uncounted<R> {
-    ghost asked = { λ _. 0 };
+impl<R: Read + Drop> Read for Counted<R> {
+    ghost remaining = { λ counted. R.remaining counted.reader };
+
+    fn read(&mut self, buf: &mut [u8]) -> io::Result<usize> {
+        self.ask(buf)
+    }
+}
+
+impl<R: Read + Drop> CountedRead for Counted<R> {
+    ghost asked = { λ counted. counted.asked };
 
     fn ask(&mut self, buf: &mut [u8]) -> io::Result<usize> {
-        self.read(buf)
+        self.asked = self.asked.saturating_add(1);
+        self.reader.read(buf)
     }
 }
 

@@ -23,7 +23,7 @@ mod verdict;
 mod words;
 
 use check::check;
-use input::{CountedRead, Failure, Uncounted};
+use input::{Counted, CountedRead, Failure};
 use negotiate::negotiate;
 use output::write_text;
 use schedule::schedule;
@@ -36,7 +36,7 @@ use std::{env, io};
 
 /// What is written for wrong words.
 const USAGE: &str =
-    "usage: stun_tool check PASSWORD | schedule TRANSPORT INITIAL_MS MAX_MS RETRANSMITS FINAL_MS | negotiate CLIENT_ALGORITHMS CLIENT_FEATURE SERVER_ALGORITHMS SERVER_FEATURE | serve REALM\n";
+    "usage: stun_tool check PASSWORD | schedule TRANSPORT INITIAL_MS MAX_MS RETRANSMITS FINAL_MS [answer MS FROM] | negotiate CLIENT_ALGORITHMS CLIENT_FEATURE SERVER_ALGORITHMS SERVER_FEATURE | serve REALM\n";
 
 /// Runs the command that the words name. For wrong words it writes the usage to `errors`, and does
 /// nothing else.
@@ -49,7 +49,13 @@ fn run<R: CountedRead, W: Write, E: Write>(
 ) -> Status
     ensures other_command { IfNone (words_of_check words.now) (IfNone (words_of_schedule words.now) (IfNone (words_of_negotiate words.now) (IfNone (words_of_serve words.now) (result ≡ Status.WrongWords)))) }
     ensures wrong_words { IfSome (words_of_check words.now) (λ others. (result ≡ Status.WrongWords) ↔ (length others ≢ 1)) }
+    ensures wrong_settings { IfSome (words_of_schedule words.now)
+        (λ others. length others ≢ 5 → length others ≢ 8 → result ≡ Status.WrongWords) }
+    ensures wrong_sides { IfSome (words_of_negotiate words.now)
+        (λ others. length others ≢ 4 → result ≡ Status.WrongWords) }
     ensures wrong_realm { IfSome (words_of_serve words.now) (λ others. (result ≡ Status.WrongWords) ↔ (length others ≢ 1)) }
+    ensures unread { IfSome (words_of_schedule words.now) (λ _. reader.new ≡ reader.old)
+        × IfSome (words_of_negotiate words.now) (λ _. reader.new ≡ reader.old) }
     ensures untouched { result ≡ Status.WrongWords → (reader.new ≡ reader.old) × (writer.new ≡ writer.old) }
     ensures usage { result ≡ Status.WrongWords → AppendsUnlessFailed (E.contents errors.old) (E.contents errors.new) usage_line }
     ensures silent { result ≢ Status.WrongWords → errors.new ≡ errors.old }
@@ -92,14 +98,14 @@ fn words_of(rt: &(impl std::rt::Env + AllocGlobal)) -> Result<Vec<String>, Failu
 
 fn main(rt: HostRuntime) -> ExitCode {
     let Ok(words) = words_of(&rt) else {
-        return ExitCode::from(Status::Failed.code());
+        return Status::Failed.code();
     };
-    let status = run(
+    run(
         rt.alloc(),
         words.as_slice(),
-        &mut Uncounted(rt.reader()),
+        &mut Counted::new(rt.reader()),
         &mut io::writer(&rt),
         &mut rt.stderr(),
-    );
-    ExitCode::from(status.code())
+    )
+    .code()
 }

@@ -1,10 +1,10 @@
 //! The command `schedule`.
-ghost use Rattle.std.specs.Prelude.{◌≡◌, ◌≢◌, length, IfSome};
+ghost use Rattle.std.specs.Prelude.{◌≡◌, ◌≢◌, None, length};
 
 use crate::input::{CountedRead, Failure};
 use crate::output::write_text;
 use crate::status::Status;
-use crate::words::number;
+use crate::words::{address, moment, number};
 use std::alloc::{Allocator, Global};
 use std::io::Write;
 use std::net::{IpAddr, Ipv4Addr, SocketAddr};
@@ -13,13 +13,15 @@ use stun_proto::Instant;
 use stun_proto::agent::StunAgent;
 use stun_proto::replay::{AgentEvent, AgentStep, drive};
 use stun_types::TransportType;
-use stun_types::message::{BINDING, Message, MessageWriteVec, TransactionId};
+use stun_types::message::{
+    BINDING, Message, MessageClass, MessageType, MessageWriteVec, TransactionId,
+};
 use stun_types::prelude::MessageWrite;
 
 /// The greatest number of transmissions that the command takes.
 const MOST_TRANSMISSIONS: u64 = 1000;
 
-/// When a request is sent again and given up.
+/// When a request is sent again and given up, and the response that comes, if one does.
 #[derive(Clone, Copy, Debug, PartialEq, Eq)]
 pub struct Settings {
     transport: TransportType,
@@ -27,33 +29,48 @@ pub struct Settings {
     max: Duration,
     retransmits: u32,
     final_wait: Duration,
+    response: Option<Response>,
 }
 
-/// Prints when a request that is never answered is sent, and when it times out: one Binding request with id 1 at
-/// moment 0 (RFC 8489, sections 6.2.1 and 6.2.2), a line `sent MS` for each transmission and last `timed out MS`, in
-/// whole milliseconds rounded down.
+/// When a response comes, and from where.
+#[derive(Clone, Copy, Debug, PartialEq, Eq)]
+pub struct Response {
+    at: Instant,
+    from: SocketAddr,
+}
+
+/// Prints when a request is sent, and when it times out: one Binding request with id 1 at moment 0, from 10.0.0.1:12345 to
+/// 10.0.0.2:3478 (RFC 8489, sections 6.2.1 and 6.2.2). There is a line `sent MS` for each transmission and last
+/// `timed out MS`, in whole milliseconds rounded down.
 ///
 /// The words are the transport, `udp` or `tcp`, the wait after the first transmission in milliseconds, the longest
 /// wait between two in milliseconds or `-` for none, the number of transmissions, at most 1000, and the wait after
-/// the last one in milliseconds. Other words are wrong; then nothing is read or printed. Where a write fails or
-/// memory is wanting it answers `Failed`, and nothing more is printed. Nothing is read.
+/// the last one in milliseconds. Then may come `answer`, a moment in milliseconds up to `Instant::MAX`, and an IPv4 address
+/// with a port: at that moment a success response with id 1 comes from there. There is a line `received MS` for it in its
+/// place where it ends the request, and nothing after that, or else `ignored MS`.
+///
+/// Other words are wrong; then nothing is read or printed. Where a write or an allocation fails it answers `Failed`, and
+/// nothing more is printed. Nothing is read.
 pub fn schedule<R: CountedRead, W: Write>(
     alloc: Global,
     words: &[String],
     _reader: &mut R,
     writer: &mut W,
 ) -> Status
-    ensures other_count { length words.now ≢ 5 → result ≡ Status.WrongWords }
+    ensures other_count { length words.now ≢ 5 → length words.now ≢ 8 → result ≡ Status.WrongWords }
     ensures untouched { result ≡ Status.WrongWords → writer.new ≡ writer.old }
     ensures unread { _reader.new ≡ _reader.old }
 {
     let Some(settings) = settings_of(words) else {
         return Status::WrongWords;
     };
-    let Ok(request) = binding_request(alloc) else {
+    let (Ok(request), Ok(response)) = (
+        binding_message(alloc, MessageClass::Request),
+        binding_message(alloc, MessageClass::Success),
+    ) else {
         return Status::Failed;
     };
-    match print_schedule(alloc, settings, request, writer) {
+    match print_schedule(alloc, settings, request, response, writer) {
         Ok(()) => Status::Answered,
         Err(Failure) => Status::Failed,
     }
@@ -61,33 +78,42 @@ pub fn schedule<R: CountedRead, W: Write>(
 
 /// The settings that the words name, if they name some.
 pub fn settings_of(words: &[String]) -> Option<Settings>
-    ensures { IfSome result (λ _. length words.now ≡ 5) }
+    ensures { length words.now ≢ 5 → length words.now ≢ 8 → result ≡ None }
 {
-    let [transport, initial, max, retransmits, final_wait] = words else {
+    let [
+        transport,
+        initial,
+        max,
+        retransmits,
+        final_wait,
+        others @ ..,
+    ] = words
+    else {
         return None;
+    };
+    let response = match others {
+        [] => None,
+        [answer, at, from] if answer.as_str() == "answer" => {
+            Some(response_of(at.as_str(), from.as_str())?)
+        }
+        _ => return None,
     };
     let transport = match transport.as_str() {
         "udp" => TransportType::Udp,
         "tcp" => TransportType::Tcp,
         _ => return None,
     };
-    let initial = milliseconds(initial.as_str())?;
-    let max = if max.as_str() == "-" {
-        Duration::MAX
-    } else {
-        milliseconds(max.as_str())?
-    };
     let retransmits = number(retransmits.as_str())?;
     if retransmits > MOST_TRANSMISSIONS {
         return None;
     }
-    let final_wait = milliseconds(final_wait.as_str())?;
     Some(Settings {
         transport,
-        initial,
-        max,
+        initial: milliseconds(initial.as_str())?,
+        max: longest_wait(max.as_str())?,
         retransmits: retransmits as u32,
-        final_wait,
+        final_wait: milliseconds(final_wait.as_str())?,
+        response,
     })
 }
 
@@ -95,14 +121,59 @@ fn milliseconds(word: &str) -> Option<Duration> {
     Some(Duration::from_millis(number(word)?))
 }
 
-/// A line for each step of a request.
+/// Milliseconds, or `-` for no limit.
+fn longest_wait(word: &str) -> Option<Duration> {
+    if word == "-" {
+        Some(Duration::MAX)
+    } else {
+        milliseconds(word)
+    }
+}
+
+fn response_of(at: &str, from: &str) -> Option<Response> {
+    Some(Response {
+        at: moment(at)?,
+        from: address(from)?,
+    })
+}
+
+/// A line for each step of a request, and of the response if one comes.
 pub fn print_schedule<W: Write, A: Allocator + Copy>(
     alloc: A,
     settings: Settings,
     request: Vec<u8>,
+    response: Vec<u8>,
     writer: &mut W,
 ) -> Result<(), Failure> {
-    let local = SocketAddr::new(IpAddr::V4(Ipv4Addr::new(10, 0, 0, 1)), 3478);
+    let steps = steps_of(alloc, settings, request, response)?;
+    for step in &steps {
+        match step {
+            AgentStep::Transmitted { at, .. } => {
+                print_line(alloc, "sent", *at, writer)?;
+            }
+            AgentStep::TimedOut { at, .. } => {
+                print_line(alloc, "timed out", *at, writer)?;
+            }
+            AgentStep::Received { at, accepted: true } => {
+                print_line(alloc, "received", *at, writer)?;
+            }
+            AgentStep::Received { at, .. } => {
+                print_line(alloc, "ignored", *at, writer)?;
+            }
+            _ => {}
+        }
+    }
+    Ok(())
+}
+
+/// What an agent does that sends the request at 0, and gets the response if the settings name one.
+fn steps_of<A: Allocator + Copy>(
+    alloc: A,
+    settings: Settings,
+    request: Vec<u8>,
+    response: Vec<u8>,
+) -> Result<Vec<AgentStep<A>, A>, Failure> {
+    let local = SocketAddr::new(IpAddr::V4(Ipv4Addr::new(10, 0, 0, 1)), 12345);
     let to = SocketAddr::new(IpAddr::V4(Ipv4Addr::new(10, 0, 0, 2)), 3478);
     let mut agent = StunAgent::builder(alloc, settings.transport, local)
         .request_retransmits(
@@ -112,31 +183,29 @@ pub fn print_schedule<W: Write, A: Allocator + Copy>(
             settings.final_wait,
         )
         .build();
-    let events = [(
-        Instant::ZERO,
-        AgentEvent::SendRequest { bytes: request, to },
-    )];
-    let Ok(steps) = drive(alloc, &mut agent, &events, Instant::MAX) else {
-        return Err(Failure);
-    };
-    for step in &steps {
-        match step {
-            AgentStep::Transmitted { at, .. } => {
-                print_line(alloc, "sent", *at, writer)?;
-            }
-            AgentStep::TimedOut { at, .. } => {
-                print_line(alloc, "timed out", *at, writer)?;
-            }
-            _ => {}
+    let sending = AgentEvent::SendRequest { bytes: request, to };
+    let driven = match settings.response {
+        None => {
+            let events = [(Instant::ZERO, sending)];
+            drive(alloc, &mut agent, &events, Instant::MAX)
         }
-    }
-    Ok(())
+        Some(Response { at, from }) => {
+            let receiving = AgentEvent::Receive {
+                bytes: response,
+                from,
+            };
+            let events = [(Instant::ZERO, sending), (at, receiving)];
+            drive(alloc, &mut agent, &events, Instant::MAX)
+        }
+    };
+    driven.map_err(|_| Failure)
 }
 
-/// A Binding request with id 1.
-pub fn binding_request(alloc: Global) -> Result<Vec<u8>, Failure> {
+/// A Binding message of this class with id 1, without attributes.
+pub fn binding_message(alloc: Global, class: MessageClass) -> Result<Vec<u8>, Failure> {
     let id = TransactionId::from_u128(1).ok_or(Failure)?;
-    match Message::builder_request(BINDING, id, MessageWriteVec::new(alloc)) {
+    let kind = MessageType::from_class_method(class, BINDING);
+    match Message::builder(kind, id, MessageWriteVec::new(alloc)) {
         Ok(writer) => Ok(writer.finish()),
         Err(_) => Err(Failure),
     }

@@ -1,16 +1,11 @@
 //! The script of `serve`: a call of a server in each line that is not empty.
 
 use crate::input::Failure;
-use crate::words::{algorithm, feature, number};
+use crate::words::{address, algorithm, feature, moment, number};
 use hex::FromHexError;
 use std::alloc::{AllocError, Global};
-use std::net::{SocketAddr, SocketAddrV4};
 use std::time::Duration;
-use stun_proto::Instant;
 use stun_proto::replay::ServerCall;
-
-/// The nanoseconds of a millisecond.
-const NANOS_PER_MILLI: u64 = 1_000_000;
 
 /// What a script is.
 #[derive(Debug, Drop)]
@@ -75,6 +70,7 @@ fn call_of(
         "anonymous" => Ok(anonymous(arguments)),
         "remove-client" => Ok(remove_client(arguments)),
         "expiry" => Ok(expiry(arguments)),
+        "forget" => Ok(forget(arguments)),
         _ => Ok(None),
     }
 }
@@ -164,20 +160,11 @@ fn expiry(arguments: &[&str]) -> Option<ServerCall> {
     Some(ServerCall::SetExpiry(Duration::from_secs(number(seconds)?)))
 }
 
-/// An IPv4 address and a port, both without leading zeros.
-fn address(word: &str) -> Option<SocketAddr> {
-    let (_, port) = word.split_once(':')?;
-    if port.len() > 1 && port.starts_with('0') {
+fn forget(arguments: &[&str]) -> Option<ServerCall> {
+    let [milliseconds] = arguments else {
         return None;
-    }
-    let address = word.parse::<SocketAddrV4>().ok()?;
-    Some(SocketAddr::V4(address))
-}
-
-/// A moment in whole milliseconds, up to `Instant::MAX`.
-fn moment(word: &str) -> Option<Instant> {
-    let nanos = number(word)?.checked_mul(NANOS_PER_MILLI)?;
-    Some(Instant::from_nanos(nanos))
+    };
+    Some(ServerCall::ForgetExpired(moment(milliseconds)?))
 }
 
 /// Sixteen random words, each spelled by the letter that a nonce has for it.

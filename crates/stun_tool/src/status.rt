@@ -1,6 +1,9 @@
 //! The exit statuses of the program.
 ghost use Rattle.std.specs.Prelude.{◌≡◌};
+ghost use Rattle.std.specs.Process.{exit_status};
 ghost use Rattle.stun_tool.specs.Status.{code_of};
+
+use std::process::ExitCode;
 
 /// How a command ended.
 #[derive(Clone, Copy, Debug, PartialEq, Eq)]
@@ -17,14 +20,13 @@ pub enum Status {
 
 impl Status {
     /// The exit status of the process.
-    pub fn code(self) -> u8
-        ensures { result ≡ code_of self }
+    pub fn code(self) -> ExitCode
+        ensures { exit_status result ≡ code_of self }
     {
-        match self {
+        ExitCode::from(match self {
             Status::Answered => 0,
-            Status::Refused => 1,
-            Status::Failed => 1,
+            Status::Refused | Status::Failed => 1,
             Status::WrongWords => 2,
-        }
+        })
     }
 }

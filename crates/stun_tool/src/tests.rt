@@ -5,7 +5,7 @@ mod schedule;
 mod serve;
 
 use crate::check::check;
-use crate::input::{Failure, Uncounted};
+use crate::input::{Counted, Failure};
 use crate::run;
 use crate::status::Status;
 use fail_alloc::RefusingAllocator;
@@ -64,7 +64,7 @@ fn expect_lines(
     let password = words(alloc, &[password])?;
     for (input, status, line) in table {
         let mut writer = Vec::new(alloc);
-        let mut reader = Uncounted(input.as_bytes());
+        let mut reader = Counted::new(input.as_bytes());
         let answer = check(alloc, password.as_slice(), &mut reader, &mut writer);
         assert_eq!(rt; answer, *status, "at {input}");
         assert_eq!(rt; writer.as_slice(), line.as_bytes(), "at {input}");
@@ -210,12 +210,12 @@ fn wrong_words(rt: HostRuntime) -> Result<(), Fail> {
             &mut writer,
             &mut errors,
         );
-        assert_eq!(rt; status.code(), 2);
+        assert_eq!(rt; status, Status::WrongWords);
         assert_eq!(rt; reader.asked, 0);
         assert!(rt; writer.is_empty());
         assert_eq!(rt;
             errors.as_slice(),
-            b"usage: stun_tool check PASSWORD | schedule TRANSPORT INITIAL_MS MAX_MS RETRANSMITS FINAL_MS | negotiate CLIENT_ALGORITHMS CLIENT_FEATURE SERVER_ALGORITHMS SERVER_FEATURE | serve REALM\n".as_slice()
+            b"usage: stun_tool check PASSWORD | schedule TRANSPORT INITIAL_MS MAX_MS RETRANSMITS FINAL_MS [answer MS FROM] | negotiate CLIENT_ALGORITHMS CLIENT_FEATURE SERVER_ALGORITHMS SERVER_FEATURE | serve REALM\n".as_slice()
         );
     }
     Ok(())
@@ -230,11 +230,11 @@ fn right_words(rt: HostRuntime) -> Result<(), Fail> {
     let status = run(
         alloc,
         given.as_slice(),
-        &mut Uncounted(SAMPLE_REQUEST.as_bytes()),
+        &mut Counted::new(SAMPLE_REQUEST.as_bytes()),
         &mut writer,
         &mut errors,
     );
-    assert_eq!(rt; status.code(), 0);
+    assert_eq!(rt; status, Status::Answered);
     assert_eq!(rt; writer.as_slice(), SAMPLE_LINE);
     assert!(rt; errors.is_empty());
     Ok(())
@@ -247,12 +247,13 @@ fn a_reader_without_end(rt: HostRuntime) -> Result<(), Fail> {
     let mut writer = Vec::new(alloc);
     let mut reader = EndlessReader { asked: 0 };
     let status = check(alloc, password.as_slice(), &mut reader, &mut writer);
-    assert_eq!(rt; status.code(), 1);
+    assert_eq!(rt; status, Status::Failed);
     assert_eq!(rt; reader.asked, 1_048_576);
-    let mut reader = InterruptedReader { asked: 0 };
+    // An interrupted read counts, and is not tried again within one count.
+    let mut reader = Counted::new(InterruptedReader { asked: 0 });
     let status = check(alloc, password.as_slice(), &mut reader, &mut writer);
-    assert_eq!(rt; status.code(), 1);
-    assert_eq!(rt; reader.asked, 1_048_576);
+    assert_eq!(rt; status, Status::Failed);
+    assert_eq!(rt; reader.reader.asked, 1_048_576);
     assert!(rt; writer.is_empty());
     Ok(())
 }
@@ -263,7 +264,7 @@ fn a_reader_that_fails(rt: HostRuntime) -> Result<(), Fail> {
     let password = words(alloc, &[SAMPLE_PASSWORD])?;
     for left in 0..50 {
         let mut writer = Vec::new(alloc);
-        let mut reader = Uncounted(FailingReader { left });
+        let mut reader = Counted::new(FailingReader { left });
         let status = check(alloc, password.as_slice(), &mut reader, &mut writer);
         assert_eq!(rt; status, Status::Failed);
         assert!(rt; writer.is_empty());
@@ -275,7 +276,7 @@ fn a_reader_that_fails(rt: HostRuntime) -> Result<(), Fail> {
 fn byte_by_byte(rt: HostRuntime) -> Result<(), Fail> {
     let alloc = rt.alloc();
     let password = words(alloc, &[SAMPLE_PASSWORD])?;
-    let mut reader = Uncounted(SlowReader {
+    let mut reader = Counted::new(SlowReader {
         rest: SAMPLE_REQUEST.as_bytes(),
         is_interrupted: false,
     });
@@ -296,7 +297,7 @@ fn a_writer_that_stops(rt: HostRuntime) -> Result<(), Fail> {
         WriteEnd::IsInterrupted,
     ] {
         for left in [0, 1, 23, 24] {
-            let mut reader = Uncounted(SAMPLE_REQUEST.as_bytes());
+            let mut reader = Counted::new(SAMPLE_REQUEST.as_bytes());
             let mut writer = slow_writer(alloc, left, end);
             let status = check(alloc, password.as_slice(), &mut reader, &mut writer);
             if left < 24 {
@@ -318,7 +319,7 @@ fn each_allocation_refused(rt: HostRuntime) -> Result<(), Fail> {
     let heap = RefusingAllocator::new(alloc);
     for nth in 1..100 {
         heap.refuse(nth);
-        let mut reader = Uncounted(SAMPLE_REQUEST.as_bytes());
+        let mut reader = Counted::new(SAMPLE_REQUEST.as_bytes());
         let mut writer = Vec::new(alloc);
         let status = check(&heap, password.as_slice(), &mut reader, &mut writer);
         // A growth that was refused may be tried again for less.

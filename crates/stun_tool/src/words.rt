@@ -1,7 +1,12 @@
 //! What single words mean, of a command or of a script.
 
+use std::net::{SocketAddr, SocketAddrV4};
+use stun_proto::Instant;
 use stun_proto::auth::Feature;
 use stun_types::message::IntegrityAlgorithm;
+
+/// The nanoseconds of a millisecond.
+const NANOS_PER_MILLI: u64 = 1_000_000;
 
 /// The number that decimal digits spell, where it takes no more than 64 bits.
 pub fn number(word: &str) -> Option<u64> {
@@ -29,4 +34,20 @@ pub fn feature(word: &str) -> Option<Feature> {
         "disabled" => Some(Feature::Disabled),
         _ => None,
     }
+}
+
+/// An IPv4 address and a port, both without leading zeros.
+pub fn address(word: &str) -> Option<SocketAddr> {
+    let (_, port) = word.split_once(':')?;
+    if port.len() > 1 && port.starts_with('0') {
+        return None;
+    }
+    let address = word.parse::<SocketAddrV4>().ok()?;
+    Some(SocketAddr::V4(address))
+}
+
+/// A moment in whole milliseconds, up to `Instant::MAX`.
+pub fn moment(word: &str) -> Option<Instant> {
+    let nanos = number(word)?.checked_mul(NANOS_PER_MILLI)?;
+    Some(Instant::from_nanos(nanos))
 }

@@ -26,4 +26,4 @@ words_of_serve (command ∷ others) = if pointwise nat_eq (string_bytes command)
 
 -- the line for wrong words
 abbrev pub usage_line : List ℕ
-usage_line = codes "usage: stun_tool check PASSWORD | schedule TRANSPORT INITIAL_MS MAX_MS RETRANSMITS FINAL_MS | negotiate CLIENT_ALGORITHMS CLIENT_FEATURE SERVER_ALGORITHMS SERVER_FEATURE | serve REALM" ++ 10 ∷ []
+usage_line = codes "usage: stun_tool check PASSWORD | schedule TRANSPORT INITIAL_MS MAX_MS RETRANSMITS FINAL_MS [answer MS FROM] | negotiate CLIENT_ALGORITHMS CLIENT_FEATURE SERVER_ALGORITHMS SERVER_FEATURE | serve REALM" ++ 10 ∷ []

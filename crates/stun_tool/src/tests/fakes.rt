@@ -33,15 +33,7 @@ pub struct InterruptedReader {
 }
 
 impl Read for InterruptedReader {
-    fn read(&mut self, buf: &mut [u8]) -> io::Result<usize> {
-        self.ask(buf)
-    }
-}
-
-impl CountedRead for InterruptedReader {
-    ghost asked = { λ reader. reader.asked };
-
-    fn ask(&mut self, _buf: &mut [u8]) -> io::Result<usize> {
+    fn read(&mut self, _buf: &mut [u8]) -> io::Result<usize> {
         self.asked = self.asked.saturating_add(1);
         Err(io::Error::from(ErrorKind::Interrupted))
     }

@@ -1,7 +1,7 @@
 //! The lines of `negotiate`, its wrong words, and memory and writers that fail.
 use super::fakes::{EndlessReader, WriteEnd};
 use super::{slow_writer, words};
-use crate::input::Uncounted;
+use crate::input::Counted;
 use crate::negotiate::negotiate;
 use crate::status::Status;
 use fail_alloc::RefusingAllocator;
@@ -100,7 +100,7 @@ fn a_writer_that_stops(rt: HostRuntime) -> Result<(), Fail> {
     let alloc = rt.alloc();
     let given = words(alloc, BOTH)?;
     for left in 0..BOTH_LINE.len() {
-        let mut reader = Uncounted(b"".as_slice());
+        let mut reader = Counted::new(b"".as_slice());
         let mut writer = slow_writer(alloc, left as u32, WriteEnd::Fails);
         let status = negotiate(alloc, given.as_slice(), &mut reader, &mut writer);
         assert_eq!(rt; status, Status::Failed, "after {left}");
@@ -116,7 +116,7 @@ fn each_allocation_refused(rt: HostRuntime) -> Result<(), Fail> {
     let heap = RefusingAllocator::new(alloc);
     for nth in 1..400 {
         heap.refuse(nth);
-        let mut reader = Uncounted(b"".as_slice());
+        let mut reader = Counted::new(b"".as_slice());
         let mut writer = Vec::new(alloc);
         let status = negotiate(&heap, given.as_slice(), &mut reader, &mut writer);
         // A growth that was refused may be tried again for less.

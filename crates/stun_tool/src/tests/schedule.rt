@@ -1,11 +1,12 @@
 //! The lines of `schedule`, its wrong words, and a writer that fails.
 use super::fakes::{EndlessReader, WriteEnd};
 use super::{expect_beginning, slow_writer, words};
-use crate::input::Uncounted;
-use crate::schedule::{binding_request, print_schedule, schedule, settings_of};
+use crate::input::Counted;
+use crate::schedule::{binding_message, print_schedule, schedule, settings_of};
 use crate::status::Status;
 use fail_alloc::RefusingAllocator;
 use std::test::Fail;
+use stun_types::message::MessageClass;
 
 /// A request of the default settings over UDP (RFC 8489, section 6.2.1).
 const DEFAULT_LINES: &str =
@@ -17,7 +18,7 @@ const DEFAULT_WORDS: &[&str] = &["udp", "500", "-", "7", "8000"];
 #[test]
 fn prints_each_moment(rt: HostRuntime) -> Result<(), Fail> {
     let alloc = rt.alloc();
-    let table: [(&[&str], &str); 8] = [
+    let table: [(&[&str], &str); 12] = [
         (&["udp", "500", "-", "7", "8000"], DEFAULT_LINES),
         (&["udp", "0500", "-", "007", "8000"], DEFAULT_LINES),
         (
@@ -38,11 +39,63 @@ fn prints_each_moment(rt: HostRuntime) -> Result<(), Fail> {
             "sent 0\nsent 18446744073709\ntimed out 18446744073709\n",
         ),
         (&["tcp", "1", "-", "2", "1000"], "sent 0\ntimed out 1001\n"),
+        (
+            &[
+                "udp",
+                "500",
+                "-",
+                "7",
+                "8000",
+                "answer",
+                "1000",
+                "10.0.0.2:3478",
+            ],
+            "sent 0\nsent 500\nreceived 1000\n",
+        ),
+        (
+            &[
+                "udp",
+                "500",
+                "-",
+                "7",
+                "8000",
+                "answer",
+                "1000",
+                "10.0.0.3:3478",
+            ],
+            "sent 0\nsent 500\nignored 1000\nsent 1500\nsent 3500\nsent 7500\nsent 15500\nsent 31500\ntimed out 39500\n",
+        ),
+        (
+            &[
+                "udp",
+                "500",
+                "-",
+                "7",
+                "8000",
+                "answer",
+                "500",
+                "10.0.0.2:3478",
+            ],
+            "sent 0\nreceived 500\n",
+        ),
+        (
+            &[
+                "udp",
+                "500",
+                "-",
+                "7",
+                "8000",
+                "answer",
+                "40000",
+                "10.0.0.2:3478",
+            ],
+            "sent 0\nsent 500\nsent 1500\nsent 3500\nsent 7500\nsent 15500\nsent 31500\ntimed out 39500\nignored 40000\n",
+        ),
     ];
     for (texts, lines) in &table {
         let given = words(alloc, texts)?;
         let mut writer = Vec::new(alloc);
-        let mut reader = Uncounted(b"".as_slice());
+        let mut reader = Counted::new(b"".as_slice());
         let status = schedule(alloc, given.as_slice(), &mut reader, &mut writer);
         assert_eq!(rt; status, Status::Answered, "at {lines}");
         assert_eq!(rt; writer.as_slice(), lines.as_bytes(), "at {lines}");
@@ -53,7 +106,7 @@ fn prints_each_moment(rt: HostRuntime) -> Result<(), Fail> {
 #[test]
 fn finds_wrong_words_first(rt: HostRuntime) -> Result<(), Fail> {
     let alloc = rt.alloc();
-    let table: [&[&str]; 13] = [
+    let table: [&[&str]; 16] = [
         &["udp", "500", "-", "1001", "8000"],
         &["udp", "500", "-", "-", "8000"],
         &["UDP", "500", "-", "7", "8000"],
@@ -66,6 +119,27 @@ fn finds_wrong_words_first(rt: HostRuntime) -> Result<(), Fail> {
         &["udp", "-1", "-", "7", "8000"],
         &["udp", "18446744073709551616", "-", "7", "8000"],
         &["udp", "500", "0x10", "7", "8000"],
+        &["udp", "500", "-", "7", "8000", "answer", "1000"],
+        &[
+            "udp",
+            "500",
+            "-",
+            "7",
+            "8000",
+            "reply",
+            "1000",
+            "10.0.0.2:3478",
+        ],
+        &[
+            "udp",
+            "500",
+            "-",
+            "7",
+            "8000",
+            "answer",
+            "18446744073710",
+            "10.0.0.2:3478",
+        ],
         &[],
     ];
     for texts in &table {
@@ -85,7 +159,7 @@ fn a_writer_that_stops(rt: HostRuntime) -> Result<(), Fail> {
     let alloc = rt.alloc();
     let given = words(alloc, DEFAULT_WORDS)?;
     for left in 0..=DEFAULT_LINES.len() {
-        let mut reader = Uncounted(b"".as_slice());
+        let mut reader = Counted::new(b"".as_slice());
         let mut writer = slow_writer(alloc, left as u32, WriteEnd::TakesNothing);
         let status = schedule(alloc, given.as_slice(), &mut reader, &mut writer);
         if left < DEFAULT_LINES.len() {
@@ -109,10 +183,15 @@ fn each_allocation_refused(rt: HostRuntime) -> Result<(), Fail> {
     let settings = settings_of(words(alloc, DEFAULT_WORDS)?.as_slice()).ok_or("right words")?;
     let heap = RefusingAllocator::new(alloc);
     for nth in 1..200 {
-        let request = binding_request(alloc).ok().ok_or("ample memory")?;
+        let request = binding_message(alloc, MessageClass::Request)
+            .ok()
+            .ok_or("ample memory")?;
+        let response = binding_message(alloc, MessageClass::Success)
+            .ok()
+            .ok_or("ample memory")?;
         let mut writer = Vec::new(alloc);
         heap.refuse(nth);
-        let answer = print_schedule(&heap, settings, request, &mut writer);
+        let answer = print_schedule(&heap, settings, request, response, &mut writer);
         assert!(rt; answer.is_ok() || !heap.is_waiting());
         expect_beginning(&rt, answer, writer.as_slice(), DEFAULT_LINES);
         if heap.is_waiting() {

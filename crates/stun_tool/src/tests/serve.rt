@@ -1,7 +1,7 @@
 //! The lines of `serve`: a worked script, the first wrong line, and words, readers and writers that fail.
 use super::fakes::{EndlessReader, FailingReader, SlowReader, WriteEnd};
 use super::{expect_beginning, slow_writer, words};
-use crate::input::Uncounted;
+use crate::input::Counted;
 use crate::script::{Script, read_script};
 use crate::serve::{print_replies, serve};
 use crate::status::Status;
@@ -24,11 +24,30 @@ signed 0111004c2112a4420000000000000000000000010009001000000401556e617574686f726
 too short
 ";
 
+/// A nonce that ends at 3600 s, forgotten at that moment and after it.
+const FORGETTING: &str = "user user pass
+validate 10.0.0.1:12345 0 AAAAAAAAAAAAAAAA 000100002112a442000000000000000000000001
+forget 3600000
+sign 10.0.0.1:12345 011100142112a4420000000000000000000000010009001000000401556e617574686f72697a6564
+forget 3600001
+sign 10.0.0.1:12345 011100142112a4420000000000000000000000010009001000000401556e617574686f72697a6564
+";
+
+/// The lines for it: the nonce is there at its end, and not after it.
+const FORGOTTEN: &str = "ok
+refused Unauthorized
+ok
+signed 0111004c2112a4420000000000000000000000010009001000000401556e617574686f72697a65640015001d6f624d61744a6f73325141414141414141414141414141414141414141000000001400057265616c6d0000008002000400010000
+ok
+signed 011100142112a4420000000000000000000000010009001000000401556e617574686f72697a6564
+";
+
 #[test]
 fn prints_each_reply(rt: HostRuntime) -> Result<(), Fail> {
     let alloc = rt.alloc();
     let table = [
         (SCRIPT, Status::Answered, LINES),
+        (FORGETTING, Status::Answered, FORGOTTEN),
         ("", Status::Answered, ""),
         ("\n\n", Status::Answered, ""),
         (
@@ -104,7 +123,7 @@ fn prints_each_reply(rt: HostRuntime) -> Result<(), Fail> {
     for (script, status, lines) in &table {
         let given = words(alloc, &["realm"])?;
         let mut writer = Vec::new(alloc);
-        let mut reader = Uncounted(script.as_bytes());
+        let mut reader = Counted::new(script.as_bytes());
         let answer = serve(alloc, given.as_slice(), &mut reader, &mut writer);
         assert_eq!(rt; answer, *status, "at {script}");
         assert_eq!(rt; writer.as_slice(), lines.as_bytes(), "at {script}");
@@ -117,7 +136,7 @@ fn refuses_bytes_that_are_no_text(rt: HostRuntime) -> Result<(), Fail> {
     let alloc = rt.alloc();
     let given = words(alloc, &["realm"])?;
     let mut writer = Vec::new(alloc);
-    let mut reader = Uncounted(b"user a b\nuser \xff b\n" as &[u8]);
+    let mut reader = Counted::new(b"user a b\nuser \xff b\n" as &[u8]);
     let answer = serve(alloc, given.as_slice(), &mut reader, &mut writer);
     assert_eq!(rt; answer, Status::Refused);
     assert_eq!(rt; writer.as_slice(), b"wrong line 2\n".as_slice());
@@ -129,7 +148,7 @@ fn byte_by_byte(rt: HostRuntime) -> Result<(), Fail> {
     let alloc = rt.alloc();
     let given = words(alloc, &["realm"])?;
     // The last line ends with the input.
-    let mut reader = Uncounted(SlowReader {
+    let mut reader = Counted::new(SlowReader {
         rest: SCRIPT.trim_end().as_bytes(),
         is_interrupted: false,
     });
@@ -145,7 +164,7 @@ fn a_reader_that_fails(rt: HostRuntime) -> Result<(), Fail> {
     let alloc = rt.alloc();
     let given = words(alloc, &["realm"])?;
     let mut writer = Vec::new(alloc);
-    let mut reader = Uncounted(FailingReader { left: 20 });
+    let mut reader = Counted::new(FailingReader { left: 20 });
     let status = serve(alloc, given.as_slice(), &mut reader, &mut writer);
     assert_eq!(rt; status, Status::Failed);
     let mut reader = EndlessReader { asked: 0 };
@@ -161,7 +180,7 @@ fn a_writer_that_stops(rt: HostRuntime) -> Result<(), Fail> {
     let alloc = rt.alloc();
     let given = words(alloc, &["realm"])?;
     for left in 0..LINES.len() {
-        let mut reader = Uncounted(SCRIPT.as_bytes());
+        let mut reader = Counted::new(SCRIPT.as_bytes());
         let mut writer = slow_writer(alloc, left as u32, WriteEnd::Fails);
         let status = serve(alloc, given.as_slice(), &mut reader, &mut writer);
         assert_eq!(rt; status, Status::Failed, "after {left}");

@@ -1,0 +1,166 @@
+//! The calls of an agent with many outstanding requests.
+
+use crate::messages::{address, id_of, message, messages, moment};
+use std::alloc::Global;
+use std::time::Duration;
+use stun_proto::Instant;
+use stun_proto::agent::{StunAgent, StunAgentPollRet};
+use stun_types::TransportType;
+use stun_types::message::{Message, MessageClass};
+
+/// When the first transmissions are due, in microseconds after the requests were sent.
+const FIRST_TIMEOUT: u32 = 500_000;
+
+/// When requests end that are sent once, likewise.
+const LAST_WAIT: u32 = 8_000_000;
+
+/// A call, and the state that it meets.
+#[derive(Clone, Copy, Debug, PartialEq, Eq)]
+pub enum Call {
+    /// `poll`, where nothing is due.
+    Poll,
+    /// `poll_transmit`, where nothing is due.
+    PollTransmit,
+    /// `next_awaited`.
+    NextAwaited,
+    /// `poll_transmit`, where one request more is due each time.
+    TransmitsOne,
+    /// `poll_transmit`, where all requests are due.
+    TransmitsOfAll,
+    /// `poll`, where one request more is at its end each time.
+    EndsOne,
+    /// `poll`, where all requests are at their ends.
+    EndsOfAll,
+    /// `send_request` after the others.
+    SendsLast,
+    /// `send_request` at a moment before the others.
+    SendsFirst,
+    /// A response to an outstanding request.
+    Responds,
+    /// A response to no request.
+    RespondsToNone,
+    /// A request from a new peer.
+    Receives,
+    /// `cancel`.
+    Cancels,
+    /// `cancel_retransmissions`.
+    Silences,
+    /// `configure_timeout`.
+    Configures,
+    /// `request_transaction`.
+    Finds,
+}
+
+/// The call of a name.
+pub fn call_named(name: &str) -> Option<Call> {
+    match name {
+        "poll" => Some(Call::Poll),
+        "poll_transmit" => Some(Call::PollTransmit),
+        "next_awaited" => Some(Call::NextAwaited),
+        "transmits_one" => Some(Call::TransmitsOne),
+        "transmits_of_all" => Some(Call::TransmitsOfAll),
+        "ends_one" => Some(Call::EndsOne),
+        "ends_of_all" => Some(Call::EndsOfAll),
+        "sends_last" => Some(Call::SendsLast),
+        "sends_first" => Some(Call::SendsFirst),
+        "responds" => Some(Call::Responds),
+        "responds_to_none" => Some(Call::RespondsToNone),
+        "receives" => Some(Call::Receives),
+        "cancels" => Some(Call::Cancels),
+        "silences" => Some(Call::Silences),
+        "configures" => Some(Call::Configures),
+        "finds" => Some(Call::Finds),
+        _ => None,
+    }
+}
+
+/// How many of so many calls did what they were to do, at an agent with so many outstanding requests.
+pub fn count_of(alloc: Global, call: Call, size: u32, times: u32) -> Option<u32> {
+    let is_sent_once = matches!(call, Call::EndsOne | Call::EndsOfAll);
+    let mut agent = agent_of(alloc, is_sent_once, size)?;
+    let (class, first) = match call {
+        Call::Responds => (MessageClass::Success, 0),
+        Call::RespondsToNone => (MessageClass::Success, size),
+        _ => (MessageClass::Request, size),
+    };
+    let messages = messages(alloc, class, first)?;
+    let mut done: u32 = 0;
+    for turn in 0..times {
+        let bytes = match messages.get(turn as usize) {
+            Some(bytes) => bytes.as_slice(),
+            None => &[],
+        };
+        if is_done(&mut agent, call, size, turn, bytes) {
+            done = done.saturating_add(1);
+        }
+    }
+    Some(done)
+}
+
+/// An agent that has sent a request in each microsecond.
+fn agent_of(alloc: Global, is_sent_once: bool, size: u32) -> Option<StunAgent> {
+    let mut builder = StunAgent::builder(alloc, TransportType::Udp, address(1));
+    if is_sent_once {
+        let (initial, last) = (Duration::from_millis(500), Duration::from_secs(8));
+        builder = builder.request_retransmits(initial, Duration::MAX, 1, last);
+    }
+    let mut agent = builder.build();
+    for number in 0..size {
+        let request = message(alloc, MessageClass::Request, number)?;
+        agent
+            .send_request(request, address(0), moment(number.saturating_add(1)))
+            .ok()?;
+    }
+    Some(agent)
+}
+
+/// Makes the call, and tells whether it did what it was to do.
+fn is_done(agent: &mut StunAgent, call: Call, size: u32, turn: u32, bytes: &[u8]) -> bool {
+    let after = |wait: u32, number: u32| moment(number.saturating_add(1).saturating_add(wait));
+    match call {
+        Call::Poll => is_waiting(agent.poll(moment(size))),
+        Call::PollTransmit => agent.poll_transmit(moment(size)).is_none(),
+        Call::NextAwaited => agent.next_awaited().is_some(),
+        Call::TransmitsOne => agent.poll_transmit(after(FIRST_TIMEOUT, turn)).is_some(),
+        Call::TransmitsOfAll => agent.poll_transmit(after(FIRST_TIMEOUT, size)).is_some(),
+        Call::EndsOne => !is_waiting(agent.poll(after(LAST_WAIT, turn))),
+        Call::EndsOfAll => !is_waiting(agent.poll(after(LAST_WAIT, size))),
+        Call::SendsLast => agent.send_request(bytes, address(0), moment(size)).is_ok(),
+        Call::SendsFirst => agent.send_request(bytes, address(0), Instant::ZERO).is_ok(),
+        Call::Responds => receives(agent, bytes, 0),
+        Call::RespondsToNone => !receives(agent, bytes, 0),
+        Call::Receives => receives(agent, bytes, turn),
+        _ => changes(agent, call, turn),
+    }
+}
+
+fn is_waiting(answer: StunAgentPollRet) -> bool {
+    matches!(answer, StunAgentPollRet::WaitUntil(_))
+}
+
+/// Shows the agent a message from an address.
+fn receives(agent: &mut StunAgent, bytes: &[u8], from: u32) -> bool {
+    match Message::from_bytes(bytes) {
+        Ok(message) => agent.handle_stun_message(&message, address(from)) == Ok(true),
+        Err(_) => false,
+    }
+}
+
+/// Finds a request, and changes it if the call does.
+fn changes(agent: &mut StunAgent, call: Call, number: u32) -> bool {
+    let Some(id) = id_of(number) else {
+        return false;
+    };
+    if call == Call::Finds {
+        return agent.request_transaction(id).is_some();
+    }
+    let Some(mut request) = agent.mut_request_transaction(id) else {
+        return false;
+    };
+    match call {
+        Call::Cancels => request.cancel(),
+        Call::Silences => request.cancel_retransmissions(),
+        _ => request.configure_timeout(Duration::from_secs(1), 7, Duration::from_secs(8)),
+    }
+    true
+}

@@ -1,0 +1,118 @@
+//! The calls of a server with many users and addresses.
+
+use crate::messages::{address, id_of, message};
+use std::alloc::Global;
+use std::net::SocketAddr;
+use stun_proto::Instant;
+use stun_proto::auth::{LongTermClientAuth, LongTermServerAuth, LongTermServerValidation};
+use stun_proto::replay::WordSource;
+use stun_types::attribute::ErrorCode;
+use stun_types::message::{
+    BINDING, IntegrityAlgorithm, LongTermCredentials, Message, MessageClass, MessageWriteVec,
+};
+use stun_types::prelude::*;
+
+/// How many of so many calls did what they were to do, at a server with so many users and addresses.
+///
+/// `validates_sha1`: a request of one user, whose address has been validated; `validates_sha256`: the same with USERHASH.
+/// `forgets_all`: `forget_expired` with a nonce of each address that has ended; `forgets_none`: with none that has.
+pub fn count_of(alloc: Global, call: &str, size: u32, times: u32) -> Option<u32> {
+    match call {
+        "validates_sha1" => validations(alloc, false, size, times),
+        "validates_sha256" => validations(alloc, true, size, times),
+        "forgets_all" => forgettings(alloc, Instant::MAX, size, times),
+        "forgets_none" => forgettings(alloc, Instant::ZERO, size, times),
+        _ => None,
+    }
+}
+
+fn validations(alloc: Global, is_strong: bool, size: u32, times: u32) -> Option<u32> {
+    let mut server = server_of(alloc, is_strong, size)?;
+    let unsigned = message(alloc, MessageClass::Request, 1)?;
+    let unsigned = Message::from_bytes(unsigned.as_slice()).ok()?;
+    let refusal = challenge(alloc, &mut server, &unsigned, address(0))?;
+    let request = signed_request(alloc, is_strong, refusal.as_slice())?;
+    let request = Message::from_bytes(request.as_slice()).ok()?;
+    for number in 0..size {
+        let _refusal = challenge(alloc, &mut server, &unsigned, address(number))?;
+        if !is_validated(&mut server, &request, address(number)) {
+            return None;
+        }
+    }
+    let mut done: u32 = 0;
+    for _ in 0..times {
+        if is_validated(&mut server, &request, address(0)) {
+            done = done.saturating_add(1);
+        }
+    }
+    Some(done)
+}
+
+fn forgettings(alloc: Global, now: Instant, size: u32, times: u32) -> Option<u32> {
+    let mut server = server_of(alloc, false, 0)?;
+    let unsigned = message(alloc, MessageClass::Request, 1)?;
+    let unsigned = Message::from_bytes(unsigned.as_slice()).ok()?;
+    for number in 0..size {
+        let _refused = is_validated(&mut server, &unsigned, address(number));
+    }
+    let mut done: u32 = 0;
+    for _ in 0..times {
+        server.forget_expired(now);
+        if server.nonce_for_client(address(0)).is_none() == (now == Instant::MAX) {
+            done = done.saturating_add(1);
+        }
+    }
+    Some(done)
+}
+
+/// A server that knows so many users.
+fn server_of(alloc: Global, is_strong: bool, size: u32) -> Option<LongTermServerAuth> {
+    let mut server = LongTermServerAuth::new(alloc, String::from_str(alloc, "realm").ok()?);
+    if is_strong {
+        server.add_supported_integrity(IntegrityAlgorithm::Sha256);
+    }
+    for number in 0..size {
+        server.add_user(credentials(alloc, number)?).ok()?;
+    }
+    Some(server)
+}
+
+fn credentials(alloc: Global, number: u32) -> Option<LongTermCredentials> {
+    let name = format!(in alloc; "user{number}").ok()?;
+    Some(LongTermCredentials::new(name, String::from_str(alloc, "pass").ok()?))
+}
+
+/// The signed 401 to a request without a signature.
+fn challenge(
+    alloc: Global,
+    server: &mut LongTermServerAuth,
+    unsigned: &Message<'_>,
+    from: SocketAddr,
+) -> Option<Vec<u8>> {
+    let _refused = is_validated(server, unsigned, from);
+    let mut error = Message::builder_error(unsigned, MessageWriteVec::new(alloc)).ok()?;
+    error
+        .add_attribute(&ErrorCode::builder(ErrorCode::UNAUTHORIZED).build().ok()?)
+        .ok()?;
+    Some(server.sign_outgoing_message(error, from).ok()?.finish())
+}
+
+/// The request with which the first user answers it.
+fn signed_request(alloc: Global, is_strong: bool, challenge: &[u8]) -> Option<Vec<u8>> {
+    let mut client = LongTermClientAuth::new(alloc);
+    if is_strong {
+        client.add_supported_integrity(IntegrityAlgorithm::Sha256);
+    }
+    client.set_credentials(credentials(alloc, 0)?);
+    let challenge = Message::from_bytes(challenge).ok()?;
+    let _again = client.validate_incoming_message(&challenge).ok()?;
+    let writer = Message::builder_request(BINDING, id_of(2)?, MessageWriteVec::new(alloc)).ok()?;
+    Some(client.sign_outgoing_message(writer).ok()?.finish())
+}
+
+/// Shows the server a message from an address.
+fn is_validated(server: &mut LongTermServerAuth, message: &Message<'_>, from: SocketAddr) -> bool {
+    let mut words = WordSource::new([0; 16]);
+    let answer = server.validate_incoming_message(message, from, Instant::ZERO, &mut words);
+    matches!(answer, Ok(LongTermServerValidation::Validated(_)))
+}

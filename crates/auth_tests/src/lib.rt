@@ -14,27 +14,13 @@ mod client_steps;
 #[cfg(test)]
 mod messages;
 #[cfg(test)]
-mod nonces;
-#[cfg(test)]
 mod renewal;
-#[cfg(test)]
-mod server;
-#[cfg(test)]
-mod server_addresses;
-#[cfg(test)]
-mod server_memory;
-#[cfg(test)]
-mod server_messages;
-#[cfg(test)]
-mod server_signing;
 #[cfg(test)]
 mod server_steps;
 #[cfg(test)]
 mod short_term;
 #[cfg(test)]
 mod spelled;
-#[cfg(test)]
-mod texts;
 #[cfg(test)]
 mod unchecked;
 #[cfg(test)]

@@ -14,10 +14,6 @@ mod agent_steps;
 #[cfg(test)]
 mod agent_timeouts;
 #[cfg(test)]
-mod allocations;
-#[cfg(test)]
-mod attributes;
-#[cfg(test)]
 mod authenticator_first;
 #[cfg(test)]
 mod client_loop;
@@ -26,23 +22,11 @@ mod counted_polls;
 #[cfg(test)]
 mod dialogue;
 #[cfg(test)]
-mod digests;
-#[cfg(test)]
 mod drive;
-#[cfg(test)]
-mod error_texts;
-#[cfg(test)]
-mod headers;
-#[cfg(test)]
-mod hostile;
 #[cfg(test)]
 mod negotiate;
 #[cfg(test)]
 mod paths;
-#[cfg(test)]
-mod registry;
-#[cfg(test)]
-mod rfc5769;
 #[cfg(test)]
 mod serve;
 #[cfg(test)]
@@ -53,9 +37,3 @@ mod spelled;
 mod stats;
 #[cfg(test)]
 mod transmit;
-#[cfg(test)]
-mod values;
-#[cfg(test)]
-mod writers;
-#[cfg(test)]
-mod writing;

@@ -1,20 +1,20 @@
 //! Ids, moments and credentials: what is made of them, what they are equal by, and that `Debug` shows no secret.
-use crate::agent_steps::at;
 use crate::rfc5769::{PASSWORD, REQUEST};
-use crate::spelled::bytes_of;
 use std::alloc::Global;
 use std::test::Fail;
 use std::time::Duration;
 use stun_base::key::userhash;
-use stun_proto::replay::WordSource;
 use stun_types::message::{
     IntegrityAlgorithm, LongTermCredentials, LongTermKeyCredentials, Message,
     MessageIntegrityCredentials, ShortTermCredentials, TransactionId, ValidateError,
 };
+use test_support::datagrams::at;
+use test_support::spelled::bytes_of;
+use test_support::words::Words;
 
 #[test]
 fn an_id_is_three_words(rt: HostRuntime) {
-    let mut words = WordSource::new([
+    let mut words = Words::new([
         1,
         2,
         3,

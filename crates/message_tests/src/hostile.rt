@@ -2,7 +2,6 @@
 //!
 //! Behind MESSAGE-INTEGRITY only MESSAGE-INTEGRITY-SHA256 and FINGERPRINT count, behind that only
 //! FINGERPRINT, and behind FINGERPRINT nothing. Of two integrity attributes that count the stronger decides.
-use crate::spelled::{bytes_of, request_with};
 use std::alloc::Global;
 use std::process::Abort;
 use std::test::Fail;
@@ -10,6 +9,7 @@ use stun_types::attribute::AttributeType;
 use stun_types::message::{
     IntegrityAlgorithm, IntegrityKey, Message, StunParseError, ValidateError,
 };
+use test_support::spelled::{bytes_of, request_with};
 
 /// The key of each digest here. The digests are computed by Python's module `hmac`.
 const KEY: &[u8] = b"key";

@@ -1,10 +1,5 @@
 //! Each allocation that a server asks for refused in turn: it is then as before, and the call succeeds when it is made again.
-use crate::messages::{BOTH, FULL_NONCE, MD5_KEY, Part, begin, message};
-use crate::server_steps::{
-    Answer, BAD_REQUEST, FAILED, FULL_REQUEST, ONES, OUT_OF_MEMORY, SHA1, SHA256, STALE_NONCE,
-    UNAUTHORIZED, ZEROS, address, asked, expect_answer, expect_nonce, expect_sizes, full_server,
-    knocked, offering_server, signed_challenge, signed_for, user,
-};
+use crate::expect::{expect_answer, expect_nonce, expect_sizes};
 use fail_alloc::RefusingAllocator;
 use std::alloc::Global;
 use std::process::Abort;
@@ -15,9 +10,12 @@ use stun_types::message::{
     IntegrityAlgorithm, MessageClass, MessageWriteMutSlice, MessageWriteVec, StunWriteError,
 };
 use stun_types::prelude::*;
-
-/// Below this many allocations each run here has met its last one.
-const MOST_ALLOCATIONS: u64 = 100;
+use test_support::parts::{BOTH, FULL_NONCE, MD5_KEY, Part, begin, message};
+use test_support::server::{
+    Answer, BAD_REQUEST, FAILED, FULL_REQUEST, ONES, OUT_OF_MEMORY, SHA1, SHA256, STALE_NONCE,
+    UNAUTHORIZED, ZEROS, address, asked, full_server, knocked, offering_server, signed_challenge,
+    signed_for, user,
+};
 
 /// A request that the offering server validates by HMAC-SHA1.
 const WEAK_REQUEST: [Part<'static>; 6] = [
@@ -31,13 +29,6 @@ const WEAK_REQUEST: [Part<'static>; 6] = [
 
 type Heap = RefusingAllocator<Global>;
 
-/// Ends the refusals, and says whether none was met.
-fn met_none(heap: &Heap) -> bool {
-    let is_waiting = heap.is_waiting();
-    heap.refuse(0);
-    is_waiting
-}
-
 /// What a server answers to a request of these attributes while the nth allocation is refused, and whether none was.
 fn asked_short<'a>(
     heap: &'a Heap,
@@ -48,7 +39,7 @@ fn asked_short<'a>(
 ) -> Result<(Answer, bool), Fail> {
     heap.refuse(nth);
     let answer = asked(server, bytes, (address(1), nanos), words)?;
-    Ok((answer, met_none(heap)))
+    Ok((answer, heap.met_none()))
 }
 
 /// An unsigned request to a new server: its nonce is made, or there is none.
@@ -71,12 +62,7 @@ fn first_request(rt: &impl Abort, heap: &Heap, bytes: &[u8], nth: u64) -> Result
 fn a_first_nonce_is_made_or_not(rt: HostRuntime) -> Result<(), Fail> {
     let heap = RefusingAllocator::new(rt.alloc());
     let bytes = message(rt.alloc(), MessageClass::Request, &[])?;
-    for nth in 1..MOST_ALLOCATIONS {
-        if first_request(&rt, &heap, bytes.as_slice(), nth)? {
-            return Ok(());
-        }
-    }
-    panic!(rt; "each run met a refusal")
+    heap.each_refusal(|nth| first_request(&rt, &heap, bytes.as_slice(), nth))
 }
 
 /// A signed request: its client is kept, or there is none.
@@ -105,12 +91,7 @@ fn accepted_request(
 fn a_client_is_kept_or_not(rt: HostRuntime) -> Result<(), Fail> {
     let heap = RefusingAllocator::new(rt.alloc());
     let bytes = message(rt.alloc(), MessageClass::Request, &FULL_REQUEST)?;
-    for nth in 1..MOST_ALLOCATIONS {
-        if accepted_request(&rt, (rt.alloc(), &heap), bytes.as_slice(), nth)? {
-            return Ok(());
-        }
-    }
-    panic!(rt; "each run met a refusal")
+    heap.each_refusal(|nth| accepted_request(&rt, (rt.alloc(), &heap), bytes.as_slice(), nth))
 }
 
 /// A moment at which each nonce of the first moment has run out.
@@ -145,12 +126,7 @@ fn late_request(
 fn a_nonce_is_renewed_or_not(rt: HostRuntime) -> Result<(), Fail> {
     let heap = RefusingAllocator::new(rt.alloc());
     let bytes = message(rt.alloc(), MessageClass::Request, &FULL_REQUEST)?;
-    for nth in 1..MOST_ALLOCATIONS {
-        if late_request(&rt, (rt.alloc(), &heap), bytes.as_slice(), nth)? {
-            return Ok(());
-        }
-    }
-    panic!(rt; "each run met a refusal")
+    heap.each_refusal(|nth| late_request(&rt, (rt.alloc(), &heap), bytes.as_slice(), nth))
 }
 
 /// Gives the user another password while the nth allocation is refused: whether it was given, and whether none was refused.
@@ -162,7 +138,7 @@ fn added_short<'a>(
     let user = user(heap, "another")?;
     heap.refuse(nth);
     let is_added = server.add_user(user).is_ok();
-    Ok((is_added, met_none(heap)))
+    Ok((is_added, heap.met_none()))
 }
 
 /// Another password of a present user: it is given, or the old one stays.
@@ -188,12 +164,7 @@ fn another_password(
 fn a_password_is_given_or_not(rt: HostRuntime) -> Result<(), Fail> {
     let heap = RefusingAllocator::new(rt.alloc());
     let bytes = message(rt.alloc(), MessageClass::Request, &FULL_REQUEST)?;
-    for nth in 1..MOST_ALLOCATIONS {
-        if another_password(&rt, (rt.alloc(), &heap), bytes.as_slice(), nth)? {
-            return Ok(());
-        }
-    }
-    panic!(rt; "each run met a refusal")
+    heap.each_refusal(|nth| another_password(&rt, (rt.alloc(), &heap), bytes.as_slice(), nth))
 }
 
 /// A new user: it is there, or not.
@@ -218,12 +189,7 @@ fn new_user(
 fn a_user_is_added_or_not(rt: HostRuntime) -> Result<(), Fail> {
     let heap = RefusingAllocator::new(rt.alloc());
     let bytes = message(rt.alloc(), MessageClass::Request, &FULL_REQUEST)?;
-    for nth in 1..MOST_ALLOCATIONS {
-        if new_user(&rt, (rt.alloc(), &heap), bytes.as_slice(), nth)? {
-            return Ok(());
-        }
-    }
-    panic!(rt; "each run met a refusal")
+    heap.each_refusal(|nth| new_user(&rt, (rt.alloc(), &heap), bytes.as_slice(), nth))
 }
 
 /// Signs a success for the first address while the nth allocation is refused: its length or the refusal, and whether none
@@ -236,7 +202,7 @@ fn signed_short<'a>(
     let writer = begin(MessageClass::Success, MessageWriteVec::new(heap))?;
     heap.refuse(nth);
     let answer = signed_for(server, writer).map(|signed| signed.data().len());
-    Ok((answer, met_none(heap)))
+    Ok((answer, heap.met_none()))
 }
 
 /// The offer of the algorithms: it is made, or not.
@@ -266,12 +232,7 @@ fn offer(
 fn algorithms_are_offered_or_not(rt: HostRuntime) -> Result<(), Fail> {
     let heap = RefusingAllocator::new(rt.alloc());
     let bytes = message(rt.alloc(), MessageClass::Request, &FULL_REQUEST)?;
-    for nth in 1..MOST_ALLOCATIONS {
-        if offer(&rt, (rt.alloc(), &heap), bytes.as_slice(), nth)? {
-            return Ok(());
-        }
-    }
-    panic!(rt; "each run met a refusal")
+    heap.each_refusal(|nth| offer(&rt, (rt.alloc(), &heap), bytes.as_slice(), nth))
 }
 
 /// A success to a client: it is signed, or the client stays as it is.
@@ -300,12 +261,7 @@ fn success(
 fn a_success_is_signed_or_not(rt: HostRuntime) -> Result<(), Fail> {
     let heap = RefusingAllocator::new(rt.alloc());
     let bytes = message(rt.alloc(), MessageClass::Request, &FULL_REQUEST)?;
-    for nth in 1..MOST_ALLOCATIONS {
-        if success(&rt, (rt.alloc(), &heap), bytes.as_slice(), nth)? {
-            return Ok(());
-        }
-    }
-    panic!(rt; "each run met a refusal")
+    heap.each_refusal(|nth| success(&rt, (rt.alloc(), &heap), bytes.as_slice(), nth))
 }
 
 /// Where a nonce stands, or none is needed, a refusal of the message takes no memory.

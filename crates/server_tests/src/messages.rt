@@ -1,19 +1,19 @@
 //! What a server answers to messages (RFC 8489, sections 9.2.4 and 9.2.5).
-use crate::messages::{
-    BOTH, FULL_NONCE, HASHED_NONCE, MD5_KEY, PLAIN_NONCE, Part, SHA256_KEY, USERHASH, message,
-};
-use crate::server_steps::{
-    Answer, BAD_REQUEST, FULL_REQUEST, PLAIN_REQUEST, SHA1, SHA256, STALE_NONCE, UNAUTHORIZED,
-    ZEROS, address, asked, expect_answer, expect_nonce, full_server, knocked, offering_server,
-    plain_server, sha1_server, sha256_server, signed_challenge,
-};
-use crate::spelled::bytes_of;
+use crate::expect::{expect_answer, expect_nonce};
 use std::alloc::Global;
 use std::process::Abort;
 use std::test::Fail;
 use stun_auth::auth::Feature;
 use stun_types::attribute::PasswordAlgorithmValue;
 use stun_types::message::MessageClass;
+use test_support::parts::{
+    BOTH, FULL_NONCE, HASHED_NONCE, MD5_KEY, PLAIN_NONCE, Part, SHA256_KEY, USERHASH, message,
+};
+use test_support::server::{
+    Answer, BAD_REQUEST, FULL_REQUEST, PLAIN_REQUEST, SHA1, SHA256, STALE_NONCE, UNAUTHORIZED,
+    ZEROS, address, asked, full_server, knocked, offering_server, plain_server, sha1_server,
+    sha256_server, signed_challenge,
+};
 
 /// What each request has that is answered at the plain nonce.
 const NONCE: Part<'static> = Part::Nonce(PLAIN_NONCE);
@@ -102,52 +102,6 @@ fn a_signed_indication_is_validated(rt: HostRuntime) -> Result<(), Fail> {
 }
 
 #[test]
-fn the_realm_is_not_compared(rt: HostRuntime) -> Result<(), Fail> {
-    let parts = [NONCE, Part::Realm("other"), NAME, DIGEST];
-    expect_plain(&rt, rt.alloc(), &parts, SHA1)
-}
-
-#[test]
-fn a_malformed_integrity_is_none(rt: HostRuntime) -> Result<(), Fail> {
-    // With a MESSAGE-INTEGRITY of 16 bytes.
-    let digits = "0001003c 2112a442 000000000000000000000001
-        00150010 41414141414141414141414141414141 00140005 7265616c6d000000 00060004 75736572
-        00080010 00000000000000000000000000000000";
-    let bytes = bytes_of(rt.alloc(), digits)?;
-    let mut server = sha1_server(rt.alloc(), Feature::Disabled)?;
-    let answer = asked(&mut server, bytes.as_slice(), (address(1), 0), ZEROS)?;
-    assert_eq!(rt; answer, UNAUTHORIZED);
-    expect_nonce(&rt, &server, Some(PLAIN_NONCE));
-    Ok(())
-}
-
-#[test]
-fn a_second_malformed_name_takes_the_first_away(rt: HostRuntime) -> Result<(), Fail> {
-    // A USERNAME of the one byte ff behind the right one; the digest is that of Python's module `hmac`.
-    let digits = "00010048 2112a442 000000000000000000000001
-        00150010 41414141414141414141414141414141 00140005 7265616c6d000000 00060004 75736572
-        00060001 ff000000 00080014 02e9be04e3013848826869267c3a7921bf0c4fa2";
-    let bytes = bytes_of(rt.alloc(), digits)?;
-    let mut server = plain_server(rt.alloc(), rt.alloc())?;
-    let answer = asked(&mut server, bytes.as_slice(), (address(1), 0), ZEROS)?;
-    assert_eq!(rt; answer, BAD_REQUEST);
-    Ok(())
-}
-
-#[test]
-fn a_name_behind_the_digest_is_none(rt: HostRuntime) -> Result<(), Fail> {
-    // The digest is that of Python's module `hmac`, over all before it.
-    let digits = "00010040 2112a442 000000000000000000000001
-        00150010 41414141414141414141414141414141 00140005 7265616c6d000000
-        00080014 89480f75c311e01bb85e99d43d470c4902a33a39 00060004 75736572";
-    let bytes = bytes_of(rt.alloc(), digits)?;
-    let mut server = plain_server(rt.alloc(), rt.alloc())?;
-    let answer = asked(&mut server, bytes.as_slice(), (address(1), 0), ZEROS)?;
-    assert_eq!(rt; answer, BAD_REQUEST);
-    Ok(())
-}
-
-#[test]
 fn algorithms_come_both_or_not_at_all(rt: HostRuntime) -> Result<(), Fail> {
     let nonce = Part::Nonce(FULL_NONCE);
     let list = Part::List(BOTH);
@@ -162,30 +116,17 @@ fn algorithms_come_both_or_not_at_all(rt: HostRuntime) -> Result<(), Fail> {
         rt.alloc(),
         &[nonce, REALM, NAME, STRONG, STRONG_DIGEST],
         BAD_REQUEST,
-    )?;
-    expect_offered(&rt, rt.alloc(), &[nonce, REALM, NAME, DIGEST], SHA1)
+    )
 }
 
 #[test]
 fn the_list_is_the_one_that_was_offered(rt: HostRuntime) -> Result<(), Fail> {
     let nonce = Part::Nonce(FULL_NONCE);
-    for list in [
-        &[PasswordAlgorithmValue::MD5, PasswordAlgorithmValue::SHA256] as &[_],
-        &[PasswordAlgorithmValue::SHA256],
-        &[],
-    ] {
+    for list in [&[PasswordAlgorithmValue::SHA256] as &[_], &[]] {
         let parts = [nonce, REALM, NAME, Part::List(list), STRONG, STRONG_DIGEST];
         expect_offered(&rt, rt.alloc(), &parts, BAD_REQUEST)?;
     }
     Ok(())
-}
-
-#[test]
-fn an_unknown_algorithm_makes_the_list_none(rt: HostRuntime) -> Result<(), Fail> {
-    let nonce = Part::Nonce(FULL_NONCE);
-    let list = Part::Raw(0x8002, &[0, 3, 0, 0]);
-    let parts = [nonce, REALM, NAME, list, STRONG, STRONG_DIGEST];
-    expect_offered(&rt, rt.alloc(), &parts, BAD_REQUEST)
 }
 
 #[test]
@@ -226,17 +167,9 @@ fn another_nonce_is_stale(rt: HostRuntime) -> Result<(), Fail> {
     // This nonce has security bits, and the one that stands has none.
     let parts = [Part::Nonce(HASHED_NONCE), REALM, NAME, DIGEST];
     expect_plain(&rt, rt.alloc(), &parts, STALE_NONCE)?;
-    let parts = [Part::Nonce("obMatJos2aaa\u{e9}"), REALM, NAME, DIGEST];
-    expect_plain(&rt, rt.alloc(), &parts, STALE_NONCE)?;
     let nonce = Part::Nonce("obMatJos2wAAABBBBBBBBBBBBBBBB");
     let parts = [nonce, REALM, NAME, Part::List(BOTH), STRONG, STRONG_DIGEST];
     expect_offered(&rt, rt.alloc(), &parts, STALE_NONCE)
-}
-
-#[test]
-fn other_security_bits_are_refused(rt: HostRuntime) -> Result<(), Fail> {
-    let parts = [Part::Nonce(HASHED_NONCE), REALM, NAME, DIGEST];
-    expect_offered(&rt, rt.alloc(), &parts, UNAUTHORIZED)
 }
 
 #[test]
@@ -275,14 +208,7 @@ fn a_hash_names_the_user_where_it_may(rt: HostRuntime) -> Result<(), Fail> {
         let parts = [Part::Nonce(HASHED_NONCE), REALM, hash, DIGEST];
         expect_answer(&rt, rt.alloc(), &mut server, &parts, SHA1)?;
     }
-    expect_plain(&rt, rt.alloc(), &[NONCE, REALM, hash, DIGEST], UNAUTHORIZED)?;
-    // It counts before the name.
-    expect_plain(
-        &rt,
-        rt.alloc(),
-        &[NONCE, REALM, NAME, hash, DIGEST],
-        UNAUTHORIZED,
-    )
+    expect_plain(&rt, rt.alloc(), &[NONCE, REALM, hash, DIGEST], UNAUTHORIZED)
 }
 
 #[test]

@@ -1,13 +1,7 @@
 //! What a server's signing adds (RFC 8489, section 9.2.4).
 //!
 //! The digests are those of Python's module `hmac`.
-use crate::array_writer::ArrayWriter;
-use crate::messages::{BOTH, HASHED_NONCE, MD5_KEY, Part, begin};
-use crate::server_steps::{
-    BAD_REQUEST, FULL_REQUEST, SHA1, SHA256, ZEROS, address, expect_answer, expect_nonce,
-    expect_sizes, full_server, knocked, sha1_server, signed_bytes, signed_for,
-};
-use crate::spelled::bytes_of;
+use crate::expect::{expect_answer, expect_nonce, expect_sizes};
 use std::alloc::{Allocator, Global};
 use std::process::Abort;
 use std::test::Fail;
@@ -16,6 +10,13 @@ use stun_types::attribute::AttributeType;
 use stun_types::data::OwnedBytes;
 use stun_types::message::{IntegrityAlgorithm, MessageClass, MessageWriteMutSlice, StunWriteError};
 use stun_types::prelude::*;
+use test_support::array_writer::ArrayWriter;
+use test_support::parts::{BOTH, HASHED_NONCE, MD5_KEY, Part, begin};
+use test_support::server::{
+    BAD_REQUEST, FULL_REQUEST, SHA1, SHA256, ZEROS, address, full_server, knocked, sha1_server,
+    signed_bytes, signed_for,
+};
+use test_support::spelled::bytes_of;
 
 /// A Binding request, an indication and a success with id 1.
 const REQUEST: &str = "00010000 2112a442 000000000000000000000001";
@@ -222,7 +223,7 @@ fn a_slice_is_too_small(rt: HostRuntime) -> Result<(), Fail> {
 fn another_writer_takes_the_signed_message(rt: HostRuntime) -> Result<(), Fail> {
     let mut server = server_of_strong_client(&rt, rt.alloc())?;
     let expected = bytes_of(rt.alloc(), SUCCESS_BY_SHA256)?;
-    let writer = begin(MessageClass::Success, ArrayWriter::new())?;
+    let writer = begin(MessageClass::Success, ArrayWriter::<192>::new())?;
     let written = signed_for(&mut server, writer)?.finish();
     assert_eq!(rt; written.bytes(), expected.as_slice());
     Ok(())

@@ -1,8 +1,5 @@
-//! Numbers, phrases and defaults of RFC 8489, sections 5, 6, 14 and 18, typed from its text and tables.
+//! Numbers and phrases of RFC 8489, sections 5, 14 and 18, typed from its text and tables.
 use std::test::Fail;
-use std::time::Duration;
-use stun_agent::agent::RequestRto;
-use stun_types::TransportType;
 use stun_types::attribute::{
     AttributeType, ErrorCode, MessageIntegrity, MessageIntegritySha256, Nonce, PasswordAlgorithm,
     PasswordAlgorithmValue, PasswordAlgorithms, Realm, Userhash, Username, XorMappedAddress,
@@ -94,29 +91,6 @@ fn reasons(rt: HostRuntime) -> Result<(), Fail> {
         assert_eq!(rt; ErrorCode::builder(code).build()?.reason(), reason);
     }
     Ok(())
-}
-
-/// Section 6.2.1: RTO is 500 ms, Rc 7 and Rm 16, so that a request ends 39.5 s after it was sent; section 6.2.2: over TCP
-/// it ends as late.
-#[test]
-fn defaults(rt: HostRuntime) {
-    let settings = RequestRto::default();
-    assert_eq!(rt; settings.initial, Duration::from_millis(500));
-    assert_eq!(rt; settings.retransmits, 7);
-    assert_eq!(rt; settings.last_retransmit, Duration::from_secs(8));
-    assert_eq!(rt; settings.max, Duration::MAX);
-    assert_eq!(rt; settings.slots(TransportType::Udp), 6);
-    assert_eq!(rt; settings.slots(TransportType::Tcp), 0);
-    assert_eq!(rt; settings.timeout(0), Duration::from_millis(500));
-    assert_eq!(rt; settings.timeout(5), Duration::from_secs(16));
-    assert_eq!(rt;
-        settings.final_wait(TransportType::Udp),
-        Duration::from_secs(8)
-    );
-    assert_eq!(rt;
-        settings.final_wait(TransportType::Tcp),
-        Duration::from_millis(39500)
-    );
 }
 
 /// Section 5: the bits of method and class in a type. The methods are Binding, those of RFC 8656,

@@ -1,7 +1,6 @@
 //! Each request for memory refused in turn: what stands afterwards, and which calls make none.
 ghost use Rattle.std.specs.Prelude.{◌≡◌, ◌≤◌, [], length, IfOk};
 
-use crate::spelled::bytes_of;
 use fail_alloc::RefusingAllocator;
 use std::alloc::{AllocError, Allocator, Global};
 use std::process::Abort;
@@ -14,6 +13,7 @@ use stun_types::message::{
     ShortTermCredentials, StunWriteError, TransactionId,
 };
 use stun_types::prelude::*;
+use test_support::spelled::bytes_of;
 
 /// Below this many allocations each run here has met its last one.
 const MOST_ALLOCATIONS: u64 = 100;
@@ -28,13 +28,6 @@ const LONG_PASSWORD: &str = "a password of 33 bytes in letters";
 const HEADER: [u8; 20] = [
     0, 1, 0, 0, 0x21, 0x12, 0xa4, 0x42, 0, 0, 0, 0, 0, 0, 0, 0, 0, 0, 0, 1,
 ];
-
-// Ends the refusals, and says whether none was met.
-fn met_none(heap: &RefusingAllocator<Global>) -> bool {
-    let is_waiting = heap.is_waiting();
-    heap.refuse(0);
-    is_waiting
-}
 
 #[test]
 fn keys(rt: HostRuntime) -> Result<(), Fail> {
@@ -95,7 +88,7 @@ fn copies_of_a_user(rt: HostRuntime) -> Result<(), Fail> {
     for nth in 1..MOST_ALLOCATIONS {
         heap.refuse(nth);
         let answer: Result<_, _> = user.clone();
-        let is_last = met_none(&heap);
+        let is_last = heap.met_none();
         assert_eq!(rt; (user.username(), user.password()), ("user", "pass"));
         if let Ok(copy) = answer {
             assert_eq!(rt; (copy.username(), copy.password()), ("user", "pass"));
@@ -117,7 +110,7 @@ fn a_user_at_a_realm(rt: HostRuntime) -> Result<(), Fail> {
         let realm = String::from_str(&heap, "realm")?;
         heap.refuse(nth);
         let answer = user.to_key(realm);
-        let is_last = met_none(&heap);
+        let is_last = heap.met_none();
         assert_eq!(rt; (user.username(), user.password()), ("user", "pass"));
         if let Ok(key) = answer {
             let texts = (key.username(), key.realm(), key.password());
@@ -143,7 +136,7 @@ fn copies_of_a_user_at_a_realm(rt: HostRuntime) -> Result<(), Fail> {
     for nth in 1..MOST_ALLOCATIONS {
         heap.refuse(nth);
         let answer: Result<_, _> = user.clone();
-        let is_last = met_none(&heap);
+        let is_last = heap.met_none();
         assert_eq!(rt; user.realm(), "realm");
         if let Ok(copy) = answer {
             let texts = (copy.username(), copy.realm(), copy.password());
@@ -187,7 +180,7 @@ fn borrowed_bytes(rt: HostRuntime) -> Result<(), Fail> {
     for nth in 1..MOST_ALLOCATIONS {
         heap.refuse(nth);
         let answer = owned(&heap, &LONG_KEY);
-        let is_last = met_none(&heap);
+        let is_last = heap.met_none();
         if let Ok(data) = answer {
             assert_eq!(rt; data.bytes(), LONG_KEY.as_slice());
         } else {
@@ -230,7 +223,7 @@ fn expect_written(
     written: &[u8],
     length: usize,
 ) -> bool {
-    let is_last = met_none(heap);
+    let is_last = heap.met_none();
     match answer {
         Ok(()) => {
             assert_eq!(rt; written.len(), length);
@@ -250,7 +243,7 @@ fn a_header(rt: HostRuntime) -> Result<(), Fail> {
     for nth in 1..MOST_ALLOCATIONS {
         heap.refuse(nth);
         let answer = begin(MessageWriteVec::new(&heap));
-        let is_last = met_none(&heap);
+        let is_last = heap.met_none();
         match answer {
             Ok(writer) => {
                 assert_eq!(rt; writer.data(), HEADER.as_slice());

@@ -1,11 +1,11 @@
 //! HMAC, keys and USERHASH against the values of RFC 2202, RFC 4231 and of Python's modules `hmac` and `hashlib`.
-use crate::spelled::bytes_of;
 use std::alloc::Global;
 use std::process::Abort;
 use std::test::Fail;
 use stun_base::key::long_term_key;
 use stun_types::attribute::Userhash;
 use stun_types::message::{IntegrityAlgorithm, IntegrityKey, hmac_sha1, hmac_sha256};
+use test_support::spelled::bytes_of;
 
 /// Compares both digests of these pieces.
 fn expect_pieces(

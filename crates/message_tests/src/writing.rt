@@ -1,8 +1,6 @@
 //! Messages that are written and signed over each writer, and what a writer refuses.
 ghost use Rattle.std.specs.Prelude.{◌≡◌, ◌≤◌, [], length, IfOk};
 
-use crate::spelled::bytes_of;
-use crate::writers::ArrayWriter;
 use std::alloc::Global;
 use std::process::Abort;
 use std::test::Fail;
@@ -14,6 +12,8 @@ use stun_types::message::{
     StunWriteError, TransactionId, ValidateError,
 };
 use stun_types::prelude::*;
+use test_support::array_writer::ArrayWriter;
+use test_support::spelled::bytes_of;
 
 /// A Binding request with id 1 and USERNAME `a:b`.
 const REQUEST: [u8; 28] = [
@@ -53,7 +53,7 @@ fn writes_a_request(rt: HostRuntime) -> Result<(), Fail> {
     let mut room = [0xff; 40];
     let written = write_request(MessageWriteMutSlice::new(&mut room))?.finish();
     assert_eq!(rt; written, REQUEST.as_slice());
-    let written = write_request(ArrayWriter::new())?.finish();
+    let written = write_request(ArrayWriter::<72>::new())?.finish();
     assert_eq!(rt; written.bytes(), REQUEST.as_slice());
     Ok(())
 }
@@ -81,7 +81,7 @@ fn refuses_without_room(rt: HostRuntime) -> Result<(), Fail> {
 #[test]
 fn refuses_types_set_apart(rt: HostRuntime) -> Result<(), Fail> {
     for kind in [0x0008, 0x001c, 0x8028] {
-        let mut writer = write_request(ArrayWriter::new())?;
+        let mut writer = write_request(ArrayWriter::<72>::new())?;
         let attribute = RawAttribute::new(AttributeType::new(kind), b"abcd");
         let answer = writer.add_attribute(&attribute);
         assert_eq!(rt; answer, Err(StunWriteError::NotAllowed));
@@ -95,7 +95,7 @@ fn refuses_types_set_apart(rt: HostRuntime) -> Result<(), Fail> {
 fn refuses_behind_integrity(rt: HostRuntime) -> Result<(), Fail> {
     let key = IntegrityKey::from_bytes(rt.alloc(), PASSWORD.as_bytes())?;
     for algorithm in [IntegrityAlgorithm::Sha1, IntegrityAlgorithm::Sha256] {
-        let mut writer = write_request(ArrayWriter::new())?;
+        let mut writer = write_request(ArrayWriter::<72>::new())?;
         writer.add_message_integrity_with_key(&key, algorithm)?;
         let length = writer.data().len();
         assert!(rt; length >= 20);
@@ -167,17 +167,17 @@ fn builds_each_class(rt: HostRuntime) -> Result<(), Fail> {
     assert_eq!(rt; request.get(..2), Some([0x00, 0x03].as_slice()));
     assert_eq!(rt; request.get(2..), Some(rest.as_slice()));
     let request = Message::from_bytes(request.as_slice())?;
-    let written = Message::builder_success(&request, ArrayWriter::new())?.finish();
+    let written = Message::builder_success(&request, ArrayWriter::<72>::new())?.finish();
     assert_eq!(rt; written.bytes().get(..2), Some([0x01, 0x03].as_slice()));
     assert_eq!(rt; written.bytes().get(2..), Some(rest.as_slice()));
-    let written = Message::builder_error(&request, ArrayWriter::new())?.finish();
+    let written = Message::builder_error(&request, ArrayWriter::<72>::new())?.finish();
     assert_eq!(rt; written.bytes().get(..2), Some([0x01, 0x13].as_slice()));
     assert_eq!(rt; written.bytes().get(2..), Some(rest.as_slice()));
-    let written = Message::builder_indication(allocate, id, ArrayWriter::new())?.finish();
+    let written = Message::builder_indication(allocate, id, ArrayWriter::<72>::new())?.finish();
     assert_eq!(rt; written.bytes().get(..2), Some([0x00, 0x13].as_slice()));
     assert_eq!(rt; written.bytes().get(2..), Some(rest.as_slice()));
     let binding_error = MessageType::from_class_method(MessageClass::Error, BINDING);
-    let written = Message::builder(binding_error, id, ArrayWriter::new())?.finish();
+    let written = Message::builder(binding_error, id, ArrayWriter::<72>::new())?.finish();
     assert_eq!(rt; written.bytes().get(..2), Some([0x01, 0x11].as_slice()));
     assert_eq!(rt; written.bytes().get(2..), Some(rest.as_slice()));
     Ok(())
@@ -214,8 +214,13 @@ fn tells_of_its_message(rt: HostRuntime) -> Result<(), Fail> {
         MessageClass::Request,
         false,
     )?;
-    expect_told(&rt, ArrayWriter::new(), MessageClass::Indication, false)?;
-    expect_told(&rt, ArrayWriter::new(), MessageClass::Success, true)?;
+    expect_told(
+        &rt,
+        ArrayWriter::<72>::new(),
+        MessageClass::Indication,
+        false,
+    )?;
+    expect_told(&rt, ArrayWriter::<72>::new(), MessageClass::Success, true)?;
     let mut room = [0; 28];
     let writer = MessageWriteMutSlice::new(&mut room);
     expect_told(&rt, writer, MessageClass::Error, true)?;
@@ -287,7 +292,7 @@ fn each_call_signs_alike(rt: HostRuntime) -> Result<(), Fail> {
             let writer = MessageWriteMutSlice::new(&mut room);
             let written = signed(alloc, call, algorithm, writer)?.finish();
             assert_eq!(rt; written, expected.as_slice());
-            let written = signed(alloc, call, algorithm, ArrayWriter::new())?.finish();
+            let written = signed(alloc, call, algorithm, ArrayWriter::<72>::new())?.finish();
             assert_eq!(rt; written.bytes(), expected.as_slice());
         }
     }
@@ -302,7 +307,7 @@ fn validates_what_is_signed(rt: HostRuntime) -> Result<(), Fail> {
     let password = ShortTermCredentials::new(String::from_str(alloc, PASSWORD)?);
     let credentials = MessageIntegrityCredentials::from(password);
     for algorithm in [IntegrityAlgorithm::Sha1, IntegrityAlgorithm::Sha256] {
-        let written = signed(alloc, Call::WithKey, algorithm, ArrayWriter::new())?.finish();
+        let written = signed(alloc, Call::WithKey, algorithm, ArrayWriter::<72>::new())?.finish();
         let message = Message::from_bytes(written.bytes())?;
         assert_eq!(rt; message.validate_integrity(&credentials), Ok(algorithm));
         assert_eq!(rt; message.validate_integrity_with_key(&key), Ok(algorithm));

@@ -1,11 +1,11 @@
 //! The samples of RFC 5769, sections 2.1 to 2.4, and of RFC 8489, appendix B.1.
-use crate::spelled::bytes_of;
 use std::alloc::Global;
 use std::process::Abort;
 use std::test::Fail;
 use stun_types::message::{
     IntegrityAlgorithm, IntegrityKey, Message, MessageClass, ValidateError, hmac_sha256,
 };
+use test_support::spelled::bytes_of;
 
 /// The request of section 2.1.
 pub const REQUEST: &str = "00010058 2112a442 b7e7a701 bc34d686 fa87dfae

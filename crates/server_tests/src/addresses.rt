@@ -1,16 +1,17 @@
 //! How long a server's nonces stand, and for whom; its users, and the responses of its clients.
-use crate::messages::{MD5_KEY, Part, message};
-use crate::server_steps::{
-    Answer, BAD_REQUEST, FAILED, FULL_REQUEST, ONES, PLAIN_REQUEST, SHA1, SHA256, STALE_NONCE,
-    UNAUTHORIZED, ZEROS, address, asked, expect_answer, expect_nonce, knocked, offering_server,
-    plain_server, sha1_server, signed_challenge, user,
-};
+use crate::expect::{expect_answer, expect_nonce};
 use std::alloc::{Allocator, Global};
 use std::process::Abort;
 use std::test::Fail;
 use std::time::Duration;
 use stun_auth::auth::{Feature, LongTermServerAuth};
 use stun_types::message::{IntegrityAlgorithm, MessageClass};
+use test_support::parts::{MD5_KEY, Part, message};
+use test_support::server::{
+    Answer, BAD_REQUEST, FAILED, FULL_REQUEST, ONES, PLAIN_REQUEST, SHA1, SHA256, STALE_NONCE,
+    UNAUTHORIZED, ZEROS, address, asked, knocked, offering_server, plain_server, sha1_server,
+    signed_challenge, user,
+};
 
 /// What signs a response.
 const DIGEST: Part<'static> = Part::Sha1(&MD5_KEY);

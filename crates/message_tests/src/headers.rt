@@ -1,10 +1,10 @@
 //! What is no header and no message (RFC 8489, section 5), in the order of the refusals.
 use crate::rfc5769::REQUEST;
-use crate::spelled::{bytes_of, request_of};
 use std::alloc::Global;
 use std::process::Abort;
 use std::test::Fail;
 use stun_types::message::{Message, MessageHeader, StunParseError};
+use test_support::spelled::{bytes_of, request_of};
 
 /// What reading a header and reading a message answer.
 type Refusals = (Option<StunParseError>, Option<StunParseError>);

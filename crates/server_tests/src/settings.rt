@@ -1,14 +1,14 @@
 //! A server's nonces, settings and sizes (RFC 8489, sections 9.2 and 9.2.4).
-use crate::server_steps::{
-    ONES, UNAUTHORIZED, ZEROS, address, expect_nonce, expect_sizes, full_server, knocked,
-    sha1_server, sha256_server,
-};
+use crate::expect::{expect_nonce, expect_sizes};
 use std::alloc::{Allocator, Global};
 use std::process::Abort;
 use std::test::Fail;
 use std::time::Duration;
 use stun_auth::auth::{Feature, LongTermServerAuth, minimum_nonce_expiry_duration};
 use stun_types::message::IntegrityAlgorithm;
+use test_support::server::{
+    ONES, UNAUTHORIZED, ZEROS, address, full_server, knocked, sha1_server, sha256_server,
+};
 
 /// Words that spell the letters at both ends of their three ranges, and one that is past 62.
 const LETTERS: [u32; 16] = [

@@ -1,4 +1,4 @@
-//! A writer of the test's own, over an array.
+//! A writer of the tests' own, over an array.
 ghost use Rattle.std.specs.Prelude.{◌≡◌, ◌≤◌, []};
 
 use std::marker::Model;
@@ -6,32 +6,30 @@ use stun_types::data::OwnedBytes;
 use stun_types::message::StunWriteError;
 use stun_types::prelude::*;
 
-/// How many bytes the array has.
-pub const ROOM: usize = 72;
-
-/// Writes a message of at most 72 bytes to an array of its own.
+/// Writes a message of at most `N` bytes to an array of its own.
 #[derive(Drop)]
-pub struct ArrayWriter {
-    buffer: [u8; ROOM],
+pub struct ArrayWriter<const N: usize> {
+    buffer: [u8; N],
     written: usize,
-    ghost within: { written ≤ 72 },
+    ghost within: { written ≤ N },
 }
 
-impl ArrayWriter {
+impl<const N: usize> ArrayWriter<N> {
     ghost use Rattle.std.specs.Prelude.{take};
 
     /// An empty message, where each byte that is not yet written is 0xff.
-    pub fn new() -> ArrayWriter
-        ensures { take result.written result.buffer ≡ [] }
+    pub fn new() -> ArrayWriter<N>
+        ensures empty { take result.written result.buffer ≡ [] }
+        ensures start { result.written ≡ 0 }
     {
         ArrayWriter {
-            buffer: [0xff; ROOM],
+            buffer: [0xff; N],
             written: 0,
         }
     }
 }
 
-impl OwnedBytes for ArrayWriter {
+impl<const N: usize> OwnedBytes for ArrayWriter<N> {
     ghost use Rattle.std.specs.Prelude.{take};
 
     ghost contents = { λ writer. take writer.written writer.buffer };
@@ -41,24 +39,24 @@ impl OwnedBytes for ArrayWriter {
     }
 }
 
-impl MessageWrite for ArrayWriter {
+impl<const N: usize> MessageWrite for ArrayWriter<N> {
     ghost use Rattle.std.specs.Prelude.{◌-◌, take};
 
-    type Output = ArrayWriter;
+    type Output = ArrayWriter<N>;
 
     ghost bytes = { λ writer. take writer.written writer.buffer };
 
-    ghost room = { λ writer. 72 - writer.written };
+    ghost room = { λ writer. N - writer.written };
 
     // All the room there is is reserved.
-    ghost reserved = { λ writer. 72 - writer.written };
+    ghost reserved = { λ writer. N - writer.written };
 
     fn data(&self) -> &[u8] {
         &self.buffer[..self.written]
     }
 
     fn room(&self) -> usize {
-        ROOM - self.written
+        N - self.written
     }
 
     fn reserve(&mut self, additional: usize) -> Result<(), StunWriteError> {
@@ -69,8 +67,10 @@ impl MessageWrite for ArrayWriter {
     }
 
     fn append(&mut self, tail: &[u8]) {
-        let end = self.written + tail.len();
-        self.buffer[self.written..end].copy_from_slice(tail);
+        let start = self.written;
+        let end = start + tail.len();
+        let buffer = &mut self.buffer[..];
+        buffer[start..end].copy_from_slice(tail);
         self.written = end;
     }
 
@@ -80,7 +80,7 @@ impl MessageWrite for ArrayWriter {
         self.buffer[3] = low;
     }
 
-    fn finish(self) -> ArrayWriter {
+    fn finish(self) -> ArrayWriter<N> {
         self
     }
 }

@@ -1,0 +1,164 @@
+//! Malformed, repeated and forged messages at a server (RFC 8489, sections 9.2.4 and 14), spelled byte by byte.
+//!
+//! Of two attributes of one type the last counts, and one that is malformed counts as none. The digests are those of Python's
+//! module `hmac`, over the messages as they stand here.
+use std::alloc::Global;
+use std::process::Abort;
+use std::test::Fail;
+use test_support::server::{
+    Answer, BAD_REQUEST, SHA1, STALE_NONCE, UNAUTHORIZED, ZEROS, address, asked, offering_server,
+    plain_server,
+};
+use test_support::spelled::bytes_of;
+
+/// A USERHASH of 31 bytes beside the name.
+const SHORT_HASH: &str = "00010064 2112a442 000000000000000000000001
+    00150010 41414141414141414141414141414141 00140005 7265616c6d000000 00060004 75736572
+    001e001f 6a3029116b47aa98bcaa325399733dc1a23cd57e26b81bef3ff6531ce624e200
+    00080014 f1c0c3307196ce6fd668b04fc9c4837260a36457";
+
+/// The user's USERHASH beside the name, at a nonce that asks for none.
+const HASH: &str = "00010064 2112a442 000000000000000000000001
+    00150010 41414141414141414141414141414141 00140005 7265616c6d000000 00060004 75736572
+    001e0020 6a3029116b47aa98bcaa325399733dc1a23cd57e26b81bef3ff6531ce624e2da
+    00080014 b477d05b2448f5ab46005333a73991ff80b8537c";
+
+/// Another NONCE before the right one.
+const TWO_NONCES: &str = "00010054 2112a442 000000000000000000000001
+    00150010 42424242424242424242424242424242 00150010 41414141414141414141414141414141
+    00140005 7265616c6d000000 00060004 75736572 00080014 fcb18669ed49a7ebefb6baa7448933c2dabf5665";
+
+/// A NONCE of the one byte ff after the right one.
+const MALFORMED_NONCE: &str = "00010048 2112a442 000000000000000000000001
+    00150010 41414141414141414141414141414141 00150001 ff000000
+    00140005 7265616c6d000000 00060004 75736572 00080014 5edf4b3a95f27daeda122808a0e1005cf2b4fc83";
+
+/// A USERNAME of the one byte ff after the right one.
+const MALFORMED_NAME: &str = "00010048 2112a442 000000000000000000000001
+    00150010 41414141414141414141414141414141 00140005 7265616c6d000000 00060004 75736572
+    00060001 ff000000 00080014 02e9be04e3013848826869267c3a7921bf0c4fa2";
+
+/// REALM `other`, which is not compared.
+const OTHER_REALM: &str = "00010040 2112a442 000000000000000000000001
+    00150010 41414141414141414141414141414141 00140005 6f74686572000000 00060004 75736572
+    00080014 4c2af4efcb94b924d16a51e574474eb375599093";
+
+/// NONCE `obMatJos2aaaé`.
+const WIDE_NONCE: &str = "00010040 2112a442 000000000000000000000001
+    0015000e 6f624d61744a6f7332616161c3a90000 00140005 7265616c6d000000 00060004 75736572
+    00080014 7e6390bbc89d144bf3530b8c24c7f96bcf272a18";
+
+/// MESSAGE-INTEGRITY-SHA256 of zeros after the right MESSAGE-INTEGRITY.
+const WRONG_STRONGER: &str = "00010064 2112a442 000000000000000000000001
+    00150010 41414141414141414141414141414141 00140005 7265616c6d000000 00060004 75736572
+    00080014 b0f2dc4f7ce5b00b393c1695d81c24a22ce5a77e
+    001c0020 0000000000000000000000000000000000000000000000000000000000000000";
+
+/// MESSAGE-INTEGRITY of 16 bytes.
+const SHORT_DIGEST: &str = "0001003c 2112a442 000000000000000000000001
+    00150010 41414141414141414141414141414141 00140005 7265616c6d000000 00060004 75736572
+    00080010 00000000000000000000000000000000";
+
+/// USERNAME after the digest.
+const HIDDEN_NAME: &str = "00010040 2112a442 000000000000000000000001
+    00150010 41414141414141414141414141414141 00140005 7265616c6d000000
+    00080014 89480f75c311e01bb85e99d43d470c4902a33a39 00060004 75736572";
+
+/// A list with an unknown algorithm, and the stronger chosen.
+const UNKNOWN_LIST: &str = "0001006c 2112a442 000000000000000000000001
+    0015001d 6f624d61744a6f73327741414141414141414141414141414141414141000000
+    00140005 7265616c6d000000 00060004 75736572 80020004 00030000 001d0004 00020000
+    001c0020 92896bd123ac60eeedc44cdd0574cc7f05828d34fc96b773217c56f21a64f173";
+
+/// The list that was offered in the other order, and the stronger chosen.
+const TURNED_LIST: &str = "00010070 2112a442 000000000000000000000001
+    0015001d 6f624d61744a6f73327741414141414141414141414141414141414141000000
+    00140005 7265616c6d000000 00060004 75736572 80020008 0001000000020000 001d0004 00020000
+    001c0020 3f20c8447cf79ff55734e027428fb7b854d71ee66f319f3ea90a2512b7ad25d9";
+
+/// Neither a list nor a choice, and the weaker digest.
+const NO_LIST: &str = "00010050 2112a442 000000000000000000000001
+    0015001d 6f624d61744a6f73327741414141414141414141414141414141414141000000
+    00140005 7265616c6d000000 00060004 75736572 00080014 86b38f61762cc1edb946ad5c1f2d88d64a78b20d";
+
+/// The same with a nonce whose bit for password algorithms is cleared.
+const CLEARED_BIT: &str = "00010050 2112a442 000000000000000000000001
+    0015001d 6f624d61744a6f73325141414141414141414141414141414141414141000000
+    00140005 7265616c6d000000 00060004 75736572 00080014 5f5d89911f270b4597f5b1ddb23482a64cd191c5";
+
+/// Checks the answer to bytes at a server with plain names, or at one that has offered both algorithms.
+fn expect_bytes(
+    rt: &impl Abort,
+    alloc: Global,
+    offers: bool,
+    bytes: &[u8],
+    expected: Answer,
+) -> Result<(), Fail> {
+    let mut server = if offers {
+        offering_server(alloc, alloc)?
+    } else {
+        plain_server(alloc, alloc)?
+    };
+    let answer = asked(&mut server, bytes, (address(1), 0), ZEROS)?;
+    assert_eq!(rt; answer, expected);
+    Ok(())
+}
+
+/// Checks the answers to the messages that these digits spell.
+fn expect_each(
+    rt: &impl Abort,
+    alloc: Global,
+    offers: bool,
+    messages: &[&str],
+    expected: Answer,
+) -> Result<(), Fail> {
+    for digits in messages {
+        let bytes = bytes_of(alloc, digits)?;
+        expect_bytes(rt, alloc, offers, bytes.as_slice(), expected)?;
+    }
+    Ok(())
+}
+
+#[test]
+fn what_does_not_count_does_no_harm(rt: HostRuntime) -> Result<(), Fail> {
+    let messages = [SHORT_HASH, TWO_NONCES, OTHER_REALM];
+    expect_each(&rt, rt.alloc(), false, &messages, SHA1)?;
+    expect_each(&rt, rt.alloc(), true, &[NO_LIST], SHA1)
+}
+
+#[test]
+fn forged_messages_are_unauthorized(rt: HostRuntime) -> Result<(), Fail> {
+    let messages = [HASH, WRONG_STRONGER, SHORT_DIGEST];
+    expect_each(&rt, rt.alloc(), false, &messages, UNAUTHORIZED)?;
+    expect_each(&rt, rt.alloc(), true, &[CLEARED_BIT], UNAUTHORIZED)?;
+    expect_each(&rt, rt.alloc(), false, &[WIDE_NONCE], STALE_NONCE)
+}
+
+#[test]
+fn malformed_messages_are_bad_requests(rt: HostRuntime) -> Result<(), Fail> {
+    let messages = [MALFORMED_NONCE, MALFORMED_NAME, HIDDEN_NAME];
+    expect_each(&rt, rt.alloc(), false, &messages, BAD_REQUEST)?;
+    expect_each(
+        &rt,
+        rt.alloc(),
+        true,
+        &[UNKNOWN_LIST, TURNED_LIST],
+        BAD_REQUEST,
+    )
+}
+
+/// REALM of 764 letters `a`, one more than it may have.
+#[test]
+fn a_long_realm_is_none(rt: HostRuntime) -> Result<(), Fail> {
+    let mut bytes = bytes_of(
+        rt.alloc(),
+        "00010334 2112a442 000000000000000000000001 00150010 41414141414141414141414141414141 001402fc",
+    )?;
+    bytes.resize(808, b'a')?;
+    let rest = bytes_of(
+        rt.alloc(),
+        "00060004 75736572 00080014 6483810570b298369ec7ef48dc132f9cdd315a27",
+    )?;
+    bytes.extend_from_slice(&rest)?;
+    expect_bytes(&rt, rt.alloc(), false, bytes.as_slice(), BAD_REQUEST)
+}

@@ -1,0 +1,21 @@
+//! Tests of the authenticator of a server.
+#![tactic(auto)]
+
+#[cfg(test)]
+mod addresses;
+#[cfg(test)]
+mod expect;
+#[cfg(test)]
+mod hostile;
+#[cfg(test)]
+mod memory;
+#[cfg(test)]
+mod messages;
+#[cfg(test)]
+mod nonces;
+#[cfg(test)]
+mod settings;
+#[cfg(test)]
+mod signing;
+#[cfg(test)]
+mod texts;

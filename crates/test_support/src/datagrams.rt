@@ -1,0 +1,62 @@
+//! What the tests of the agent share: addresses, moments and messages, spelled byte by byte.
+use std::net::{IpAddr, Ipv4Addr, SocketAddr};
+use std::test::Fail;
+use std::time::Duration;
+use stun_base::instant::Instant;
+use stun_types::message::TransactionId;
+
+pub const REQUEST: [u8; 2] = [0x00, 0x01];
+
+pub const INDICATION: [u8; 2] = [0x00, 0x11];
+
+pub const SUCCESS: [u8; 2] = [0x01, 0x01];
+
+pub const ERROR: [u8; 2] = [0x01, 0x11];
+
+/// An address of 10.0.0.0/24.
+pub fn address(last: u8, port: u16) -> SocketAddr {
+    SocketAddr::new(IpAddr::V4(Ipv4Addr::new(10, 0, 0, last)), port)
+}
+
+/// The address of the tests' agent.
+pub fn local() -> SocketAddr {
+    address(1, 12345)
+}
+
+/// The address that the tests' agent asks.
+pub fn peer() -> SocketAddr {
+    address(2, 3478)
+}
+
+/// So many milliseconds after the first moment.
+pub fn at(millis: u64) -> Instant {
+    Instant::ZERO + Duration::from_millis(millis)
+}
+
+/// A message of a type and an id, without attributes.
+pub fn message(kind: [u8; 2], id: u8) -> [u8; 20] {
+    [
+        kind[0], kind[1], 0, 0, 0x21, 0x12, 0xa4, 0x42, 0, 0, 0, 0, 0, 0, 0, 0, 0, 0, 0, id,
+    ]
+}
+
+/// A success with a mapped address.
+pub fn mapped(id: u8) -> [u8; 32] {
+    [
+        0x01, 0x01, 0, 12, 0x21, 0x12, 0xa4, 0x42, 0, 0, 0, 0, 0, 0, 0, 0, 0, 0, 0, id, 0x00, 0x20,
+        0, 8, 0, 1, 0x11, 0x2b, 0x2b, 0x12, 0xa4, 0x43,
+    ]
+}
+
+/// An error with ERROR-CODE 400 and its reason.
+pub fn bad_request(id: u8) -> [u8; 40] {
+    [
+        0x01, 0x11, 0, 20, 0x21, 0x12, 0xa4, 0x42, 0, 0, 0, 0, 0, 0, 0, 0, 0, 0, 0, id, 0x00, 0x09,
+        0, 15, 0, 0, 4, 0, b'B', b'a', b'd', b' ', b'R', b'e', b'q', b'u', b'e', b's', b't', 0,
+    ]
+}
+
+/// The id of this number.
+pub fn id(number: u8) -> Result<TransactionId, Fail> {
+    Ok(TransactionId::from_u128(u128::from(number)).ok_or("each byte is an id")?)
+}

@@ -14,7 +14,6 @@ use stun_proto::auth::{
     LongTermServerAuthError, LongTermServerAuthErrorReason, LongTermServerValidation,
     NonceSecurityBits, ShortTermAuth, minimum_nonce_expiry_duration,
 };
-use stun_proto::prelude::*;
 use stun_proto::replay::WordSource;
 use stun_proto::stats::StunAgentStats;
 use stun_proto::types::TransportType;
@@ -30,6 +29,7 @@ use stun_proto::types::message::{
     MessageType, MessageWriteMutSlice, MessageWriteVec, Method, ShortTermCredentials,
     StunParseError, StunWriteError, TransactionId, ValidateError, hmac_sha1, hmac_sha256,
 };
+use stun_proto::types::prelude::*;
 use stun_proto::{Instant, laws};
 
 /// A Binding request with id 1 and USERNAME `a`.

@@ -14,6 +14,8 @@ mod client_steps;
 #[cfg(test)]
 mod messages;
 #[cfg(test)]
+mod nonces;
+#[cfg(test)]
 mod renewal;
 #[cfg(test)]
 mod server_steps;
@@ -21,6 +23,8 @@ mod server_steps;
 mod short_term;
 #[cfg(test)]
 mod spelled;
+#[cfg(test)]
+mod texts;
 #[cfg(test)]
 mod unchecked;
 #[cfg(test)]

@@ -12,10 +12,6 @@ mod memory;
 #[cfg(test)]
 mod messages;
 #[cfg(test)]
-mod nonces;
-#[cfg(test)]
 mod settings;
 #[cfg(test)]
 mod signing;
-#[cfg(test)]
-mod texts;

@@ -5,6 +5,7 @@ use Rattle.std.specs.Option.{is_some, is_none, option_and_then, option_map, opti
 use Rattle.std.specs.List.{find}
 use Rattle.std.specs.FinMap as fin
 use Rattle.std.specs.Str.{bytes_eq}
+use Rattle.std.proofs.lemmas.Slice.Eq.{bytes_eq-Decides}
 use Rattle.std.specs.declared.result.Result.{Result}
 use Rattle.stun_base.specs.declared.algorithm.IntegrityAlgorithm.{IntegrityAlgorithm}
 use Rattle.stun_base.specs.declared.algorithm.IntegrityAlgorithm.TheVariants.{Sha1}
@@ -57,6 +58,15 @@ same_list-tested true xs ys decides = sym (same_list-from_same xs ys (decides.0 
 same_list-tested false xs ys decides =
     elim (same_list (map integrity_of xs) (map integrity_of ys)) as (λ b. same_list (map integrity_of xs) (map integrity_of ys) ≡ b → false ≡ b) [
       | true ↦ λ h. decides.1 (same_from_same_list xs ys h)
+      | false ↦ λ h. refl
+    ] refl
+
+-- a test of equality of bytes gives the same as the one of the definitions
+pub bytes_eq-tested : (b : Bool) (xs ys : List ℕ) → IsTrue b ↔ (xs ≡ ys) → b ≡ bytes_eq xs ys
+bytes_eq-tested true xs ys decides = sym ((bytes_eq-Decides xs ys).1 (decides.0 refl))
+bytes_eq-tested false xs ys decides =
+    elim (bytes_eq xs ys) as (λ b. bytes_eq xs ys ≡ b → false ≡ b) [
+      | true ↦ λ h. decides.1 ((bytes_eq-Decides xs ys).0 h)
       | false ↦ λ h. refl
     ] refl
 

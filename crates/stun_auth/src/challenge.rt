@@ -24,7 +24,6 @@ pub(crate) enum Refusal {
 
 /// How a client names its user.
 #[derive(Drop)]
-#[derive_where(Debug)]
 pub(crate) enum UserNaming<A: Allocator> {
     Plain(String<A>),
     Hashed([u8; 32]),
@@ -32,7 +31,6 @@ pub(crate) enum UserNaming<A: Allocator> {
 
 /// What a client keeps of a server's challenge.
 #[derive(Drop)]
-#[derive_where(Debug)]
 pub(crate) struct KeptChallenge<A: Allocator> {
     pub(crate) naming: UserNaming<A>,
     pub(crate) realm: String<A>,

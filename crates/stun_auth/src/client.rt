@@ -1,5 +1,6 @@
 //! The client's side of long-term authentication (RFC 8489, section 9.2).
-ghost use Rattle.std.specs.Prelude.{◌≡◌, ◌∷◌, [], Some, OnErr, map, option_copied, string_bytes};
+ghost use Rattle.std.specs.Prelude.{◌≡◌, ◌∷◌, [], Some, OnErr, map, codes, option_copied, string_bytes};
+ghost use Rattle.std.specs.Fmt.{WritesOnOk, WritesStyledOnOk};
 ghost use Rattle.stun_auth.specs.Reading.{reading_of};
 ghost use Rattle.stun_auth.specs.Client.{new_client};
 ghost use Rattle.stun_auth.specs.ClientStep.{IsResend, OrMemory, after_challenge, after_digest, after_stale, client_step, is_authenticated, is_code, is_repeated, reason_of, standing_digest, taken_up};
@@ -19,13 +20,12 @@ use crate::reading::Reading;
 use crate::supported::Supported;
 use std::alloc::{Allocator, Global};
 use std::marker::Model;
-use std::mem;
+use std::{fmt, mem};
 use stun_types::attribute::ErrorCode;
 use stun_types::message::{IntegrityAlgorithm, LongTermCredentials, Message};
 
 /// How far a client has come with its server.
 #[derive(Drop)]
-#[derive_where(Debug)]
 enum State<A: Allocator> {
     Initial,
     Authenticating(KeptChallenge<A>),
@@ -80,11 +80,9 @@ fn is_code(code: u16, error: Option<u16>) -> bool
 /// is made; the request is signed and sent again; a success that is signed under the key confirms it. From then on 401s
 /// are not taken up any more.
 ///
-/// Contracts see its settings and its state.
+/// Contracts see its settings and its state. `Debug` shows nothing of what it holds.
 #[derive(Drop)]
-#[derive_where(Debug)]
 pub struct LongTermClientAuth<A: Allocator = Global> {
-    #[derive_where(skip(Debug))]
     alloc: A,
     supported: Supported,
     feature: Feature,
@@ -107,6 +105,19 @@ impl<A: Allocator> Model for LongTermClientAuth<A> {
       settings = record { supported = in_order client.supported; feature = client.feature; credentials = client.credentials };
       state = state_seen client.state;
     } };
+}
+
+impl<A: Allocator> fmt::Debug for LongTermClientAuth<A> {
+    ghost debug_output = { λ _. Some (codes "LongTermClientAuth { .. }") };
+
+    fn fmt<W: fmt::Write>(&self, f: &mut fmt::Formatter<W>) -> fmt::Result
+        ensures writes { WritesOnOk W.write_str_gives f.old result (codes "LongTermClientAuth { .. }") f.new }
+
+        // So it is whatever width, precision or other option is asked.
+        ensures styled { WritesStyledOnOk W.write_str_gives f.old result (codes "LongTermClientAuth { .. }") f.new }
+    {
+        f.write_str("LongTermClientAuth { .. }")
+    }
 }
 
 impl<A: Allocator> LongTermClientAuth<A> {

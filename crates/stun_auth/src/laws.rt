@@ -33,6 +33,7 @@ use crate::client_answer::{LongTermClientAuthErrorReason, LongTermClientValidati
 use crate::feature::Feature;
 use crate::nonce::NonceSecurityBits;
 use crate::server_reason::{LongTermServerAuthErrorReason, LongTermServerValidation};
+use std::alloc::AllocError;
 
 /// What was added is what is read: after successful additions to an open message, its own attributes count as before and
 /// then the added ones, and the digest that was added last stands under its key.
@@ -192,6 +193,55 @@ pub fn server_messages_are_read()
 {
     signed_messages_are_read();
     sides_add_by_attribute();
+}
+
+/// Where nothing else is said user names are sent as their hash where the peer can do it too.
+pub fn default_feature() -> Feature
+    ensures { result ≡ Feature.Auto }
+{
+    Feature::default()
+}
+
+/// Where nothing else is said no security bit is set.
+pub fn default_security_bits() -> NonceSecurityBits
+    ensures { result ≡ 0 ∷ 0 ∷ 0 ∷ [] }
+{
+    NonceSecurityBits::default()
+}
+
+/// Copies of a feature and of security bits are the same values.
+pub fn copied_parts(
+    feature: &Feature,
+    bits: &NonceSecurityBits,
+) -> Result<(Feature, NonceSecurityBits), AllocError>
+    ensures { result ≡ Ok (feature.now, bits.now) }
+{
+    Ok((feature.clone()?, bits.clone()?))
+}
+
+/// Copies of answers and of reasons are the same values.
+pub fn copied_answers(
+    server: &LongTermServerValidation,
+    client: &LongTermClientValidation,
+    server_reason: &LongTermServerAuthErrorReason,
+    client_reason: &LongTermClientAuthErrorReason,
+) -> Result<
+    (
+        LongTermServerValidation,
+        LongTermClientValidation,
+        LongTermServerAuthErrorReason,
+        LongTermClientAuthErrorReason,
+    ),
+    AllocError,
+>
+    ensures { result ≡ Ok (server.now, client.now, server_reason.now, client_reason.now) }
+{
+    Ok((
+        server.clone()?,
+        client.clone()?,
+        server_reason.clone()?,
+        client_reason.clone()?,
+    ))
 }
 
 /// Features are equal as values.

@@ -2,7 +2,8 @@
 
 ghost use Rattle.std.specs.Prelude.{◌≡◌, ◌≤◌, ⊤, Option, None, Some, OnOk, OnErr, Ok, codes};
 ghost use Rattle.std.specs.Duration.{as_nanos};
-ghost use Rattle.std.specs.Option.{option_copied, option_map};
+ghost use Rattle.std.specs.Fmt.{WritesOnOk, WritesStyledOnOk};
+ghost use Rattle.std.specs.Option.{option_and_then, option_copied, option_map};
 ghost use Rattle.std.specs.FinMap as map;
 ghost use Rattle.std.specs.String.{string_bytes};
 ghost use Rattle.stun_auth.specs.Algorithms.{listed, only, with_algorithm};
@@ -74,7 +75,12 @@ impl<A: Allocator> Model for LongTermServerAuth<A> {
 impl<A: Allocator> fmt::Debug for LongTermServerAuth<A> {
     ghost debug_output = { λ _. Some (codes "LongTermServerAuth { .. }") };
 
-    fn fmt<W: fmt::Write>(&self, f: &mut fmt::Formatter<W>) -> fmt::Result {
+    fn fmt<W: fmt::Write>(&self, f: &mut fmt::Formatter<W>) -> fmt::Result
+        ensures writes { WritesOnOk W.write_str_gives f.old result (codes "LongTermServerAuth { .. }") f.new }
+
+        // So it is whatever width, precision or other option is asked.
+        ensures styled { WritesStyledOnOk W.write_str_gives f.old result (codes "LongTermServerAuth { .. }") f.new }
+    {
         f.write_str("LongTermServerAuth { .. }")
     }
 }
@@ -121,6 +127,22 @@ impl<A: Allocator + Copy> LongTermServerAuth<A> {
     {
         match self.places.get(address) {
             Some(place) => Some(place.nonce.as_str()),
+            None => None,
+        }
+    }
+
+    /// The user who was validated last at an address, with the algorithm that both sides agreed on: whom the address's last
+    /// `Validated` request or indication named. Neither the first USERNAME of a message nor the algorithm of its digest tells
+    /// that. `None` after `remove_client`. A user who was removed since is still told.
+    pub fn client(&self, address: SocketAddr) -> Option<(&str, IntegrityAlgorithm)>
+        ensures { option_map (λ pair. record { name = pair.0.now; algorithm = pair.1 }) result
+            ≡ option_and_then (λ (p : PlaceSeen). p.client) (map.get self.now.places address) }
+    {
+        match self.places.get(address) {
+            Some(place) => match &place.client {
+                Some(client) => Some((client.name.as_str(), client.algorithm)),
+                None => None,
+            },
             None => None,
         }
     }

@@ -1,10 +1,12 @@
 //! Short-term authentication (RFC 8489, section 9.1).
 
-ghost use Rattle.std.specs.Prelude.{◌≡◌, ◌≤◌, ◌+◌, length, IfOk, IsOk, OnOk, OnErr, IsOkUnless, MatchOption, Some, None};
+ghost use Rattle.std.specs.Prelude.{◌≡◌, ◌≤◌, ◌+◌, length, IfOk, IsOk, OnOk, OnErr, IsOkUnless, MatchOption, Some, None, codes};
+ghost use Rattle.std.specs.Fmt.{WritesOnOk, WritesStyledOnOk};
 ghost use Rattle.std.specs.Option.{option_copied, option_map};
 ghost use Rattle.stun_auth.specs.ShortTerm.{ShortTermMaySign, short_term_answer, short_term_growth, short_term_refusal, short_term_signed};
 
 use std::alloc::{AllocError, Allocator, Global};
+use std::fmt;
 use std::marker::Model;
 use stun_types::message::{
     IntegrityAlgorithm, IntegrityKey, Message, ShortTermCredentials, StunWriteError, ValidateError,
@@ -13,16 +15,14 @@ use stun_types::prelude::*;
 
 /// Signs messages with a password that both sides know, and checks theirs.
 ///
-/// Contracts see the bytes of the password and the algorithm, once both are set.
+/// Contracts see the bytes of the password and the algorithm, once both are set. `Debug` shows neither.
 #[derive(Drop)]
-#[derive_where(Debug)]
 pub struct ShortTermAuth<A: Allocator = Global> {
     kept: Option<KeptPassword<A>>,
 }
 
 /// Credentials with the key that they give and the algorithm to sign with.
 #[derive(Drop)]
-#[derive_where(Debug)]
 struct KeptPassword<A: Allocator> {
     credentials: ShortTermCredentials<A>,
     algorithm: IntegrityAlgorithm,
@@ -40,6 +40,19 @@ impl<A: Allocator> Model for ShortTermAuth<A> {
     ghost view = { λ auth. secret_of auth.kept };
 
     ghost invariant = { λ auth. KeyIsPassword auth.kept };
+}
+
+impl<A: Allocator> fmt::Debug for ShortTermAuth<A> {
+    ghost debug_output = { λ _. Some (codes "ShortTermAuth { .. }") };
+
+    fn fmt<W: fmt::Write>(&self, f: &mut fmt::Formatter<W>) -> fmt::Result
+        ensures writes { WritesOnOk W.write_str_gives f.old result (codes "ShortTermAuth { .. }") f.new }
+
+        // So it is whatever width, precision or other option is asked.
+        ensures styled { WritesStyledOnOk W.write_str_gives f.old result (codes "ShortTermAuth { .. }") f.new }
+    {
+        f.write_str("ShortTermAuth { .. }")
+    }
 }
 
 impl<A: Allocator> ShortTermAuth<A> {

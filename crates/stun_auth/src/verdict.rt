@@ -2,6 +2,7 @@
 
 ghost use Rattle.std.specs.Prelude.{◌≡◌, Option, None, Some, map};
 ghost use Rattle.std.specs.Option.{option_copied};
+ghost use Rattle.std.specs.Str.{bytes_eq};
 ghost use Rattle.stun_auth.specs.Algorithms.{has as is_among, offered_list, same_list};
 ghost use Rattle.stun_auth.specs.Nonces.{security_bits};
 ghost use Rattle.stun_auth.specs.Server.{agreed, bits_differ, nonce_refusal, verdict};
@@ -17,6 +18,7 @@ use crate::registry::Registry;
 use crate::server_reason::Refusal;
 use std::alloc::Allocator;
 use stun_base::algorithm::IntegrityAlgorithm;
+use stun_base::compare::is_same_text;
 use stun_types::attribute::{PasswordAlgorithmValue, PasswordAlgorithms};
 
 /// Who is accepted.
@@ -126,6 +128,13 @@ fn name_in<'a, A: Allocator + Copy>(
     }
 }
 
+/// Whether a nonce is the one that is current. Each byte is looked at, wherever they differ.
+fn is_same_nonce(theirs: &str, ours: &str) -> bool
+    ensures { result ≡ bytes_eq theirs.now ours.now }
+{
+    is_same_text(theirs.as_bytes(), ours.as_bytes())
+}
+
 /// Who is accepted where this nonce is current and these algorithms were offered, or the first refusal that holds.
 ///
 /// It does not allocate and derives no key.
@@ -150,7 +159,7 @@ pub(crate) fn verdict<'a, A: Allocator + Copy>(
     let Some(algorithm) = agreed(reading, theirs, offered) else {
         return Err(Refusal::BadRequest);
     };
-    if theirs != nonce {
+    if !is_same_nonce(theirs, nonce) {
         return Err(nonce_refusal(nonce, theirs));
     }
     let Some(name) = name_in(registry, feature, reading) else {

@@ -27,7 +27,7 @@ use Rattle.stun_proto.specs.Isolation.{IsIsolated, concerns, own, own_place_afte
 use Rattle.stun_proto.specs.declared.replay.call.ServerCall.{ServerCall}
 use Rattle.stun_proto.specs.declared.replay.call.ServerCall.TheVariants as Call
 use Rattle.stun_auth.proofs.Forgotten.{get-places_kept}
-use Rattle.stun_proto.proofs.Addresses.{address_total, address_exact}
+use Rattle.stun_auth.proofs.Addresses.{address_total, address_exact}
 
 is_equal : (o : Ordering) → is_eq o ≡ true → o ≡ Equal
 is_equal Less h = cc

@@ -1,13 +1,10 @@
 pub mod AcceptingLemmas
-pub mod Addresses
 pub mod AfterCalls
 pub mod Along
 pub mod Answered
-pub mod Ascending
 pub mod Chosen
 pub mod DrawnWords
 pub mod DriveLemmas
-pub mod EntryLemmas
 pub mod Existence
 pub mod Hashes
 pub mod Heard
@@ -32,7 +29,6 @@ pub mod Signed
 pub mod SignedRuns
 pub mod SigningLemmas
 pub mod Small
-pub mod SoonerLemmas
 pub mod Standing
 pub mod Strongest
 pub mod TurnLemmas

@@ -12,12 +12,12 @@ use Rattle.stun_base.specs.Moments.{moment_after}
 use Rattle.stun_base.specs.declared.transport.TransportType.{TransportType}
 use Rattle.stun_agent.specs.Agent.{Agent}
 use Rattle.stun_agent.specs.Transactions.{Transaction, Transactions, IsAscending, is_cancelled, awaited, awaited_moments, sooner, next_awaited, wake_up, an_hour}
-use Rattle.stun_proto.proofs.EntryLemmas.{own_key, later_key}
+use Rattle.stun_agent.proofs.EntryLemmas.{own_key, later_key}
 use Rattle.stun_proto.specs.Steps.{Step}
 use Rattle.stun_proto.specs.code.Calls.{HasPassed}
 use Rattle.stun_proto.specs.Run.{IsAwaited, IsNext, Phase, Turn, sends, rests, ends, again, stops}
-use Rattle.stun_proto.proofs.Ascending.{lookup_among, fold-min-le}
-use Rattle.stun_proto.proofs.SoonerLemmas.{first_le, sooner_stays, one_of}
+use Rattle.stun_agent.proofs.Ascending.{lookup_among, fold-min-le}
+use Rattle.stun_agent.proofs.SoonerLemmas.{first_le, sooner_stays, one_of}
 
 module _ (transport : TransportType) where
   -- no awaited moment is less

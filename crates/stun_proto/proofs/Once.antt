@@ -34,10 +34,10 @@ use Rattle.stun_proto.specs.Headline.{IsAskedOnce, SendsByPlan}
 use Rattle.stun_proto.specs.Run.{Phase, Turn, sends, rests, ends, again, stops, sending, Turns, turn, none, Run, IsDriven, done, event, transmitted, ended, after_change, after_event, steps_of_event}
 use Rattle.stun_proto.specs.Schedule.{Asks, AreInOrder, IsUndisturbed, plan, end, cut}
 use Rattle.stun_proto.specs.Steps.{Step, Transmitted, Sent, Received, Refused, TimedOut, Cancelled, is_of, own}
-use Rattle.stun_proto.proofs.Addresses.{address_total}
+use Rattle.stun_auth.proofs.Addresses.{address_total}
 use Rattle.stun_proto.proofs.AfterCalls.{transmit_transport, transmit_transactions, poll_transport, poll_transactions}
-use Rattle.stun_proto.proofs.Ascending.{IsAscending-map, IsAscending-remove, lookup-remove_other, lookup-set_other, lookup-insert_other}
-use Rattle.stun_proto.proofs.EntryLemmas.{same_key, lookup_found}
+use Rattle.stun_agent.proofs.Ascending.{IsAscending-map, IsAscending-remove, lookup-remove_other, lookup-set_other, lookup-insert_other}
+use Rattle.stun_agent.proofs.EntryLemmas.{same_key, lookup_found}
 use Rattle.stun_proto.proofs.RunLemmas.{turn_ascends, turns_ascends, event_ascends, run_ascends, comes_to, in_order_then}
 use Rattle.stun_proto.proofs.ScheduleLaw.{keeps_plan, response_taken}
 

@@ -7,9 +7,9 @@ use Rattle.std.specs.BTreeMap.{is_at}
 use Rattle.std.proofs.lemmas.Bool.{lt-leb, le-leb}
 use Rattle.stun_base.specs.declared.transport.TransportType.{TransportType}
 use Rattle.stun_agent.specs.Transactions.{Transaction, Transactions, at, repeats, next_sent, first_over, is_due, is_over, after_slot, after_slots, slot_passed}
-use Rattle.stun_proto.proofs.EntryLemmas.{own_key, lookup_found, lookup-map_entries}
+use Rattle.stun_agent.proofs.EntryLemmas.{own_key, lookup_found, lookup-map_entries}
 use Rattle.stun_agent.specs.Transactions.{IsAscending}
-use Rattle.stun_proto.proofs.Ascending.{find-none, find-least}
+use Rattle.stun_agent.proofs.Ascending.{find-none, find-least}
 
 -- ---- numbers as keys
 pub other_key : (id j : ℕ) → is_at (nat_cmp id) j ≡ false → j ≡ id → ⊥

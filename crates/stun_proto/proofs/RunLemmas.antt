@@ -23,7 +23,7 @@ use Rattle.stun_proto.specs.RunLaws.{GoesByPlan, KeepPlans, IsDetermined, IsDete
 use Rattle.stun_proto.specs.Schedule.{AreInOrder}
 use Rattle.stun_proto.specs.Steps.{Step, Transmitted, Refused, own}
 use Rattle.stun_proto.proofs.AfterCalls.{transmit_transactions, poll_transactions}
-use Rattle.stun_proto.proofs.Ascending.{IsAscending-map, IsAscending-remove, IsAscending-set_value, IsAscending-insert}
+use Rattle.stun_agent.proofs.Ascending.{IsAscending-map, IsAscending-remove, IsAscending-set_value, IsAscending-insert}
 use Rattle.stun_proto.proofs.ScheduleLaw.{keeps_plan, response_taken}
 
 -- ---- the ids still ascend

@@ -35,8 +35,8 @@ use Rattle.stun_proto.specs.Run.{Run, done, event, Turns, turn, none, IsAwaited,
 use Rattle.stun_proto.specs.Schedule.{IsUndisturbed, AreInOrder, IsAimedAt, plan, transmission, end, cut}
 use Rattle.stun_proto.specs.Steps.{Step, Transmitted, Sent, Received, Refused, TimedOut, Cancelled, own}
 use Rattle.stun_proto.proofs.AfterCalls.{transmit_transport, transmit_transactions, poll_transport, poll_transactions}
-use Rattle.stun_proto.proofs.Ascending.{IsAscending-map, IsAscending-remove, IsAscending-set_value, IsAscending-insert, lookup-remove_other, lookup-set_other, lookup-insert_other, lookup-insert_same, fold-min-le}
-use Rattle.stun_proto.proofs.EntryLemmas.{same_key}
+use Rattle.stun_agent.proofs.Ascending.{IsAscending-map, IsAscending-remove, IsAscending-set_value, IsAscending-insert, lookup-remove_other, lookup-set_other, lookup-insert_other, lookup-insert_same, fold-min-le}
+use Rattle.stun_agent.proofs.EntryLemmas.{same_key}
 use Rattle.stun_proto.proofs.OneTransaction.{other_key, sent_same, sent_other, sent_none, over_same, over_none}
 
 -- ---- requests that are accepted

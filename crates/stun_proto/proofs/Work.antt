@@ -4,7 +4,7 @@ use Rattle.std.specs.Prelude.{find, fold, Option, Some, None, nat_le}
 use Rattle.std.specs.Option.{option_map}
 use Rattle.std.specs.Ordering.{nat_cmp}
 use Rattle.std.specs.BTreeMap.{is_at}
-use Rattle.stun_proto.proofs.EntryLemmas.{own_key}
+use Rattle.stun_agent.proofs.EntryLemmas.{own_key}
 use Rattle.std.proofs.lemmas.Bool.{ltb-true, leb-false, le-leb}
 use Rattle.stun_base.specs.declared.transport.TransportType.{TransportType}
 use Rattle.stun_base.specs.Moments.{last_moment, moment_after}

@@ -18,6 +18,8 @@ mod registry;
 #[cfg(test)]
 mod rfc5769;
 #[cfg(test)]
+mod secrets;
+#[cfg(test)]
 mod values;
 #[cfg(test)]
 mod writing;

@@ -15,3 +15,7 @@ mod messages;
 mod settings;
 #[cfg(test)]
 mod signing;
+#[cfg(test)]
+mod texts;
+#[cfg(test)]
+mod users;

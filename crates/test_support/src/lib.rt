@@ -5,6 +5,7 @@ pub mod array_writer;
 pub mod client;
 pub mod datagrams;
 pub mod parts;
+pub mod secrets;
 pub mod server;
 pub mod spelled;
 pub mod words;

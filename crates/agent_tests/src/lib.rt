@@ -1,0 +1,25 @@
+//! Tests of the agent: requests, their time and their statistics.
+#![tactic(auto)]
+
+#[cfg(test)]
+mod answers;
+#[cfg(test)]
+mod application;
+#[cfg(test)]
+mod authenticator_first;
+#[cfg(test)]
+mod counted_polls;
+#[cfg(test)]
+mod memory;
+#[cfg(test)]
+mod new_statistics;
+#[cfg(test)]
+mod requests;
+#[cfg(test)]
+mod statistics;
+#[cfg(test)]
+mod steps;
+#[cfg(test)]
+mod timeouts;
+#[cfg(test)]
+mod transmit;

@@ -1,0 +1,153 @@
+//! Each allocation that an agent asks for refused in turn: it is then as before. Which calls ask for none.
+use fail_alloc::RefusingAllocator;
+use std::alloc::Global;
+use std::process::Abort;
+use std::test::Fail;
+use std::time::Duration;
+use stun_agent::agent::{StunAgent, StunAgentPollRet, StunError, Transmit};
+use stun_base::data::{Data, OwnedBytes};
+use stun_base::transport::TransportType;
+use stun_types::message::Message;
+use test_support::datagrams::{REQUEST, SUCCESS, address, at, id, local, message, peer};
+
+type Heap = RefusingAllocator<Global>;
+
+/// A request that is kept or refused. The answer tells whether no refusal was met.
+fn asks(rt: &impl Abort, heap: &Heap, nth: u64) -> Result<bool, Fail> {
+    let mut agent = StunAgent::builder(heap, TransportType::Udp, local())
+        .stats(true)
+        .build();
+    heap.refuse(nth);
+    let refused = agent.send_request(message(REQUEST, 1), peer(), at(0)).err();
+    let met_none = heap.met_none();
+    let stats = agent.stats().ok_or("they are kept")?;
+    if met_none {
+        assert_eq!(rt; refused, None);
+        assert_eq!(rt; stats.requests_sent(), 1);
+    } else {
+        assert_eq!(rt; refused, Some(StunError::OutOfMemory));
+        assert_eq!(rt; (stats.requests_sent(), stats.bytes_sent()), (0, 0));
+        assert!(rt; agent.request_transaction(id(1)?).is_none());
+        assert_eq!(rt; agent.next_awaited(), None);
+    }
+    Ok(met_none)
+}
+
+#[test]
+fn a_request_is_kept_or_refused(rt: HostRuntime) -> Result<(), Fail> {
+    let heap = RefusingAllocator::new(rt.alloc());
+    heap.each_refusal(|nth| asks(&rt, &heap, nth))
+}
+
+/// A response that is taken, or its request stays, and the counters with it.
+fn takes(rt: &impl Abort, heap: &Heap, timed: bool, nth: u64) -> Result<bool, Fail> {
+    let mut agent = StunAgent::builder(heap, TransportType::Udp, local())
+        .stats(true)
+        .build();
+    let _sent = agent.send_request(message(REQUEST, 1), peer(), at(0))?;
+    let bytes = message(SUCCESS, 1);
+    let response = Message::from_bytes(&bytes)?;
+    heap.refuse(nth);
+    let taken = if timed {
+        agent
+            .handle_stun_message_with_time(&response, peer(), at(9))
+            .ok()
+    } else {
+        agent.handle_stun_message(&response, peer()).ok()
+    };
+    let met_none = heap.met_none();
+    let stats = agent.stats().ok_or("they are kept")?;
+    let counters = (
+        stats.responses_received(),
+        stats.bytes_received(),
+        stats.rtt_count(),
+    );
+    if met_none {
+        assert_eq!(rt; taken, Some(true));
+        assert_eq!(rt; counters, (1, 20, u64::from(timed)));
+    } else {
+        assert_eq!(rt; taken, None);
+        assert_eq!(rt; counters, (0, 0, 0));
+        assert!(rt; agent.request_transaction(id(1)?).is_some());
+    }
+    assert_eq!(rt; agent.is_validated_peer(peer()), met_none);
+    Ok(met_none)
+}
+
+#[test]
+fn a_response_is_taken_or_its_request_stays(rt: HostRuntime) -> Result<(), Fail> {
+    let heap = RefusingAllocator::new(rt.alloc());
+    heap.each_refusal(|nth| takes(&rt, &heap, false, nth))?;
+    heap.each_refusal(|nth| takes(&rt, &heap, true, nth))
+}
+
+/// A peer that is validated or not.
+fn validates(rt: &impl Abort, heap: &Heap, nth: u64) -> Result<bool, Fail> {
+    let mut agent = StunAgent::builder(heap, TransportType::Udp, local()).build();
+    agent.validated_peer(address(7, 1))?;
+    heap.refuse(nth);
+    let is_kept = agent.validated_peer(peer()).is_ok();
+    let met_none = heap.met_none();
+    assert!(rt; is_kept || !met_none);
+    assert_eq!(rt; agent.is_validated_peer(peer()), is_kept);
+    assert!(rt; agent.is_validated_peer(address(7, 1)));
+    Ok(met_none)
+}
+
+#[test]
+fn a_peer_is_validated_or_not(rt: HostRuntime) -> Result<(), Fail> {
+    let heap = RefusingAllocator::new(rt.alloc());
+    heap.each_refusal(|nth| validates(&rt, &heap, nth))
+}
+
+/// What is to be sent, owned or not.
+fn owns(rt: &impl Abort, heap: &Heap, nth: u64) -> Result<bool, Fail> {
+    let bytes = message(REQUEST, 1);
+    let lent = Transmit::new(Data::Borrowed(&bytes), TransportType::Udp, local(), peer());
+    heap.refuse(nth);
+    let answer = lent.into_owned(heap);
+    let met_none = heap.met_none();
+    match answer {
+        Ok(owned) => {
+            assert_eq!(rt; owned.data.bytes(), bytes.as_slice());
+            assert_eq!(rt; owned.to, peer());
+        }
+        Err(_) => assert!(rt; !met_none),
+    }
+    Ok(met_none)
+}
+
+#[test]
+fn a_transmit_is_owned_or_not(rt: HostRuntime) -> Result<(), Fail> {
+    let heap = RefusingAllocator::new(rt.alloc());
+    heap.each_refusal(|nth| owns(&rt, &heap, nth))
+}
+
+/// Polls, changes of a request and its end ask for no memory.
+#[test]
+fn polls_do_not_allocate(rt: HostRuntime) -> Result<(), Fail> {
+    let heap = RefusingAllocator::new(rt.alloc());
+    let mut agent = StunAgent::builder(&heap, TransportType::Udp, local()).build();
+    for number in [1, 2] {
+        let _sent = agent.send_request(message(REQUEST, number), peer(), at(0))?;
+    }
+    let allocations = heap.allocations();
+    heap.refuse(1);
+    assert!(rt; agent.poll_transmit(at(500)).is_some());
+    assert_eq!(rt; agent.next_awaited(), Some(at(500)));
+    agent
+        .mut_request_transaction(id(1)?)
+        .ok_or("it is outstanding")?
+        .cancel();
+    let end = agent.poll(at(500));
+    assert_eq!(rt; end, StunAgentPollRet::TransactionCancelled(id(1)?));
+    agent
+        .mut_request_transaction(id(2)?)
+        .ok_or("it is outstanding")?
+        .configure_timeout(Duration::from_millis(500), 1, Duration::from_secs(1));
+    let end = agent.poll(at(60000));
+    assert_eq!(rt; end, StunAgentPollRet::TransactionTimedOut(id(2)?));
+    assert!(rt; heap.is_waiting());
+    assert_eq!(rt; heap.allocations(), allocations);
+    Ok(())
+}

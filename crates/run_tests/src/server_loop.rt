@@ -1,0 +1,125 @@
+//! A server around an authenticator, as its user writes it: judge each request, and answer it signed or not.
+use crate::dialogue::{
+    CHALLENGE, RENEWED_REQUEST, REQUEST, SIGNED_REQUEST, STALE_NONCE, SUCCESS, Socket, arrivals,
+    user,
+};
+use std::alloc::{AllocError, Global};
+use std::net::SocketAddr;
+use std::test::Fail;
+use stun_auth::auth::{
+    LongTermServerAuth, LongTermServerAuthErrorReason as Reason, LongTermServerValidation,
+};
+use stun_base::instant::Instant;
+use stun_proto::replay::WordSource;
+use stun_types::attribute::{ErrorCode, XorMappedAddress};
+use stun_types::message::{
+    IntegrityAlgorithm, Message, MessageClass, MessageWriteVec, StunWriteError,
+};
+use stun_types::prelude::*;
+use test_support::datagrams::local;
+
+/// Answers requests for the address that they come from (RFC 8489, sections 6.3.1 and 9.2.4), until no datagram is left.
+fn serve(
+    alloc: Global,
+    auth: &mut LongTermServerAuth,
+    socket: &mut Socket<'_>,
+    rng: &mut WordSource,
+) -> Result<(), AllocError> {
+    for _ in 0..u64::MAX {
+        let Some((bytes, from)) = socket.receive(Instant::MAX) else {
+            break;
+        };
+        // Dropped: what is no message, and what wants no answer.
+        let Ok(request) = Message::from_bytes(bytes) else {
+            continue;
+        };
+        if !request.has_class(MessageClass::Request) {
+            continue;
+        }
+        if let Ok(Some(bytes)) = answer(alloc, auth, &request, (from, socket.now()), rng) {
+            socket.send(bytes.as_slice(), from)?;
+        }
+    }
+    Ok(())
+}
+
+/// The answer to a request, if it gets one.
+fn answer(
+    alloc: Global,
+    auth: &mut LongTermServerAuth,
+    request: &Message<'_>,
+    (from, now): (SocketAddr, Instant),
+    rng: &mut WordSource,
+) -> Result<Option<Vec<u8>>, StunWriteError> {
+    let writer = MessageWriteVec::new(alloc);
+    let code = match auth.validate_incoming_message(request, from, now, rng) {
+        Ok(LongTermServerValidation::Validated(_)) => {
+            let mut success = Message::builder_success(request, writer)?;
+            success.add_attribute(&XorMappedAddress::new(from, request.transaction_id()))?;
+            return Ok(Some(auth.sign_outgoing_message(success, from)?.finish()));
+        }
+        Err(refusal) => match refusal.reason() {
+            Reason::BadRequest => ErrorCode::BAD_REQUEST,
+            Reason::StaleNonce => ErrorCode::STALE_NONCE,
+            Reason::Unauthorized => ErrorCode::UNAUTHORIZED,
+            _ => return Ok(None),
+        },
+    };
+    let mut error = Message::builder_error(request, writer)?;
+    error.add_attribute(&ErrorCode::builder(code).build()?)?;
+    // A 400 tells neither nonce nor realm, and is not signed.
+    if code != ErrorCode::BAD_REQUEST {
+        error = auth.sign_outgoing_message(error, from)?;
+    }
+    Ok(Some(error.finish()))
+}
+
+/// A server of the realm `realm` and the user `user`, with both algorithms.
+fn server(alloc: Global) -> Result<LongTermServerAuth, Fail> {
+    let mut auth = LongTermServerAuth::new(alloc, String::from_str(alloc, "realm")?);
+    auth.add_supported_integrity(IntegrityAlgorithm::Sha256);
+    auth.add_user(user(alloc, "pass")?)?;
+    Ok(auth)
+}
+
+/// An indication with the id of the first request.
+const INDICATION: &str = "00110000 2112a442 000000010000000200000003";
+
+/// A request with USERNAME and MESSAGE-INTEGRITY-SHA256 under the user's key, without nonce and realm.
+const HALF_SIGNED: &str = "0001002c 2112a442 000000070000000700000007 00060004 75736572
+    001c0020 3c149a82842a751d99afd3d24b974c151fdf18d517b09149c541c9acb4caa192";
+
+/// Its answer: ERROR-CODE 400.
+const BAD_REQUEST: &str =
+    "01110014 2112a442 000000070000000700000007 0009000f 00000400 426164205265717565737400";
+
+/// A nonce stands for an hour, that moment included.
+#[test]
+fn a_server_answers(rt: HostRuntime) -> Result<(), Fail> {
+    let alloc = rt.alloc();
+    let coming = arrivals(
+        alloc,
+        local(),
+        &[
+            (0, "8000 2112a442"),
+            (1, INDICATION),
+            (2, SUCCESS),
+            (3, REQUEST),
+            (3_600_004, SIGNED_REQUEST),
+            (3_600_005, RENEWED_REQUEST),
+            (3_600_006, HALF_SIGNED),
+        ],
+    )?;
+    let mut socket = Socket::new(alloc, coming.as_slice());
+    let mut auth = server(alloc)?;
+    // Each word of 1 draws the letter `B`; the zeros behind them draw the letter `A`.
+    let mut rng = WordSource::new([1; 16]);
+    serve(alloc, &mut auth, &mut socket, &mut rng)?;
+    let expected = [
+        (3, CHALLENGE),
+        (3_600_004, STALE_NONCE),
+        (3_600_005, SUCCESS),
+        (3_600_006, BAD_REQUEST),
+    ];
+    socket.expect_sent(&rt, alloc, local(), &expected)
+}

@@ -1,0 +1,76 @@
+//! The texts of refusals, and what `Debug` shows of a server.
+use std::test::Fail;
+use stun_auth::auth::{Feature, LongTermClientAuthErrorReason, LongTermServerAuthErrorReason};
+use test_support::secrets::{are_silent, shown};
+use test_support::server::plain_server;
+
+#[test]
+fn a_server_names_its_reasons(rt: HostRuntime) -> Result<(), Fail> {
+    let alloc = rt.alloc();
+    for (reason, text) in [
+        (
+            LongTermServerAuthErrorReason::Unauthorized,
+            "The message is not sufficiently authenticated",
+        ),
+        (
+            LongTermServerAuthErrorReason::IntegrityFailed,
+            "The message failed integrity checks",
+        ),
+        (
+            LongTermServerAuthErrorReason::UnsupportedFeature,
+            "A required feature is not supported",
+        ),
+        (
+            LongTermServerAuthErrorReason::BadRequest,
+            "The request message is not well-formed",
+        ),
+        (
+            LongTermServerAuthErrorReason::StaleNonce,
+            "The request presented with an out of date nonce.",
+        ),
+        (LongTermServerAuthErrorReason::OutOfMemory, "Out of memory"),
+    ] {
+        assert_eq!(rt; format!(in alloc; "{reason}")?.as_str(), text);
+    }
+    Ok(())
+}
+
+#[test]
+fn a_client_names_its_reasons(rt: HostRuntime) -> Result<(), Fail> {
+    let alloc = rt.alloc();
+    for (reason, text) in [
+        (
+            LongTermClientAuthErrorReason::Unauthorized,
+            "The message is not sufficiently authenticated",
+        ),
+        (
+            LongTermClientAuthErrorReason::IntegrityFailed,
+            "The message failed integrity checks",
+        ),
+        (
+            LongTermClientAuthErrorReason::UnsupportedFeature,
+            "A required feature is not supported",
+        ),
+        (LongTermClientAuthErrorReason::OutOfMemory, "Out of memory"),
+    ] {
+        assert_eq!(rt; format!(in alloc; "{reason}")?.as_str(), text);
+    }
+    Ok(())
+}
+
+/// Whatever the formatter asks for, and where a write fails.
+#[test]
+fn debug_shows_nothing_of_a_server(rt: HostRuntime) -> Result<(), Fail> {
+    let alloc = rt.alloc();
+    let server = plain_server(alloc, alloc)?;
+    let texts = shown(alloc, &server)?;
+    assert_eq!(rt; texts[0].as_str(), "LongTermServerAuth { .. }");
+    // The user, the realm and the nonce.
+    assert!(rt; are_silent(&texts, &["user", "realm", "AAAA"]));
+    Ok(())
+}
+
+#[test]
+fn names_are_hashed_where_a_client_wants_them(rt: HostRuntime) {
+    assert_eq!(rt; Feature::default(), Feature::Auto);
+}

@@ -1,0 +1,54 @@
+//! What `Debug` writes of a value that holds a secret.
+use std::alloc::{AllocError, Global};
+use std::fmt::{self, Debug, Write};
+use std::test::Fail;
+
+/// A writer that keeps what it is given, and fails once it was called so often.
+#[derive(Drop)]
+pub struct FailingWriter {
+    text: String,
+    calls: u32,
+}
+
+impl Write for FailingWriter {
+    fn write_str(&mut self, text: &str) -> fmt::Result {
+        if self.calls == 0 {
+            return Err(fmt::Error);
+        }
+        self.calls -= 1;
+        match self.text.push_str(text) {
+            Ok(()) => Ok(()),
+            Err(AllocError) => Err(fmt::Error),
+        }
+    }
+}
+
+/// What is written of a value up to the writer's failure, after so many calls.
+fn cut<T: Debug>(alloc: Global, value: &T, calls: u32) -> String {
+    let mut writer = FailingWriter {
+        text: String::new(alloc),
+        calls,
+    };
+    let _failed = write!(writer, "{value:#?}");
+    let FailingWriter { text, calls: _ } = writer;
+    text
+}
+
+/// What is written of a value: plainly, in lines, within a width, inside another value, and where the writer fails.
+pub fn shown<T: Debug>(alloc: Global, value: &T) -> Result<[String; 7], Fail> {
+    let nested = Some(value);
+    Ok([
+        format!(in alloc; "{value:?}")?,
+        format!(in alloc; "{value:#?}")?,
+        format!(in alloc; "{value:40?}")?,
+        format!(in alloc; "{nested:#?}")?,
+        cut(alloc, value, 0),
+        cut(alloc, value, 1),
+        cut(alloc, value, 2),
+    ])
+}
+
+/// Whether none of these texts has a word of the secret.
+pub fn are_silent(texts: &[String], secrets: &[&str]) -> bool {
+    texts.iter().all(|text| secrets.iter().all(|secret| !text.contains(*secret)))
+}

@@ -74,6 +74,7 @@ impl<'a, A: Allocator> Data<'a, A> {
         ensures bytes { IfOk result (λ owned. data_bytes owned ≡ data_bytes self.entry) }
         ensures owned { IfOk result (λ owned. IsOwned owned) }
         ensures moves { IsOwned self.entry → IsOk result }
+        ensures itself { IsOwned self.entry → result ≡ Ok self.entry }
     {
         match self {
             Data::Borrowed(bytes) => Ok(Data::Owned(Vec::from_slice(alloc, bytes)?)),

@@ -9,6 +9,7 @@ pub mod Existence
 pub mod Hashes
 pub mod Heard
 pub mod IsolationLemmas
+pub mod Keeping
 pub mod Matched
 pub mod Meeting
 pub mod NextLemmas

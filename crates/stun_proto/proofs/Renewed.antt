@@ -3,7 +3,7 @@ use Rattle.std.proofs.Common.{◌≡◌, ℕ, List, Option, Some, None, Bool, tr
 use Rattle.std.specs.Prelude.{cond, not, ◌&&◌, IsUtf8}
 use Rattle.std.specs.Str.{bytes_eq}
 use Rattle.std.specs.declared.result.Result.{Result}
-use Rattle.std.proofs.lemmas.Bool.{le-leb, lt-leb}
+use Rattle.std.proofs.lemmas.Bool.{le-leb}
 use Rattle.std.proofs.lemmas.Slice.Eq.{bytes_eq-Decides}
 use Rattle.stun_base.specs.Credentials.{NameAndPassword}
 use Rattle.stun_base.specs.Keys.{long_term_key}
@@ -22,7 +22,7 @@ use Rattle.stun_auth.specs.Reading.{Reading, is_success, reading_of, stands_unde
 use Rattle.stun_auth.specs.Reasons.{ServerRefusal}
 use Rattle.stun_auth.specs.code.Reasons.{stale_nonce, unauthorized}
 use Rattle.stun_auth.specs.Registered.{Registered}
-use Rattle.stun_auth.specs.Seen.{ClientSeen, PlaceSeen, renewed}
+use Rattle.stun_auth.specs.Seen.{ClientSeen, PlaceSeen}
 use Rattle.stun_auth.specs.Server.{Sight, bits_differ, named_by, nonce_refusal, standing, verdict}
 use Rattle.stun_auth.specs.ServerSigning.{after_signing}
 use Rattle.stun_auth.specs.Signed.{hashed_name, plain_name}
@@ -31,6 +31,7 @@ use Rattle.stun_proto.specs.Matching.{AreJoined, AreTexts, Matches}
 use Rattle.stun_proto.specs.Renewal as renewal
 use Rattle.stun_proto.specs.Renewal.{HasRunOut, IsAcceptedAnew, IsAsked, IsRenewed, IsTold, LeaveNonce, Renewal, after_request, answer_at, at_error, at_first, at_second, drawn, leaves_nonce, told}
 use Rattle.stun_proto.proofs.Answered.{protected}
+use Rattle.stun_proto.proofs.Keeping.{IsKept, Keeps, calls_keep, standing_kept}
 use Rattle.stun_proto.proofs.Matched.{complete, matched_verdict, other_verdict}
 use Rattle.stun_proto.proofs.Sights.{sight-after_message}
 use Rattle.stun_proto.proofs.Standing.{Stands, calls_leave, place_of, signing_leaves, standing_in_time}
@@ -74,10 +75,7 @@ module _ (say : NoncesAsk) (found : SignedIsRead) (m : Renewal) (who : NameAndPa
   abbrev seen : Option PlaceSeen → Sight
   seen place = record { registered = users; feature = server.feature; expiry = server.expiry; place = place }
 
-  -- the old nonce, or the new one, stands at the address
-  abbrev StandsOld : ServerSeen → Type 0
-  StandsOld s = Stands users server.feature server.expiry m.from p.nonce p.expires s
-
+  -- the new nonce stands at the address
   abbrev StandsAnew : ServerSeen → Type 0
   StandsAnew s = Stands users server.feature server.expiry m.from fresh end s
 
@@ -87,26 +85,48 @@ module _ (say : NoncesAsk) (found : SignedIsRead) (m : Renewal) (who : NameAndPa
   abbrev client : ClientSeen
   client = record { name = who.username; algorithm = c.algorithm }
 
-  fresh_text : IsUtf8 fresh
-  fresh_text = say.text users.algorithms server.feature m.first.words
-
   -- ---- the request under the old nonce
-  old_stands : StandsOld (at_first m server)
-  old_stands =
-      calls_leave users server.feature server.expiry m.from p.nonce p.expires m.before_first server old.calls_before_first
-      (p.client, ap (λ o. seen o) old.joined.place ∙ ap (λ o. seen (Some (record p { offered = o }))) matches.offered)
+  first_keeps : Keeps users server.feature server.expiry p.expires m.from (at_first m server)
+  first_keeps =
+      calls_keep users server.feature server.expiry p.expires m.from m.before_first server old.calls_before_first
+      (p, ap (λ o. seen o) old.joined.place, record { words = matches.made.0; nonce = matches.made.1; offered = matches.offered; lasts = λ now below last. below })
+
+  -- the place just before it, and at it
+  abbrev old_place : PlaceSeen
+  old_place = first_keeps.0
+
+  abbrev first_place : PlaceSeen
+  first_place = standing (seen (Some old_place)) m.first.now m.first.words
 
   abbrev known_first : Option ClientSeen
-  known_first = old_stands.0
-
-  abbrev old_place : PlaceSeen
-  old_place = place_of users server.feature server.expiry m.from p.nonce p.expires known_first
+  known_first = first_place.client
 
   abbrev first_sight : Sight
   first_sight = sight (at_first m server) m.from
 
+  first_sees : first_sight ≡ seen (Some old_place)
+  first_sees = first_keeps.1
+
+  first_kept : IsKept users server.feature p.expires first_place
+  first_kept = standing_kept users server.feature server.expiry p.expires old_place first_keeps.2 m.first.now m.first.words
+
+  fresh_is : fresh ≡ first_place.nonce
+  fresh_is = ap (λ (v : Sight). (standing v m.first.now m.first.words).nonce) first_sees
+
+  end_is : end ≡ first_place.expires
+  end_is = ap (λ (v : Sight). (standing v m.first.now m.first.words).expires) first_sees
+
+  fresh_made : fresh ≡ nonce_of users.algorithms server.feature first_kept.words
+  fresh_made = fresh_is ∙ first_kept.nonce
+
+  fresh_text : IsUtf8 fresh
+  fresh_text = subst IsUtf8 (sym fresh_made) (say.text users.algorithms server.feature first_kept.words)
+
   first_at : standing (seen (Some old_place)) m.first.now m.first.words ≡ anew known_first
-  first_at = ap (λ b. cond b old_place (renewed (Some old_place) fresh end None)) (lt-leb m.first.now p.expires old.expired)
+  first_at =
+      ap (λ n. record first_place { nonce = n }) (sym fresh_is)
+      ∙ ap (λ e. record first_place { nonce = fresh; expires = e }) (sym end_is)
+      ∙ ap (λ o. record first_place { nonce = fresh; expires = end; offered = o }) first_kept.offered
 
   -- what a challenge with the new nonce matches
   matches_anew : (d : Challenge) (known : Option ClientSeen) → d.realm ≡ users.realm → d.nonce ≡ fresh → d.naming ≡ c.naming → d.algorithms ≡ c.algorithms → d.algorithm ≡ c.algorithm → d.key ≡ c.key
@@ -114,7 +134,7 @@ module _ (say : NoncesAsk) (found : SignedIsRead) (m : Renewal) (who : NameAndPa
   matches_anew d known realm nonce naming algorithms algorithm key = record {
     realm = realm;
     nonce = nonce;
-    made = (m.first.words, refl);
+    made = (first_kept.words, fresh_made);
     offered = refl;
     algorithms = algorithms ∙ matches.algorithms;
     algorithm = subst (λ (a : IntegrityAlgorithm). contains a users.algorithms ≡ true) (sym algorithm) matches.algorithm;
@@ -145,8 +165,8 @@ module _ (say : NoncesAsk) (found : SignedIsRead) (m : Renewal) (who : NameAndPa
     first_served o judged =
         let served = protected (seen (Some old_place)) m.first.now m.first.words first_read (anew known_first) first_at reads.response o reads.protected
         (complete say users server.feature p c who matches first_read reads) judged in (
-          ap (λ v. answer v m.first.now m.first.words first_read) old_stands.1 ∙ served.0,
-          ap (λ v. place_after v m.first.now m.first.words first_read) old_stands.1 ∙ served.1,
+          ap (λ v. answer v m.first.now m.first.words first_read) first_sees ∙ served.0,
+          ap (λ v. place_after v m.first.now m.first.words first_read) first_sees ∙ served.1,
         )
 
     judged_same : bytes_eq p.nonce fresh ≡ true → verdict users server.feature fresh (Some users.algorithms) first_read ≡ Ok client
@@ -158,7 +178,8 @@ module _ (say : NoncesAsk) (found : SignedIsRead) (m : Renewal) (who : NameAndPa
     judged_other differs =
         ap (λ o. verdict users server.feature fresh o first_read) (sym matches.offered)
         ∙ other_verdict say users server.feature p c who matches first_read reads fresh differs
-        ∙ ap Err (stale_of_settings say users.algorithms server.feature m.first.words p.nonce matches.made.0 matches.made.1)
+        ∙ ap Err (ap (λ n. nonce_refusal n p.nonce) fresh_made
+        ∙ stale_of_settings say users.algorithms server.feature first_kept.words p.nonce matches.made.0 matches.made.1)
 
     answered_first : (b : Bool) → bytes_eq p.nonce fresh ≡ b → answer_at m m.first (at_first m server) asking ≡ cond b (Ok (Validated c.algorithm)) (Err StaleNonce)
     answered_first true same = (first_served (Ok client) (judged_same same)).0
@@ -170,7 +191,7 @@ module _ (say : NoncesAsk) (found : SignedIsRead) (m : Renewal) (who : NameAndPa
       first_stands = (
         known_first,
         sight-after_message (at_first m server) m.from m.first.now m.first.words first_read
-            ∙ ap (λ (v : Sight). record v { place = place_after first_sight m.first.now m.first.words first_read }) old_stands.1
+            ∙ ap (λ (v : Sight). record v { place = place_after first_sight m.first.now m.first.words first_read }) first_sees
             ∙ ap seen (first_served (Err stale_nonce) (judged_other differs)).1,
       )
 

@@ -1,12 +1,12 @@
 -- A nonce that has run out, and the one that takes its place (RFC 8489, sections 9.2.4 and 9.2.6).
-use Rattle.std.specs.Prelude.{◌≡◌, ℕ, ◌<◌, ◌≤◌, nat_le, List, Bool, true, false, if◌then◌else◌, Some}
+use Rattle.std.specs.Prelude.{◌≡◌, ℕ, ◌<◌, ◌≤◌, nat_le, ◌&&◌, List, Bool, true, false, if◌then◌else◌, Some}
 use Rattle.std.specs.List.{All}
 use Rattle.std.specs.Str.{bytes_eq}
 use Rattle.std.specs.declared.net.socket_addr.SocketAddr.{SocketAddr}
 use Rattle.std.specs.declared.result.Result.TheVariants.{Ok, Err}
 use Rattle.stun_base.specs.Address.{same_address}
 use Rattle.stun_base.specs.Credentials.{NameAndPassword}
-use Rattle.stun_base.specs.Moments.{moment_after}
+use Rattle.stun_base.specs.Moments.{last_moment}
 use Rattle.stun_base.specs.declared.message_type.MessageClass.TheVariants.{Request}
 use Rattle.stun_auth.specs.declared.server_reason.LongTermServerAuthErrorReason.TheVariants.{StaleNonce}
 use Rattle.stun_auth.specs.declared.server_reason.LongTermServerValidation.TheVariants.{Validated}
@@ -14,10 +14,9 @@ use Rattle.stun_auth.specs.Additions.{Page, added_all}
 use Rattle.stun_auth.specs.Client.{Challenge, ClientSettings, ClientState, authenticated}
 use Rattle.stun_auth.specs.ClientSigning.{client_additions}
 use Rattle.stun_auth.specs.ClientStep.{STALE_NONCE, client_step}
-use Rattle.stun_auth.specs.Nonces.{nonce_of}
 use Rattle.stun_auth.specs.Reading.{class_in, error_code, reading_of}
 use Rattle.stun_auth.specs.Seen.{PlaceSeen}
-use Rattle.stun_auth.specs.Server.{Sight}
+use Rattle.stun_auth.specs.Server.{Sight, standing}
 use Rattle.stun_auth.specs.ServerSigning.{after_signing, server_signed}
 use Rattle.stun_auth.specs.Signed.{IsUnsigned}
 use Rattle.stun_auth.specs.Validation.{Answer, ServerSeen, after_message, answer, sight}
@@ -43,13 +42,6 @@ pub record Renewal : Type 0 where
   pub before_second : List ServerCall
   pub second : Arrival
 
--- the nonce that is drawn with the first request, and the last moment at which it stands
-abbrev pub drawn : Renewal → ServerSeen → List ℕ
-drawn m server = nonce_of server.registered.algorithms server.feature m.first.words
-
-abbrev pub end : Renewal → ServerSeen → ℕ
-end m server = moment_after m.first.now server.expiry
-
 -- what the server answers to a request
 abbrev pub answer_at : Renewal → Arrival → ServerSeen → Page → Answer
 answer_at m arrival server page = answer (sight server m.from) arrival.now arrival.words (reading_of page.bytes)
@@ -61,6 +53,13 @@ after_request m arrival server page = after_message server m.from arrival.now ar
 -- the server that reads the first request
 abbrev pub at_first : Renewal → ServerSeen → ServerSeen
 at_first m server = after_calls server m.before_first
+
+-- the nonce that is current when the server reads the first request, and its end: the one that stands then, or else one that is made
+abbrev pub drawn : Renewal → ServerSeen → List ℕ
+drawn m server = (standing (sight (at_first m server) m.from) m.first.now m.first.words).nonce
+
+abbrev pub end : Renewal → ServerSeen → ℕ
+end m server = (standing (sight (at_first m server) m.from) m.first.now m.first.words).expires
 
 -- the server that signs the error
 abbrev pub at_error : Renewal → ServerSeen → Page → ServerSeen
@@ -106,13 +105,31 @@ leaves_nonce a end (Call.RemoveClient address) = true
 leaves_nonce a end (Call.SetExpiry expiry) = false
 leaves_nonce a end (Call.ForgetExpired now) = nat_le now end
 
+-- whether a call leaves users, settings and the place of an address, whatever nonce stands there: messages from there are read at any
+-- moment, also after the nonce's end, which make another; nonces are forgotten up to its end. No moment is past the last one
+abbrev pub leaves_place : SocketAddr → ℕ → ServerCall → Bool
+leaves_place a end (Call.Validate from now message words) = true
+leaves_place a end (Call.Sign to message) = true
+leaves_place a end (Call.AddUser name password) = false
+leaves_place a end (Call.RemoveUser name) = false
+leaves_place a end (Call.AddIntegrity algorithm) = false
+leaves_place a end (Call.SetIntegrity algorithm) = false
+leaves_place a end (Call.SetAnonymous feature) = false
+leaves_place a end (Call.RemoveClient address) = true
+leaves_place a end (Call.SetExpiry expiry) = false
+leaves_place a end (Call.ForgetExpired now) = nat_le now end && nat_le now last_moment
+
+abbrev pub LeavePlace : SocketAddr → ℕ → List ServerCall → Type 0
+LeavePlace a end calls = All (λ call. leaves_place a end call ≡ true) calls
+
 abbrev pub LeaveNonce : SocketAddr → ℕ → List ServerCall → Type 0
 LeaveNonce a end calls = All (λ call. leaves_nonce a end call ≡ true) calls
 
--- a client is authenticated, its nonce has run out at its first request, and the new one stands at its second
+-- a client is authenticated, and its nonce has ended before its first request, which others of its messages may have come before; the
+-- nonce that is current then is current at its second
 pub record HasRunOut (m : Renewal) (who : NameAndPassword) (server : ServerSeen) (p : PlaceSeen) (c : Challenge) : Type 0 where
   pub joined : AreJoined (sight server m.from) p c who
-  pub calls_before_first : LeaveNonce m.from p.expires m.before_first
+  pub calls_before_first : LeavePlace m.from p.expires m.before_first
   pub expired : p.expires < m.first.now
   pub calls_before_error : LeaveNonce m.from (end m server) m.before_error
   pub calls_before_second : LeaveNonce m.from (end m server) m.before_second
@@ -125,7 +142,7 @@ pub record IsAcceptedAnew (m : Renewal) (who : NameAndPassword) (c : Challenge) 
       × AreJoined (sight (after_request m m.second server again) m.from) q d who
 
 pub record IsRenewed (m : Renewal) (who : NameAndPassword) (server : ServerSeen) (p : PlaceSeen) (c : Challenge) : Type 0 where
-  -- the request is stale, unless the old nonce is drawn again
+  -- the request is stale, unless the nonce that is current by now is the old one, drawn again
   pub first : (asking : Page) → IsAsked (authenticated c) asking
       → answer_at m m.first (at_first m server) asking ≡ (if bytes_eq p.nonce (drawn m server) then Ok (Validated c.algorithm) else Err StaleNonce)
   -- once the client has read the error, its request is accepted

@@ -211,11 +211,13 @@ pub fn short_names_are_signed()
     laws::sides_sign_with_room();
 }
 
-/// A request of an authenticated client whose nonce has run out is answered `StaleNonce`, unless the old nonce was drawn again.
-/// Once the client has read one error of code 438 that the server signed, its request is accepted while the new nonce stands
-/// (RFC 8489, sections 9.2.4 and 9.2.6). The messages are of any method, and have any attributes of their own but those that
-/// signing adds. Between them users and settings stay, and messages of the
-/// client's address are read, and expired nonces forgotten, while the nonce is current.
+/// A request of an authenticated client whose nonce has ended is answered `StaleNonce`, unless the nonce that is current by then is
+/// the old one, drawn again. Once the client has read one error of code 438 that the server signed, its request is accepted while
+/// that nonce is current (RFC 8489, sections 9.2.4 and 9.2.6). The messages are of any method, and have any attributes of their own
+/// but those that signing adds. Between them users and settings stay. Before the request other messages of the client's address may
+/// be read at any moment, so that one of them has made the nonce that is current; after it they are read while that nonce is
+/// current. Expired nonces are forgotten up to the end of the client's nonce before the request, and while the new one is current
+/// after it: a server that has removed the client of the address would forget the place.
 pub fn nonce_is_renewed()
     ensures { NonceIsRenewed }
 {

@@ -1,0 +1,49 @@
+#!/usr/bin/env python3
+"""Prints how much a reader must believe: for each of the three sentences, the definitions of `specs/` that it is made of,
+transitively. Definitions of the standard library and of the toolchain's crates are not counted.
+
+Run at the top of the repository. With a number after it (1 to 3) it also prints the definitions by file.
+"""
+
+import collections
+import sys
+
+from definitions import Repository
+
+HEADLINE = "Rattle.stun_proto.specs.Headline"
+SENTENCES = {
+    1: ("the server", ("ValidatesOneCall", "ValidatesEachCall")),
+    2: ("the client", ("IsReadyClient", "EndsAtStrongest")),
+    3: ("the agent", ("SendsByPlan",)),
+}
+
+
+def main():
+    repository = Repository(".")
+    shown = int(sys.argv[1]) if len(sys.argv) > 1 else None
+    everything = set()
+    for number, (name, start) in SENTENCES.items():
+        definitions = repository.closure([repository.named[(HEADLINE, word)] for word in start])
+        everything.update(definitions)
+        print_counts("%d %s" % (number, name), definitions)
+        if shown == number:
+            print_files(definitions)
+    print_counts("all three", everything)
+
+
+def print_counts(name, definitions):
+    files = {definition.path for definition in definitions}
+    lines = sum(len([line for line in definition.code if line.strip()]) for definition in definitions)
+    print("%-14s %3d files %4d definitions %4d lines" % (name, len(files), len(definitions), lines))
+
+
+def print_files(definitions):
+    by_file = collections.defaultdict(list)
+    for definition in definitions:
+        by_file[definition.path].append(definition.name)
+    for path in sorted(by_file):
+        print("    %s: %s" % (path.removeprefix("./"), " ".join(sorted(by_file[path]))))
+
+
+if __name__ == "__main__":
+    main()

@@ -23,7 +23,9 @@ def block(repository, kind, words):
             where, text = "[%s](../%s)" % (words, words), opened.read().rstrip("\n")
     else:
         crate, file, name = words.split()
-        definition = repository.named[("Rattle.%s.specs.%s" % (crate, file), name)]
+        definition = repository.named.get(("Rattle.%s.specs.%s" % (crate, file), name))
+        if definition is None:
+            sys.exit("printed: %s prints %s, and no file has it" % (PAGE, words))
         path = definition.path.removeprefix("./")
         where = "[%s:%d](../%s#L%d)" % (path, definition.line, path, definition.line)
         text = "\n".join(definition.lines)

@@ -16,6 +16,8 @@ SENTENCES = {
     2: ("the client", ("IsReadyClient", "EndsAtStrongest")),
     3: ("the agent", ("SendsByPlan",)),
 }
+# The first sentence holds of any reading of messages and of any run. The clause names these two.
+GIVEN = (("what a message says", ("Replies", "message_read")), ("the run, for isolation", ("Serving", "replies")))
 
 
 def main():
@@ -23,9 +25,15 @@ def main():
     shown = int(sys.argv[1]) if len(sys.argv) > 1 else None
     everything = set()
     for number, (name, start) in SENTENCES.items():
-        definitions = repository.closure([repository.named[(HEADLINE, word)] for word in start])
+        cited = [repository.named[(HEADLINE, word)] for word in start]
+        definitions = repository.closure(cited)
         everything.update(definitions)
         print_counts("%d %s" % (number, name), definitions)
+        for words, (file, given) in GIVEN if number == 1 else ():
+            cited.append(repository.named[("Rattle.stun_proto.specs." + file, given)])
+            definitions = repository.closure(cited)
+            everything.update(definitions)
+            print_counts("  and " + words, definitions)
         if shown == number:
             print_files(definitions)
     print_counts("all three", everything)
@@ -34,7 +42,7 @@ def main():
 def print_counts(name, definitions):
     files = {definition.path for definition in definitions}
     lines = sum(len([line for line in definition.code if line.strip()]) for definition in definitions)
-    print("%-14s %3d files %4d definitions %4d lines" % (name, len(files), len(definitions), lines))
+    print("%-28s %3d files %4d definitions %4d lines" % (name, len(files), len(definitions), lines))
 
 
 def print_files(definitions):

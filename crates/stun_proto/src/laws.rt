@@ -13,6 +13,8 @@ ghost use Rattle.stun_auth.specs.Validation.{answer};
 ghost use Rattle.stun_proto.specs.Best.{BestIsStrongest};
 ghost use Rattle.stun_proto.specs.Examples.{binding_request, udp_steps, tcp_steps};
 ghost use Rattle.stun_proto.specs.CallValues.{value_of};
+ghost use Rattle.stun_proto.specs.Honest.{ShortNamesAreSigned, StrongestIsAgreed};
+ghost use Rattle.stun_proto.specs.Renewal.{NonceIsRenewed};
 ghost use Rattle.stun_proto.specs.Headline.{IsAskedOnce, SendsByPlan, ValidatesOneCall};
 ghost use Rattle.stun_proto.specs.Run.{IsDriven};
 ghost use Rattle.stun_proto.specs.RunLaws.{EventsHaveRuns, IsDetermined, IsDeterminedThroughout};
@@ -26,6 +28,7 @@ use crate::replay::{
     AgentStep, NegotiateError, Outcome, ServerCall, ServerReply, Stopped, WordSource,
 };
 use std::alloc::Allocator;
+use stun_auth::laws as auth_laws;
 
 /// Events have one run at most: its steps and the agent after it are determined, up to every moment, and from every moment on.
 pub fn runs_are_determined()
@@ -73,6 +76,47 @@ pub fn best_is_strongest()
 pub fn shards_serve_as_one()
     ensures { ShardsServeAsOne }
 {}
+
+/// An honest client is accepted with its second request and with the strongest algorithm that both sides support; the server
+/// knows it then, and it the server. Where there is none, it gives up and keeps nothing (RFC 8489, section 9.2).
+///
+/// This is a law over the steps of a meeting, which are computed over the bytes of its messages.
+pub fn strongest_is_agreed()
+    ensures { StrongestIsAgreed }
+{
+    auth_laws::nonces_ask_for_what_is_supported();
+    auth_laws::signed_messages_are_read();
+    auth_laws::built_messages_can_be_signed();
+    auth_laws::sides_add_by_attribute();
+}
+
+/// No signing of a meeting is refused where realm and user name fit their attributes, 763 and 513 bytes (RFC 8489, sections 14.3
+/// and 14.9): then a client is honest that meets the other premises.
+pub fn short_names_are_signed()
+    ensures { ShortNamesAreSigned }
+{
+    auth_laws::nonces_ask_for_what_is_supported();
+    auth_laws::signed_messages_are_read();
+    auth_laws::built_messages_can_be_signed();
+    auth_laws::sides_add_by_attribute();
+    auth_laws::sides_sign_with_room();
+}
+
+/// A request of an authenticated client whose nonce has ended is answered `StaleNonce`, unless the nonce that is current by then is
+/// the old one, drawn again. Once the client has read one error of code 438 that the server signed, its request is accepted while
+/// that nonce is current (RFC 8489, sections 9.2.4 and 9.2.6). The messages are of any method, and have any attributes of their own
+/// but those that signing adds. Between them users and settings stay. Before the request other messages of the client's address may
+/// be read at any moment, so that one of them has made the nonce that is current; after it they are read while that nonce is
+/// current. Expired nonces are forgotten up to the end of the client's nonce before the request, and while the new one is current
+/// after it: a server that has removed the client of the address would forget the place.
+pub fn nonce_is_renewed()
+    ensures { NonceIsRenewed }
+{
+    auth_laws::nonces_ask_for_what_is_supported();
+    auth_laws::signed_messages_are_read();
+    auth_laws::built_messages_can_be_signed();
+    auth_laws::sides_add_by_attribute();
+}
 
 /// What meetings come to is equal as values.
 pub fn is_same_outcome(one: Outcome, other: Outcome) -> bool

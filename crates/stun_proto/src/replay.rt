@@ -11,12 +11,10 @@ mod signing;
 mod turn;
 mod words;
 
+pub use crate::laws::{nonce_is_renewed, short_names_are_signed, strongest_is_agreed};
 pub use call::{ServerCall, ServerReply};
 pub use driven::drive;
 pub use event::{AgentEvent, AgentStep, Stopped};
-pub use negotiation::{
-    NegotiateError, Outcome, negotiate, nonce_is_renewed, short_names_are_signed,
-    strongest_is_agreed,
-};
+pub use negotiation::{NegotiateError, Outcome, negotiate};
 pub use serving::serve;
 pub use words::WordSource;

@@ -4,16 +4,16 @@ ghost use Rattle.std.specs.Prelude.{◌≡◌, ◌≢◌, ◌<◌, Contains, IfS
 ghost use Rattle.stun_base.specs.Credentials.{NameAndPassword};
 ghost use Rattle.stun_auth.specs.Client.{initial};
 ghost use Rattle.stun_proto.specs.Headline.{EndsAtStrongest, IsReadyClient};
-ghost use Rattle.stun_proto.specs.Honest.{ComesTo, IsHonest, ShortNamesAreSigned, StrongestIsAgreed, strongest};
+ghost use Rattle.stun_proto.specs.Honest.{ComesTo, IsHonest, strongest};
 ghost use Rattle.stun_proto.specs.code.Meetings.{turn_of};
 ghost use Rattle.stun_proto.specs.Negotiating.{lists, meeting, met_by, turn_at};
 ghost use Rattle.stun_proto.specs.Negotiation.{negotiated};
 ghost use Rattle.stun_proto.specs.Sides.{sides, sides_of};
-ghost use Rattle.stun_proto.specs.Renewal.{NonceIsRenewed};
 
 mod meeting;
 mod messages;
 
+use crate::laws;
 use crate::replay::call::ServerCall;
 use crate::replay::event::Stopped;
 use crate::replay::negotiation::meeting::{Meeting, Turn, meet};
@@ -23,7 +23,6 @@ use stun_auth::auth::{
     LongTermClientAuth, LongTermClientAuthErrorReason, LongTermServerAuth,
     LongTermServerAuthErrorReason,
 };
-use stun_auth::laws;
 use stun_base::algorithm::IntegrityAlgorithm;
 use stun_base::error::StunWriteError;
 use stun_base::instant::Instant;
@@ -126,8 +125,8 @@ pub fn negotiate<A: Allocator + Copy>(
         result ≡ Err NegotiateError.Memory → Contains (sides_of m client.old.state server.old) (sides client.new.state server.new) }
     ensures write { result ≢ Err (NegotiateError.Write StunWriteError.OutOfMemory) }
 {
-    strongest_is_agreed();
-    short_names_are_signed();
+    laws::strongest_is_agreed();
+    laws::short_names_are_signed();
     realm_is_text(server);
     name_is_text(client);
     let first = turn_at(0, ids, moments, words, between);
@@ -184,45 +183,4 @@ fn name_is_text<A: Allocator>(client: &LongTermClientAuth<A>)
         }
         None => {}
     }
-}
-
-/// An honest client is accepted with its second request and with the strongest algorithm that both sides support; the server
-/// knows it then, and it the server. Where there is none, it gives up and keeps nothing (RFC 8489, section 9.2).
-///
-/// This is a law over the steps of a meeting, which are computed over the bytes of its messages.
-pub fn strongest_is_agreed()
-    ensures { StrongestIsAgreed }
-{
-    laws::nonces_ask_for_what_is_supported();
-    laws::signed_messages_are_read();
-    laws::built_messages_can_be_signed();
-    laws::sides_add_by_attribute();
-}
-
-/// No signing of a meeting is refused where realm and user name fit their attributes, 763 and 513 bytes (RFC 8489, sections 14.3
-/// and 14.9): then a client is honest that meets the other premises.
-pub fn short_names_are_signed()
-    ensures { ShortNamesAreSigned }
-{
-    laws::nonces_ask_for_what_is_supported();
-    laws::signed_messages_are_read();
-    laws::built_messages_can_be_signed();
-    laws::sides_add_by_attribute();
-    laws::sides_sign_with_room();
-}
-
-/// A request of an authenticated client whose nonce has ended is answered `StaleNonce`, unless the nonce that is current by then is
-/// the old one, drawn again. Once the client has read one error of code 438 that the server signed, its request is accepted while
-/// that nonce is current (RFC 8489, sections 9.2.4 and 9.2.6). The messages are of any method, and have any attributes of their own
-/// but those that signing adds. Between them users and settings stay. Before the request other messages of the client's address may
-/// be read at any moment, so that one of them has made the nonce that is current; after it they are read while that nonce is
-/// current. Expired nonces are forgotten up to the end of the client's nonce before the request, and while the new one is current
-/// after it: a server that has removed the client of the address would forget the place.
-pub fn nonce_is_renewed()
-    ensures { NonceIsRenewed }
-{
-    laws::nonces_ask_for_what_is_supported();
-    laws::signed_messages_are_read();
-    laws::built_messages_can_be_signed();
-    laws::sides_add_by_attribute();
 }

@@ -4,6 +4,8 @@
 #[cfg(test)]
 mod addresses;
 #[cfg(test)]
+mod clients;
+#[cfg(test)]
 mod expect;
 #[cfg(test)]
 mod hostile;

@@ -1,0 +1,69 @@
+//! Whom a server tells as the client of an address, and which addresses it forgets.
+use crate::expect::{expect_answer, expect_nonce};
+use fail_alloc::RefusingAllocator;
+use std::test::Fail;
+use stun_base::instant::Instant;
+use stun_types::message::IntegrityAlgorithm;
+use test_support::parts::PLAIN_NONCE;
+use test_support::server::{
+    FULL_REQUEST, PLAIN_REQUEST, SHA1, SHA256, address, offering_server, plain_server,
+};
+
+/// A validated request names the client of its address alone, until the client is removed.
+#[test]
+fn a_client_is_told(rt: HostRuntime) -> Result<(), Fail> {
+    let alloc = rt.alloc();
+    let mut server = plain_server(alloc, alloc)?;
+    assert!(rt; server.client(address(1)).is_none());
+    expect_answer(&rt, alloc, &mut server, &PLAIN_REQUEST, SHA1)?;
+    let told = Some(("user", IntegrityAlgorithm::Sha1));
+    assert_eq!(rt; server.client(address(1)), told);
+    assert!(rt; server.client(address(2)).is_none());
+    server.remove_user("user");
+    assert_eq!(rt; server.client(address(1)), told);
+    server.remove_client(address(1));
+    assert!(rt; server.client(address(1)).is_none());
+    Ok(())
+}
+
+/// The algorithm is the one that both sides agreed on.
+#[test]
+fn a_client_is_told_with_its_algorithm(rt: HostRuntime) -> Result<(), Fail> {
+    let alloc = rt.alloc();
+    let mut server = offering_server(alloc, alloc)?;
+    expect_answer(&rt, alloc, &mut server, &FULL_REQUEST, SHA256)?;
+    let told = Some(("user", IntegrityAlgorithm::Sha256));
+    assert_eq!(rt; server.client(address(1)), told);
+    Ok(())
+}
+
+/// An address with a client keeps its expired nonce; without one it is forgotten, and its memory given back.
+#[test]
+fn an_address_with_a_client_is_kept(rt: HostRuntime) -> Result<(), Fail> {
+    let alloc = rt.alloc();
+    let heap = RefusingAllocator::new(alloc);
+    let mut server = plain_server(alloc, &heap)?;
+    expect_answer(&rt, alloc, &mut server, &PLAIN_REQUEST, SHA1)?;
+    heap.refuse(1);
+    server.forget_expired(Instant::MAX);
+    expect_nonce(&rt, &server, Some(PLAIN_NONCE));
+    server.remove_client(address(1));
+    let live = heap.live();
+    server.forget_expired(Instant::MAX);
+    expect_nonce(&rt, &server, None);
+    assert!(rt; heap.live() < live);
+    assert!(rt; heap.is_waiting());
+    Ok(())
+}
+
+/// A nonce that is current up to 3600 seconds is forgotten at the next nanosecond.
+#[test]
+fn a_current_nonce_is_kept(rt: HostRuntime) -> Result<(), Fail> {
+    let alloc = rt.alloc();
+    let mut server = plain_server(alloc, alloc)?;
+    server.forget_expired(Instant::from_nanos(3_600_000_000_000));
+    expect_nonce(&rt, &server, Some(PLAIN_NONCE));
+    server.forget_expired(Instant::from_nanos(3_600_000_000_001));
+    expect_nonce(&rt, &server, None);
+    Ok(())
+}

@@ -59,7 +59,7 @@ fn a_signed_response_is_taken(rt: HostRuntime) -> Result<(), Fail> {
     assert!(rt; agent.is_validated_peer(peer()));
     assert!(rt; agent.request_transaction(id(1)?).is_none());
     let data = [7; 8];
-    let sent = agent.send_data(data.as_slice(), peer());
+    let sent = agent.send_data(data.as_slice(), peer())?;
     assert_eq!(rt; sent.data, data.as_slice());
     assert_eq!(rt;
         (sent.transport, sent.from, sent.to),

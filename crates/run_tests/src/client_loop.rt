@@ -75,7 +75,10 @@ fn ask(
             Err(error) if error.reason() == Reason::IntegrityFailed => continue,
             Err(error) => return Ok(End::Refused(error.reason())),
         };
-        let _taken = agent.handle_stun_message_with_time(&message, from, socket.now())?;
+        // Dropped: what does not come from the server.
+        if !agent.handle_stun_message_with_time(&message, from, socket.now())? {
+            continue;
+        }
         match verdict {
             LongTermClientValidation::ResendRequest(_) => is_to_ask = true,
             LongTermClientValidation::Validated(_) => return end_of(&message),

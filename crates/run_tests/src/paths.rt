@@ -148,7 +148,7 @@ fn agents(rt: HostRuntime) -> Result<(), Fail> {
     let mut agent: StunAgent = builder.stats(true).build();
     let statistics: Option<&StunAgentStats> = agent.stats();
     assert!(rt; statistics.is_some());
-    let sent: Transmit<[u8; 2]> = agent.send_data([1, 2], there);
+    let sent: Transmit<[u8; 2]> = agent.send_data([1, 2], there)?;
     assert_eq!(rt;
         (sent.transport, sent.from, sent.to),
         (TransportType::Udp, here, there)

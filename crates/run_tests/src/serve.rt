@@ -23,7 +23,7 @@ const CHALLENGE: &str =
     "011100142112a4420000000000000000000000010009001000000401556e617574686f72697a6564";
 
 /// The number of calls of the run.
-const CALLS: u8 = 16;
+const CALLS: u8 = 17;
 
 /// A message that comes from a host, with words that all are this one.
 fn validate(alloc: Global, host: u8, digits: &str, word: u32) -> Result<ServerCall, Fail> {
@@ -67,6 +67,7 @@ fn call(alloc: Global, number: u8) -> Result<(u8, ServerCall), Fail> {
         12 => (0, ServerCall::SetExpiry(Duration::from_secs(29))),
         13 => (3, validate(alloc, 3, SIGNED, 0)?),
         14 => (0, ServerCall::RemoveUser(String::from_str(alloc, "user")?)),
+        15 => (0, ServerCall::ForgetExpired(at(0))),
         _ => (1, validate(alloc, 1, SIGNED, 0)?),
     })
 }
@@ -122,7 +123,8 @@ fn a_signed_request_is_validated_at_its_own_address(rt: HostRuntime) -> Result<(
         (5, refused(LongTermServerAuthErrorReason::StaleNonce)),
         (6, ServerReply::Validated(IntegrityAlgorithm::Sha1)),
         (12, ServerReply::TooShort),
-        (15, refused(LongTermServerAuthErrorReason::Unauthorized)),
+        (15, ServerReply::Done),
+        (16, refused(LongTermServerAuthErrorReason::Unauthorized)),
     ];
     for (number, reply) in &expected {
         assert!(rt; all.get(*number) == Some(reply));

@@ -112,7 +112,7 @@ fn a_server_answers(rt: HostRuntime) -> Result<(), Fail> {
     )?;
     let mut socket = Socket::new(alloc, coming.as_slice());
     let mut auth = server(alloc)?;
-    // Each word of 1 draws the letter `B`; the zeros behind them draw the letter `A`.
+    // Each word of 1 draws the letter `B`; the zeros after them draw the letter `A`.
     let mut rng = WordSource::new([1; 16]);
     serve(alloc, &mut auth, &mut socket, &mut rng)?;
     let expected = [

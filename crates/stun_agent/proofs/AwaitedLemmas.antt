@@ -1,7 +1,7 @@
 -- The least moment that is awaited is that of the first deadline of the index that is no cancellation.
-use Rattle.std.proofs.Common.{ℕ, ◌≡◌, ◌<◌, ◌≤◌, ◌⊎◌, inl, inr, arith, Bool, true, false, not, cond, List, [], ◌∷◌, map, length, get_or, zero, suc, subst, ap, sym, refl, ◌∙◌}
+use Rattle.std.proofs.Common.{ℕ, ◌≡◌, ◌≤◌, ◌⊎◌, inl, inr, arith, Bool, true, false, not, cond, List, [], ◌∷◌, map, suc, subst, ap, sym, refl, ◌∙◌}
 use Rattle.std.specs.Prelude.{Option, Some, None, find, filter, fold}
-use Rattle.std.specs.Option.{option_map, option_map_or}
+use Rattle.std.specs.Option.{option_map}
 use Rattle.std.specs.List.Sorted.{IsNonDecreasingBy}
 use Rattle.std.specs.Map.{keys_of}
 use Rattle.std.specs.Ordering.{nat_cmp}
@@ -13,7 +13,6 @@ use Rattle.stun_agent.specs.declared.deadlines.DeadlineKind.TheVariants.{Cancell
 use Rattle.stun_agent.specs.Transactions.{Transaction, Transactions, IsAscending, at, awaited, awaited_moments, has_slots, is_cancelled, next_awaited, sooner}
 use Rattle.stun_agent.specs.code.Deadlines.{deadline_of, is_cancellation, first_awaited, IsIndexOf}
 use Rattle.stun_agent.proofs.DeadlineLemmas.{IsIn, entry_of, entry_at}
-use Rattle.stun_agent.proofs.EntryLemmas.{same_key}
 use Rattle.stun_agent.proofs.SlotLemmas.{first_least, head_at, tail_at}
 use Rattle.stun_agent.proofs.SoonerLemmas.{first_le, sooner_stays, one_of}
 

@@ -13,7 +13,7 @@ use Rattle.stun_agent.specs.declared.error.StunError.TheVariants.{ProtocolViolat
 use Rattle.stun_agent.specs.Agent.{Agent, tallied, with_validated, with_transactions, tally_of_end, tally_of_sent, class_of_bytes, is_request, sending_tally, address_refusal, class_refusal, sending_refusal, after_send, request_refusal, request_of, after_send_request, answered, after_class, after_response, ended_by_poll, sent_by_poll, after_poll}
 use Rattle.stun_agent.specs.Statistics.{Statistics, Tally, counted, LeavesOutstanding, IsNotFull, request_sent, request_sent_again, request_received, indication_received, response_received}
 use Rattle.stun_agent.specs.Steps.{Step, send, send_request, receive, validate, poll, poll_transmit, cancel_retransmissions, cancel, configure, after_step}
-use Rattle.stun_agent.specs.Transactions.{Transaction, repeats, is_over, at, without, changed, silenced, cancelled, configured, slot_passed, after_slots, round_trip}
+use Rattle.stun_agent.specs.Transactions.{Transaction, repeats, is_over, without, changed, silenced, cancelled, configured, slot_passed, after_slots, round_trip}
 use Rattle.stun_agent.proofs.AnswerLemmas.{answered_there}
 use Rattle.stun_agent.proofs.LookupLemmas.{length-with, length-without, length-changed, found_there}
 use Rattle.stun_agent.proofs.OnceLemmas.{not_refused_is_new}

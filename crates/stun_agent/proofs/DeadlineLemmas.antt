@@ -1,12 +1,10 @@
 -- The index of the deadlines answers as the map does.
 use Rattle.std.proofs.Common.{ℕ, ◌≡◌, ◌<◌, ◌≤◌, ◌⊎◌, inl, inr, arith, Bool, true, false, not, ◌&&◌, ◌||◌, cond, List, [], ◌∷◌, map, drop, length, get_or, zero, suc, ◌+◌, add-one, subst, ap, sym, refl, ◌∙◌}
-use Rattle.std.specs.Prelude.{Option, Some, None, fold, filter, find, nat_le, slice_get, insert, ◌==◌}
+use Rattle.std.specs.Prelude.{Option, Some, None, fold, filter, nat_le, slice_get, insert, ◌==◌}
 use Rattle.std.specs.Option.{option_map, option_map_or}
 use Rattle.std.specs.List.Sorted.{IsNonDecreasingBy}
 use Rattle.std.proofs.lemmas.Bool.{le-leb, lt-leb, eq-eqb, eqb-true, eqb-false, ne_eqb}
 use Rattle.std.proofs.lemmas.List.Kept.{IsNonDecreasingBy-filter}
-use Rattle.std.proofs.lemmas.Map.Keys.{sorted_head, sorted_tail}
-use Rattle.std.specs.Map.{keys_of}
 use Rattle.std.specs.Ordering.{nat_cmp, is_eq, match_ordering}
 use Rattle.std.specs.declared.cmp.Ordering.{Ordering}
 use Rattle.std.specs.declared.cmp.Ordering.TheVariants.{Less, Equal, Greater}
@@ -18,9 +16,9 @@ use Rattle.stun_base.specs.declared.transport.TransportType.{TransportType}
 use Rattle.stun_agent.specs.declared.deadlines.Deadline.{Deadline}
 use Rattle.stun_agent.specs.declared.deadlines.DeadlineKind.TheVariants.{Cancelled, End, Slot}
 use Rattle.stun_agent.specs.Transactions.{Transaction, Transactions, IsAscending, at, with, without, awaited, has_slots, is_cancelled, is_over, first_over, sooner}
-use Rattle.stun_agent.specs.code.Deadlines.{deadline_of, is_end, has_ended, least_ended, entries_at, without_entry, IsIndexOf, IsPlace, IsPlaced, IsReplaced}
-use Rattle.stun_agent.proofs.Ascending.{find-none, find-least, lookup_among, lookup-remove_other, lookup-insert_same, lookup-insert_other, IsAscending-insert}
-use Rattle.stun_agent.proofs.EntryLemmas.{lookup_found, own_key, same_key, later_key}
+use Rattle.stun_agent.specs.code.Deadlines.{deadline_of, is_end, has_ended, least_ended, entries_at, IsIndexOf, IsPlaced}
+use Rattle.stun_agent.proofs.Ascending.{find-none, find-least, lookup-remove_other, lookup-insert_same, lookup-insert_other, IsAscending-insert}
+use Rattle.stun_agent.proofs.EntryLemmas.{lookup_found, own_key, same_key}
 use Rattle.stun_agent.proofs.LookupLemmas.{at-without, found_passes}
 use Rattle.stun_agent.proofs.OrderLemmas.{ordered-filter, ordered-insert, ordered_rises}
 use Rattle.stun_agent.proofs.SoonerLemmas.{first_le, sooner_stays, one_of}
@@ -58,52 +56,52 @@ from_filter p d (x ∷ xs) h = by (p x) (from_filter p d xs) h
     by true rest (inr later) = inr (rest later)
     by false rest h = inr (rest h)
 
--- ---- the least id among those that have ended
-module _ (now : ℕ) where
-  abbrev ids : List Deadline → List ℕ
-  ids ds = map (λ d. d.id) (filter (has_ended now) ds)
+-- ---- the least id among those that pass a test
+module _ (p : Deadline → Bool) where
+  abbrev pub ids : List Deadline → List ℕ
+  ids ds = map (λ d. d.id) (filter p ds)
 
-  least-le : (ds : List Deadline) (c : Option ℕ) (d : Deadline) (n : ℕ) → IsIn d ds → has_ended now d ≡ true → fold sooner c (ids ds) ≡ Some n → n ≤ d.id
+  pub least-le : (ds : List Deadline) (c : Option ℕ) (d : Deadline) (n : ℕ) → IsIn d ds → p d ≡ true → fold sooner c (ids ds) ≡ Some n → n ≤ d.id
   least-le [] c d n h t f = absurd h
-  least-le (x ∷ xs) c d n h t f = by (has_ended now x) refl (λ c later f. least-le xs c d n later t f) h f
+  least-le (x ∷ xs) c d n h t f = by (p x) refl (λ c later f. least-le xs c d n later t f) h f
     where
-      by : (b : Bool) → has_ended now x ≡ b → ((c : Option ℕ) → IsIn d xs → fold sooner c (ids xs) ≡ Some n → n ≤ d.id) → (x ≡ d) ⊎ IsIn d xs → fold sooner c (map (λ (y : Deadline). y.id) (cond b (x ∷ filter (has_ended now) xs) (filter (has_ended now) xs))) ≡ Some n → n ≤ d.id
+      by : (b : Bool) → p x ≡ b → ((c : Option ℕ) → IsIn d xs → fold sooner c (ids xs) ≡ Some n → n ≤ d.id) → (x ≡ d) ⊎ IsIn d xs → fold sooner c (map (λ (y : Deadline). y.id) (cond b (x ∷ filter p xs) (filter p xs))) ≡ Some n → n ≤ d.id
       by true is rest (inl same) f = subst (λ y. n ≤ y.id) same (first_le (ids xs) c x.id n f)
       by true is rest (inr later) f = rest (sooner c x.id) later f
-      by false is rest (inl same) f = absurd (let clash : true ≡ false = sym t ∙ ap (has_ended now) (sym same) ∙ is in cc)
+      by false is rest (inl same) f = absurd (let clash : true ≡ false = sym t ∙ ap p (sym same) ∙ is in cc)
       by false is rest (inr later) f = rest c later f
 
-  least-some : (ds : List Deadline) (c : Option ℕ) (d : Deadline) → IsIn d ds → has_ended now d ≡ true → fold sooner c (ids ds) ≡ None → ⊥
+  pub least-some : (ds : List Deadline) (c : Option ℕ) (d : Deadline) → IsIn d ds → p d ≡ true → fold sooner c (ids ds) ≡ None → ⊥
   least-some [] c d h t f = h
-  least-some (x ∷ xs) c d h t f = by (has_ended now x) refl (λ later f. least-some xs c d later t f) h f
+  least-some (x ∷ xs) c d h t f = by (p x) refl (λ later f. least-some xs c d later t f) h f
     where
-      by : (b : Bool) → has_ended now x ≡ b → (IsIn d xs → fold sooner c (ids xs) ≡ None → ⊥) → (x ≡ d) ⊎ IsIn d xs → fold sooner c (map (λ (y : Deadline). y.id) (cond b (x ∷ filter (has_ended now) xs) (filter (has_ended now) xs))) ≡ None → ⊥
+      by : (b : Bool) → p x ≡ b → (IsIn d xs → fold sooner c (ids xs) ≡ None → ⊥) → (x ≡ d) ⊎ IsIn d xs → fold sooner c (map (λ (y : Deadline). y.id) (cond b (x ∷ filter p xs) (filter p xs))) ≡ None → ⊥
       by true is rest h f = sooner_stays (ids xs) c x.id f
-      by false is rest (inl same) f = let clash : true ≡ false = sym t ∙ ap (has_ended now) (sym same) ∙ is in cc
+      by false is rest (inl same) f = let clash : true ≡ false = sym t ∙ ap p (sym same) ∙ is in cc
       by false is rest (inr later) f = rest later f
 
-  -- one that has ended, under this id
-  abbrev Ended : List Deadline → ℕ → Type 0
-  Ended ds n = (d : Deadline) × IsIn d ds × (has_ended now d ≡ true) × (d.id ≡ n)
+  -- one that passes, under this id
+  abbrev pub Passes : List Deadline → ℕ → Type 0
+  Passes ds n = (d : Deadline) × IsIn d ds × (p d ≡ true) × (d.id ≡ n)
 
-  least-in : (ds : List Deadline) (c : Option ℕ) (n : ℕ) → fold sooner c (ids ds) ≡ Some n → (c ≡ Some n) ⊎ Ended ds n
+  pub least-in : (ds : List Deadline) (c : Option ℕ) (n : ℕ) → fold sooner c (ids ds) ≡ Some n → (c ≡ Some n) ⊎ Passes ds n
   least-in [] c n f = inl f
-  least-in (x ∷ xs) c n f = by (has_ended now x) refl (λ c f. least-in xs c n f) f
+  least-in (x ∷ xs) c n f = by (p x) refl (λ c f. least-in xs c n f) f
     where
-      later : {d : Option ℕ} → (d ≡ Some n) ⊎ Ended xs n → (d ≡ Some n) ⊎ Ended (x ∷ xs) n
+      later : {d : Option ℕ} → (d ≡ Some n) ⊎ Passes xs n → (d ≡ Some n) ⊎ Passes (x ∷ xs) n
       later (inl same) = inl same
       later (inr (d, h, t, key)) = inr (d, inr h, t, key)
 
-      first : has_ended now x ≡ true → (c ≡ Some n) ⊎ (x.id ≡ n) → (c ≡ Some n) ⊎ Ended (x ∷ xs) n
+      first : p x ≡ true → (c ≡ Some n) ⊎ (x.id ≡ n) → (c ≡ Some n) ⊎ Passes (x ∷ xs) n
       first is (inl same) = inl same
       first is (inr key) = inr (x, inl refl, is, key)
 
-      with_first : has_ended now x ≡ true → (sooner c x.id ≡ Some n) ⊎ Ended (x ∷ xs) n → (c ≡ Some n) ⊎ Ended (x ∷ xs) n
+      with_first : p x ≡ true → (sooner c x.id ≡ Some n) ⊎ Passes (x ∷ xs) n → (c ≡ Some n) ⊎ Passes (x ∷ xs) n
       with_first is (inl same) = first is (one_of c x.id n same)
       with_first is (inr found) = inr found
 
-      by : (b : Bool) → has_ended now x ≡ b → ((c : Option ℕ) → fold sooner c (ids xs) ≡ Some n → (c ≡ Some n) ⊎ Ended xs n)
-          → fold sooner c (map (λ (y : Deadline). y.id) (cond b (x ∷ filter (has_ended now) xs) (filter (has_ended now) xs))) ≡ Some n → (c ≡ Some n) ⊎ Ended (x ∷ xs) n
+      by : (b : Bool) → p x ≡ b → ((c : Option ℕ) → fold sooner c (ids xs) ≡ Some n → (c ≡ Some n) ⊎ Passes xs n)
+          → fold sooner c (map (λ (y : Deadline). y.id) (cond b (x ∷ filter p xs) (filter p xs))) ≡ Some n → (c ≡ Some n) ⊎ Passes (x ∷ xs) n
       by true is rest f = with_first is (later (rest (sooner c x.id) f))
       by false is rest f = later (rest c f)
 
@@ -126,9 +124,9 @@ module _ (transport : TransportType) (now : ℕ) (all : Transactions) (ds : List
 
   -- an id that is found has a transaction that is over
   over_at : (n : ℕ) → least_ended now ds ≡ Some n → (t : Transaction) × (at n all ≡ Some t) × (is_over transport now t ≡ true)
-  over_at n f = by (least-in now ds None n f)
+  over_at n f = by (least-in (has_ended now) ds None n f)
     where
-      by : (None ≡ Some n) ⊎ Ended now ds n → (t : Transaction) × (at n all ≡ Some t) × (is_over transport now t ≡ true)
+      by : (None ≡ Some n) ⊎ Passes (has_ended now) ds n → (t : Transaction) × (at n all ≡ Some t) × (is_over transport now t ≡ true)
       by (inl absent) = cc
       by (inr (d, h, ended, key)) =
           let e = entry_of d n h key in (e.0, e.1, sym (ended_over transport now (n, e.0)) ∙ ap (has_ended now) e.2 ∙ ended)
@@ -143,59 +141,59 @@ module _ (transport : TransportType) (now : ℕ) (all : Transactions) (ds : List
       by None is None found = refl
       by None is (Some (k, t)) found =
           let here = lookup_found (λ e. is_over transport now e.1) all k t ascends found in
-          absurd (least-some now ds None (deadline_of transport (k, t)) (entry_at k t here) (ended_over transport now (k, t) ∙ found_passes (λ e. is_over transport now e.1) all (k, t) found) is)
+          absurd (least-some (has_ended now) ds None (deadline_of transport (k, t)) (entry_at k t here) (ended_over transport now (k, t) ∙ found_passes (λ e. is_over transport now e.1) all (k, t) found) is)
       by (Some n) is None found =
           let over = over_at n is in absurd (clash over.2 (find-none (λ e. is_over transport now e.1) all n over.0 over.1 found))
       by (Some n) is (Some (k, t)) found =
           let over = over_at n is in
           let here = lookup_found (λ e. is_over transport now e.1) all k t ascends found in
-          let up : n ≤ k = least-le now ds None (deadline_of transport (k, t)) n (entry_at k t here) (ended_over transport now (k, t) ∙ found_passes (λ e. is_over transport now e.1) all (k, t) found) is in
+          let up : n ≤ k = least-le (has_ended now) ds None (deadline_of transport (k, t)) n (entry_at k t here) (ended_over transport now (k, t) ∙ found_passes (λ e. is_over transport now e.1) all (k, t) found) is in
           let down : k ≤ n = find-least (λ e. is_over transport now e.1) all n k over.0 t ascends over.1 over.2 found in
           ap Some (omega arith)
 
 -- ---- entries that are read from the front
-ids-first : (now : ℕ) (d : Deadline) (xs : List Deadline) (c : Option ℕ) → nat_le d.moment now ≡ true
-    → fold sooner c (ids now (d ∷ xs)) ≡ fold sooner (cond (is_end d.kind) (sooner c d.id) c) (ids now xs)
-ids-first now d xs c early = by (is_end d.kind) (nat_le d.moment now) early
+ids-first : (q : Deadline → Bool) (now : ℕ) (d : Deadline) (xs : List Deadline) (c : Option ℕ) → nat_le d.moment now ≡ true
+    → fold sooner c (ids (λ (z : Deadline). q z && nat_le z.moment now) (d ∷ xs)) ≡ fold sooner (cond (q d) (sooner c d.id) c) (ids (λ (z : Deadline). q z && nat_le z.moment now) xs)
+ids-first q now d xs c early = by (q d) (nat_le d.moment now) early
   where
-    by : (b l : Bool) → l ≡ true → fold sooner c (map (λ (y : Deadline). y.id) (cond (b && l) (d ∷ filter (has_ended now) xs) (filter (has_ended now) xs))) ≡ fold sooner (cond b (sooner c d.id) c) (ids now xs)
+    by : (b l : Bool) → l ≡ true → fold sooner c (map (λ (y : Deadline). y.id) (cond (b && l) (d ∷ filter (λ (z : Deadline). q z && nat_le z.moment now) xs) (filter (λ (z : Deadline). q z && nat_le z.moment now) xs))) ≡ fold sooner (cond b (sooner c d.id) c) (ids (λ (z : Deadline). q z && nat_le z.moment now) xs)
     by true true h = refl
     by false true h = refl
     by b false h = cc
 
-pub least-more : (now : ℕ) (ds : List Deadline) (i : ℕ) (d : Deadline) (c : Option ℕ) → slice_get ds i ≡ Some d → nat_le d.moment now ≡ true
-    → fold sooner c (map (λ d. d.id) (filter (has_ended now) (drop i ds))) ≡ fold sooner (cond (is_end d.kind) (sooner c d.id) c) (map (λ d. d.id) (filter (has_ended now) (drop (i + 1) ds)))
-least-more now ds i d c found early = rw (add-one i) (walk ds i found)
+pub least-more : (q : Deadline → Bool) (now : ℕ) (ds : List Deadline) (i : ℕ) (d : Deadline) (c : Option ℕ) → slice_get ds i ≡ Some d → nat_le d.moment now ≡ true
+    → fold sooner c (map (λ d. d.id) (filter (λ (z : Deadline). q z && nat_le z.moment now) (drop i ds))) ≡ fold sooner (cond (q d) (sooner c d.id) c) (map (λ d. d.id) (filter (λ (z : Deadline). q z && nat_le z.moment now) (drop (i + 1) ds)))
+least-more q now ds i d c found early = rw (add-one i) (walk ds i found)
   where
-    walk : (xs : List Deadline) (k : ℕ) → slice_get xs k ≡ Some d → fold sooner c (ids now (drop k xs)) ≡ fold sooner (cond (is_end d.kind) (sooner c d.id) c) (ids now (drop (suc k) xs))
+    walk : (xs : List Deadline) (k : ℕ) → slice_get xs k ≡ Some d → fold sooner c (ids (λ (z : Deadline). q z && nat_le z.moment now) (drop k xs)) ≡ fold sooner (cond (q d) (sooner c d.id) c) (ids (λ (z : Deadline). q z && nat_le z.moment now) (drop (suc k) xs))
     walk [] zero h = cc
     walk [] (suc k) h = cc
     walk (x ∷ xs) zero h =
         let same : x ≡ d = ap (λ o. option_map_or (λ y. y) o x) h in
-        subst (λ y. fold sooner c (ids now (y ∷ xs)) ≡ fold sooner (cond (is_end d.kind) (sooner c d.id) c) (ids now xs)) (sym same) (ids-first now d xs c early)
+        subst (λ y. fold sooner c (ids (λ (z : Deadline). q z && nat_le z.moment now) (y ∷ xs)) ≡ fold sooner (cond (q d) (sooner c d.id) c) (ids (λ (z : Deadline). q z && nat_le z.moment now) xs)) (sym same) (ids-first q now d xs c early)
     walk (x ∷ xs) (suc k) h = walk xs k h
 
--- from a later moment on nothing has ended
-none-ended : (now m : ℕ) (xs : List Deadline) → ((j : ℕ) (x : Deadline) → j < length xs → m ≤ (get_or xs j x).moment) → now < m → filter (has_ended now) xs ≡ []
-none-ended now m [] h late = refl
-none-ended now m (x ∷ xs) h late =
+-- from a later moment on nothing passes
+none-early : (q : Deadline → Bool) (now m : ℕ) (xs : List Deadline) → ((j : ℕ) (x : Deadline) → j < length xs → m ≤ (get_or xs j x).moment) → now < m → filter (λ (z : Deadline). q z && nat_le z.moment now) xs ≡ []
+none-early q now m [] h late = refl
+none-early q now m (x ∷ xs) h late =
     let past : m ≤ x.moment = h 0 x (omega arith) in
-    ap (λ b. cond b (x ∷ filter (has_ended now) xs) (filter (has_ended now) xs)) (not_ended (is_end x.kind) (lt-leb x.moment now (omega (arith, past, late))))
-    ∙ none-ended now m xs (λ j y less. h (suc j) y (shift j (length xs) less)) late
+    ap (λ b. cond b (x ∷ filter (λ (z : Deadline). q z && nat_le z.moment now) xs) (filter (λ (z : Deadline). q z && nat_le z.moment now) xs)) (not_early (q x) (lt-leb x.moment now (omega (arith, past, late))))
+    ∙ none-early q now m xs (λ j y less. h (suc j) y (shift j (length xs) less)) late
   where
     shift : (j n : ℕ) → j < n → suc j < suc n
     shift j n less = omega (arith, less)
 
-    not_ended : (b : Bool) {l : Bool} → l ≡ false → (b && l) ≡ false
-    not_ended true h = h
-    not_ended false h = refl
+    not_early : (b : Bool) {l : Bool} → l ≡ false → (b && l) ≡ false
+    not_early true h = h
+    not_early false h = refl
 
-pub least-stops : (now : ℕ) (ds : List Deadline) (i : ℕ) (d : Deadline) (c : Option ℕ) → IsNonDecreasingBy (λ d. d.moment) ds → slice_get ds i ≡ Some d → now < d.moment
-    → fold sooner c (map (λ d. d.id) (filter (has_ended now) (drop i ds))) ≡ c
-least-stops now ds i d c rises found late =
+pub least-stops : (q : Deadline → Bool) (now : ℕ) (ds : List Deadline) (i : ℕ) (d : Deadline) (c : Option ℕ) → IsNonDecreasingBy (λ d. d.moment) ds → slice_get ds i ≡ Some d → now < d.moment
+    → fold sooner c (map (λ d. d.id) (filter (λ (z : Deadline). q z && nat_le z.moment now) (drop i ds))) ≡ c
+least-stops q now ds i d c rises found late =
     let here = λ (x : Deadline). get_or-drop i ds 0 x ∙ ap (λ n. get_or ds n x) add-zero-i ∙ get_or_from_slice_get ds i d x found in
     ap (λ (xs : List Deadline). fold sooner c (map (λ d. d.id) xs))
-    (none-ended now d.moment (drop i ds)
+    (none-early q now d.moment (drop i ds)
     (λ j x less. let first = ap (λ (y : Deadline). y.moment) (here x) in let later = IsNonDecreasingBy-drop (λ d. d.moment) i ds rises 0 j x (omega arith) less in omega (first, later, arith)) late)
   where
     add-zero-i : i + 0 ≡ i

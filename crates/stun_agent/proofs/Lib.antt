@@ -4,6 +4,7 @@ pub mod Ascending
 pub mod AwaitedLemmas
 pub mod CountLemmas
 pub mod DeadlineLemmas
+pub mod DueLemmas
 pub mod EntryLemmas
 pub mod IndexedLemmas
 pub mod LastLemmas

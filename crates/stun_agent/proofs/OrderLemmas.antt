@@ -1,9 +1,9 @@
 -- The order of deadlines, and where one is found and put in a list that is in order.
-use Rattle.std.proofs.Common.{ℕ, ◌≡◌, ◌<◌, ◌≤◌, ◌+◌, ◌-◌, ◌⊎◌, inl, inr, arith, Bool, true, false, not, cond, List, [], ◌∷◌, length, get_or, zero, suc, add-one, subst, ap, sym, refl, ◌∙◌}
+use Rattle.std.proofs.Common.{ℕ, ◌≡◌, ◌<◌, ◌≤◌, ◌+◌, ◌-◌, inl, inr, arith, Bool, true, false, not, cond, List, [], ◌∷◌, length, get_or, zero, suc, subst, ap, sym, refl, ◌∙◌}
 use Rattle.std.specs.Prelude.{filter, nat_lt, insert, ◌&&◌, ◌||◌, ◌==◌}
 use Rattle.std.specs.Cmp.{IsStrictWeakOrder}
 use Rattle.std.specs.List.{remove}
-use Rattle.std.specs.List.Sorted.{IsNonDecreasingBy, IsSortedBy, IsPartitionedBy, IsPartitionPoint}
+use Rattle.std.specs.List.Sorted.{IsNonDecreasingBy, IsPartitionedBy, IsPartitionPoint}
 use Rattle.std.proofs.lemmas.Bool.{cases_lt, eq-eqb, eqb-true}
 use Rattle.std.proofs.lemmas.Bool.Decides.{nat_tests}
 use Rattle.std.proofs.lemmas.List.Edits.{length-insert, get_or-insert_below, get_or-insert_at, get_or-insert_above}

@@ -1,19 +1,14 @@
 -- What an index becomes as one deadline is replaced.
-use Rattle.std.proofs.Common.{ℕ, ◌≡◌, ◌<◌, ◌≤◌, ◌+◌, arith, Bool, true, false, not, cond, List, [], ◌∷◌, length, subst, ap, sym, refl, ◌∙◌}
-use Rattle.std.specs.Prelude.{Option, Some, None, MatchOption, insert, ◌==◌}
+use Rattle.std.proofs.Common.{ℕ, ◌≡◌, Bool, true, false, not, List, [], ◌∷◌, subst, ap, sym, refl, ◌∙◌}
+use Rattle.std.specs.Prelude.{Option, Some, None, MatchOption, ◌==◌}
 use Rattle.std.specs.Option.{option_map, option_map_or}
-use Rattle.std.specs.List.Sorted.{IsNonDecreasingBy}
-use Rattle.std.specs.Map.{keys_of, set_value}
+use Rattle.std.specs.Map.{set_value}
 use Rattle.std.specs.Ordering.{nat_cmp}
 use Rattle.std.specs.BTreeMap.{is_at}
 use Rattle.std.proofs.lemmas.Bool.{eq-eqb, eqb-true, eqb-false, ne_eqb}
-use Rattle.std.proofs.lemmas.List.Filters.{length-filter_both}
-use Rattle.std.proofs.lemmas.List.Kept.{IsNonDecreasingBy-filter}
-use Rattle.std.proofs.lemmas.List.Sorted.{IsNonDecreasingBy-insert}
-use Rattle.std.proofs.lemmas.Map.Keys.{sorted_head, sorted_tail}
 use Rattle.stun_base.specs.declared.transport.TransportType.{TransportType}
 use Rattle.stun_agent.specs.declared.deadlines.Deadline.{Deadline}
-use Rattle.stun_agent.specs.Transactions.{Transaction, Transactions, IsAscending, at, changed}
+use Rattle.stun_agent.specs.Transactions.{Transaction, Transactions, at, changed}
 use Rattle.stun_agent.specs.code.Deadlines.{deadline_of, entries_at, without_entry, IsInOrder, IsIndexOf, IsPlaced, IsReplaced, IsRenewed}
 use Rattle.stun_agent.proofs.DeadlineLemmas.{without-own, without-other, insert-own, insert-other}
 use Rattle.stun_agent.proofs.EntryLemmas.{own_key, same_key}

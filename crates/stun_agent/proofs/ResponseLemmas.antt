@@ -13,7 +13,7 @@ use Rattle.stun_agent.specs.Agent.{Agent, takes, answered, after_class, after_re
 use Rattle.stun_agent.specs.Laws.{planned_end}
 use Rattle.stun_agent.specs.Statistics.{response_received}
 use Rattle.stun_agent.specs.Timing.{Settings, sum_of_timeouts, repetitions}
-use Rattle.stun_agent.specs.Transactions.{Transaction, at, without, round_trip}
+use Rattle.stun_agent.specs.Transactions.{Transaction, without, round_trip}
 use Rattle.stun_agent.proofs.TimingLemmas.{sum_of_timeouts-zero}
 
 ignored : (moment : Option ℕ) (bytes : List ℕ) (from : SocketAddr) (agent : Agent) → answered bytes from agent ≡ None

@@ -1,26 +1,23 @@
--- The index while slots pass, and what it tells where nothing in it is early.
-use Rattle.std.proofs.Common.{ℕ, ◌≡◌, ◌<◌, ◌≤◌, ◌+◌, ◌⊎◌, inl, inr, arith, Bool, true, false, not, ◌&&◌, ◌||◌, cond, List, [], ◌∷◌, length, map, min, get_or, zero, suc, subst, ap, sym, refl, ◌∙◌}
-use Rattle.std.specs.Prelude.{Option, Some, None, MatchOption, find, fold, nat_le, nat_lt, max}
+-- The rest of a map, the first moment of an index, and the request that is over.
+use Rattle.std.proofs.Common.{ℕ, ◌≡◌, ◌<◌, ◌≤◌, inl, inr, arith, Bool, true, false, not, ◌&&◌, ◌||◌, cond, List, [], ◌∷◌, length, map, min, get_or, suc, subst, ap, sym, refl, ◌∙◌}
+use Rattle.std.specs.Prelude.{Option, Some, None, MatchOption, fold, nat_le}
 use Rattle.std.specs.Option.{option_map, option_map_or}
 use Rattle.std.specs.List.Sorted.{IsNonDecreasingBy}
 use Rattle.std.specs.Map.{keys_of}
 use Rattle.std.specs.Ordering.{nat_cmp}
 use Rattle.std.specs.BTreeMap.{is_at}
-use Rattle.std.proofs.lemmas.Bool.{lt-leb, ltb-true}
 use Rattle.std.proofs.lemmas.Map.Keys.{sorted_head, sorted_tail}
 use Rattle.stun_base.specs.declared.transport.TransportType.{TransportType}
 use Rattle.stun_agent.specs.declared.deadlines.Deadline.{Deadline}
-use Rattle.stun_agent.specs.Transactions.{Transaction, Transactions, IsAscending, at, awaited, has_slots, is_cancelled, is_due, is_over, is_reached, repeats, first_over, next_sent, after_slot, slot_passed, after_slots, sooner}
-use Rattle.stun_agent.specs.code.Deadlines.{deadline_of, entries_at, without_entry, earliest, is_later, IsInOrder, IsIndexOf, IsReplaced, IsMoved}
+use Rattle.stun_agent.specs.Transactions.{Transaction, Transactions, IsAscending, at, awaited, is_cancelled, has_slots, is_over, repeats, first_over}
+use Rattle.stun_agent.specs.code.Deadlines.{deadline_of, earliest, IsIndexOf}
 use Rattle.stun_agent.proofs.Ascending.{find-none, fold-min-le, fold-min-le_first}
 use Rattle.stun_agent.proofs.DeadlineLemmas.{IsIn, entry_of, entry_at}
 use Rattle.stun_agent.proofs.EntryLemmas.{own_key, same_key, lookup_found}
-use Rattle.stun_agent.proofs.LookupLemmas.{lookup-map, none_above}
-use Rattle.stun_agent.proofs.RenewLemmas.{other_key, placed_own, placed_other, placed_ordered}
-use Rattle.stun_agent.proofs.OrderLemmas.{ordered_rises}
+use Rattle.stun_agent.proofs.LookupLemmas.{none_above}
 
 -- ---- entries of the rest of a map
-tail_key : (n : ℕ) (e : ℕ × Transaction) (es : Transactions) (t : Transaction) → IsAscending (e ∷ es) → at n es ≡ Some t → is_at (nat_cmp n) e.0 ≡ false
+pub tail_key : (n : ℕ) (e : ℕ × Transaction) (es : Transactions) (t : Transaction) → IsAscending (e ∷ es) → at n es ≡ Some t → is_at (nat_cmp n) e.0 ≡ false
 tail_key n e es t s h = by (is_at (nat_cmp n) e.0) refl
   where
     by : (b : Bool) → is_at (nat_cmp n) e.0 ≡ b → b ≡ false
@@ -35,80 +32,6 @@ tail_at n e es t s h = ap (λ b. cond b (Some e.1) (at n es)) (tail_key n e es t
 
 pub head_at : (e : ℕ × Transaction) (es : Transactions) → at e.0 (e ∷ es) ≡ Some e.1
 head_at e es = ap (λ b. cond b (Some e.1) (at e.0 es)) (own_key e.0)
-
--- ---- slots pass one by one
-module _ (transport : TransportType) (now : ℕ) (sent : Option ℕ) (all : Transactions) where
-  abbrev old_entry : ℕ → Option Transaction → List Deadline
-  old_entry n o = option_map_or (λ t. deadline_of transport (n, t) ∷ []) o []
-
-  abbrev new_entry : ℕ → Option Transaction → List Deadline
-  new_entry n o = option_map_or (λ t. deadline_of transport (n, slot_passed transport now sent (n, t)) ∷ []) o []
-
-  -- the transactions in `rest` have their old deadlines, and the others their new ones
-  pub record IsHalfway (rest : Transactions) (ds : List Deadline) : Type 0 where
-    pub ordered : IsInOrder ds
-    pub ascending : IsAscending rest
-    pub part : (n : ℕ) (t : Transaction) → at n rest ≡ Some t → at n all ≡ Some t
-    pub left : (n : ℕ) (t : Transaction) → at n rest ≡ Some t → entries_at n ds ≡ deadline_of transport (n, t) ∷ []
-    pub done : (n : ℕ) → at n rest ≡ None → entries_at n ds ≡ new_entry n (at n all)
-
-  pub halfway_start : (ds : List Deadline) → IsAscending all → IsIndexOf transport all ds → IsHalfway all ds
-  halfway_start ds ascends index = record {
-    ordered = index.ordered;
-    ascending = ascends;
-    part = λ n t h. h;
-    left = λ n t h. index.entries n ∙ ap (old_entry n) h;
-    done = λ n h. index.entries n ∙ ap (old_entry n) h ∙ sym (ap (new_entry n) h);
-  }
-
-  halfway_next : (e : ℕ × Transaction) (rest : Transactions) (ds new : List Deadline) → IsHalfway (e ∷ rest) ds → IsInOrder new
-      → entries_at e.0 new ≡ new_entry e.0 (Some e.1) → ((n : ℕ) → (n ≡ e.0 → ⊥) → entries_at n new ≡ entries_at n ds) → IsHalfway rest new
-  halfway_next e rest ds new half up own other = record {
-    ordered = up;
-    ascending = sorted_tail nat_cmp e.0 (keys_of rest) half.ascending;
-    part = λ n t h. half.part n t (tail_at n e rest t half.ascending h);
-    left = λ n t h. other n (other_key n e.0 (tail_key n e rest t half.ascending h)) ∙ half.left n t (tail_at n e rest t half.ascending h);
-    done = λ n h. by n h (is_at (nat_cmp n) e.0) refl;
-  }
-    where
-      by : (n : ℕ) → at n rest ≡ None → (b : Bool) → is_at (nat_cmp n) e.0 ≡ b → entries_at n new ≡ new_entry n (at n all)
-      by n h true is =
-          let key : e.0 ≡ n = same_key n e.0 is in
-          subst (λ m. entries_at m new ≡ new_entry m (at m all)) key (own ∙ sym (ap (new_entry e.0) (half.part e.0 e.1 (head_at e rest))))
-      by n h false is = other n (other_key n e.0 is) ∙ half.done n (ap (λ b. cond b (Some e.1) (at n rest)) is ∙ h)
-
-  -- one whose slot does not pass
-  halfway_skip : (e : ℕ × Transaction) (rest : Transactions) (ds : List Deadline) → (is_reached sent e.0 && is_due transport now e.1) ≡ false → IsHalfway (e ∷ rest) ds → IsHalfway rest ds
-  halfway_skip e rest ds stays half =
-      halfway_next e rest ds ds half half.ordered
-      (half.left e.0 e.1 (head_at e rest) ∙ sym (ap (λ b. deadline_of transport (e.0, cond b (after_slot now e.1) e.1) ∷ []) stays)) (λ n apart. refl)
-
-  -- one whose slot passes
-  halfway_move : (e : ℕ × Transaction) (rest : Transactions) (ds new : List Deadline) → (is_reached sent e.0 && is_due transport now e.1) ≡ true
-      → IsReplaced (deadline_of transport (e.0, after_slot now e.1)) ds new → IsHalfway (e ∷ rest) ds → IsHalfway rest new
-  halfway_move e rest ds new passes replaced half =
-      let d = deadline_of transport (e.0, after_slot now e.1) in
-      halfway_next e rest ds new half (placed_ordered d ds new half.ordered replaced)
-      (placed_own d ds new replaced ∙ sym (ap (λ b. deadline_of transport (e.0, cond b (after_slot now e.1) e.1) ∷ []) passes))
-      (λ n apart. placed_other d ds new n apart replaced)
-
-  pub halfway_each : (e : ℕ × Transaction) (rest : Transactions) (ds new : List Deadline) → IsMoved transport now sent e ds new → IsHalfway (e ∷ rest) ds → IsHalfway rest new
-  halfway_each e rest ds new moved half = by (is_reached sent e.0 && is_due transport now e.1) refl
-    where
-      by : (b : Bool) → (is_reached sent e.0 && is_due transport now e.1) ≡ b → IsHalfway rest new
-      by true is = halfway_move e rest ds new is (moved.moves is) half
-      by false is = subst (IsHalfway rest) (sym (moved.stays is)) (halfway_skip e rest ds is half)
-
-  pub halfway_end : (ds : List Deadline) → IsHalfway [] ds → IsIndexOf transport (after_slots transport now sent all) ds
-  halfway_end ds half = record {
-    ordered = half.ordered;
-    rises = ordered_rises ds half.ordered;
-    entries = λ n. half.done n refl ∙ sym (ap (old_entry n) (lookup-map (slot_passed transport now sent) n all) ∙ by n (at n all));
-  }
-    where
-      by : (n : ℕ) (o : Option Transaction) → old_entry n (option_map (λ t. slot_passed transport now sent (n, t)) o) ≡ new_entry n o
-      by n None = refl
-      by n (Some t) = refl
 
 -- ---- the first moment
 in_at : (d : Deadline) (ds : List Deadline) → IsIn d ds → (j : ℕ) × (j < length ds) × ((x : Deadline) → get_or ds j x ≡ d)
@@ -126,40 +49,7 @@ first_least d y ys rises h =
     let same = ap (λ (x : Deadline). x.moment) (place.2 y) in
     omega (arith, up, same)
 
-waits : (transport : TransportType) (now : ℕ) (e : ℕ × Transaction) → now < (deadline_of transport e).moment → is_due transport now e.1 ≡ false
-waits transport now e late = by (is_cancelled e.1.sending) (has_slots transport e.1) (awaited transport e.1) late
-  where
-    by : (c s : Bool) (m : ℕ) → now < cond c 0 m → (not c && (s && nat_le m now)) ≡ false
-    by true s m late = refl
-    by false true m late = lt-leb m now late
-    by false false m late = refl
-
 module _ (transport : TransportType) (all : Transactions) (ds : List Deadline) (index : IsIndexOf transport all ds) where
-  none_due : (now : ℕ) → is_later (earliest ds) now ≡ true → (n : ℕ) (t : Transaction) → at n all ≡ Some t → is_due transport now t ≡ false
-  none_due now late n t here = by ds index.rises late (entry_at transport now all ds index n t here)
-    where
-      by : (xs : List Deadline) → IsNonDecreasingBy (λ d. d.moment) xs → is_later (earliest xs) now ≡ true → IsIn (deadline_of transport (n, t)) xs → is_due transport now t ≡ false
-      by [] rises late h = absurd h
-      by (y ∷ ys) rises late h =
-          let first : now < y.moment = ltb-true now y.moment late in
-          let least = first_least (deadline_of transport (n, t)) y ys rises h in
-          waits transport now (n, t) (omega (arith, first, least))
-
-  -- nothing is sent and no slot passes where the first moment is later
-  pub nothing_due : (now : ℕ) → IsAscending all → is_later (earliest ds) now ≡ true
-      → (next_sent transport now all ≡ None) × (after_slots transport now None all ≡ all)
-  nothing_due now ascends late = walk all ascends (none_due now late)
-    where
-      walk : (es : Transactions) → IsAscending es → ((n : ℕ) (t : Transaction) → at n es ≡ Some t → is_due transport now t ≡ false)
-          → (next_sent transport now es ≡ None) × (after_slots transport now None es ≡ es)
-      walk [] s quiet = (refl, refl)
-      walk (e ∷ es) s quiet =
-          let rest = walk es (sorted_tail nat_cmp e.0 (keys_of es) s) (λ n t h. quiet n t (tail_at n e es t s h)) in
-          let off = quiet e.0 e.1 (head_at e es) in (
-            ap (λ b. cond (b && repeats e.1.sending) (Some e) (next_sent transport now es)) off ∙ rest.0,
-            (λ i. (e.0, cond (off i) (after_slot now e.1) e.1) ∷ rest.1 i),
-          )
-
   not_over : (now : ℕ) → first_over transport now all ≡ None → (n : ℕ) (t : Transaction) → at n all ≡ Some t → (deadline_of transport (n, t)).moment ≡ awaited transport t
   not_over now none n t here = by (is_cancelled t.sending) (not (has_slots transport t) && nat_le (awaited transport t) now) (find-none (λ e. is_over transport now e.1) all n t here none)
     where

@@ -1,16 +1,15 @@
 -- As many entries of an index are early as transactions are.
 use Rattle.std.proofs.Common.{ℕ, ◌≡◌, ◌+◌, arith, Bool, true, false, not, ◌||◌, cond, List, [], ◌∷◌, subst, ap, sym, refl, ◌∙◌}
-use Rattle.std.specs.Prelude.{Option, Some, None, filter, nat_le, count_by, ◌==◌}
+use Rattle.std.specs.Prelude.{filter, nat_le, count_by, ◌==◌}
 use Rattle.std.specs.Option.{option_map_or}
 use Rattle.std.specs.Map.{keys_of}
 use Rattle.std.specs.Ordering.{nat_cmp}
-use Rattle.std.specs.BTreeMap.{is_at}
 use Rattle.std.proofs.lemmas.Bool.{le-leb, eq-eqb}
 use Rattle.std.proofs.lemmas.List.Sums.{sum_by-cons}
 use Rattle.std.proofs.lemmas.Map.Keys.{sorted_tail}
 use Rattle.stun_base.specs.declared.transport.TransportType.{TransportType}
 use Rattle.stun_agent.specs.declared.deadlines.Deadline.{Deadline}
-use Rattle.stun_agent.specs.Transactions.{Transaction, Transactions, IsAscending, at, without, awaited, is_cancelled}
+use Rattle.stun_agent.specs.Transactions.{Transaction, Transactions, IsAscending, without, awaited, is_cancelled}
 use Rattle.stun_agent.specs.Deadlines.{early_requests, is_early}
 use Rattle.stun_agent.specs.code.Deadlines.{deadline_of, entries_at, without_entry, early, IsIndexOf}
 use Rattle.stun_agent.proofs.DeadlineLemmas.{index_without}

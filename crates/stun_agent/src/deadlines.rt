@@ -1,6 +1,8 @@
 //! What outstanding requests await, in the order of the moments.
-ghost use Rattle.std.specs.Prelude.{◌≡◌, [], ◌+◌, ◌<◌, length, slice_get, Some, OnOk, OnErr};
-ghost use Rattle.stun_agent.specs.code.Deadlines.{earliest, without_entry, is_before, is_cancellation, first_awaited, IsInOrder, HasEntry, IsPlace, IsPlaced, IsReplaced};
+ghost use Rattle.std.specs.Prelude.{◌≡◌, [], ◌+◌, ◌<◌, length, slice_get, Some, OnOk, OnErr, if◌then◌else◌};
+ghost use Rattle.std.specs.List.Sorted.{IsNonDecreasingBy};
+ghost use Rattle.stun_agent.specs.code.Deadlines.{earliest, is_slot, is_slot_after, is_passed, least_due, without_entry, is_before, is_cancellation, first_awaited, IsInOrder, HasEntry, IsPlace, IsPlaced, IsReplaced};
+ghost use Rattle.stun_agent.specs.Transactions.{sooner};
 
 use std::alloc::{AllocError, Allocator, Global};
 use std::collections::VecDeque;
@@ -57,6 +59,12 @@ pub(crate) enum DeadlineKind {
 }
 
 impl DeadlineKind {
+    fn is_slot(self) -> bool
+        ensures { result ≡ is_slot self }
+    {
+        matches!(self, DeadlineKind::Slot)
+    }
+
     fn is_cancellation(self) -> bool
         ensures { result ≡ is_cancellation self }
     {
@@ -112,13 +120,20 @@ impl<A: Allocator> DeadlineIndex<A> {
         self.entries.len()
     }
 
-    /// The only way to an entry, and it is counted.
+    /// The only way to an entry from outside, and it is counted.
     pub(crate) fn entry<L: Ledger>(&self, i: usize, reads: &mut Reads<L>) -> Deadline
         requires { i < length self.now }
         ensures value { slice_get self.now i ≡ Some result }
         ensures count { reads.new ≡ reads.old + 1 }
     {
         reads.tick();
+        self.get(i)
+    }
+
+    fn get(&self, i: usize) -> Deadline
+        requires { i < length self.now }
+        ensures { slice_get self.now i ≡ Some result }
+    {
         self.entries[i]
     }
 
@@ -164,6 +179,27 @@ impl<A: Allocator> DeadlineIndex<A> {
         replace(&mut self.entries, moment, deadline);
     }
 
+    /// The least id, after `last`, of a request whose slot is due. Entries are read from the front, up to the first
+    /// that is later.
+    pub(crate) fn least_due(
+        &self,
+        now: Instant,
+        last: &Option<TransactionId>,
+    ) -> Option<TransactionId>
+        requires { IsNonDecreasingBy (λ d. d.moment) self.now }
+        ensures { result ≡ least_due now last.now self.now }
+    {
+        let mut least = None;
+        for i in 0..self.len() {
+            let deadline = self.get(i);
+            if deadline.moment.as_nanos() > now.as_nanos() {
+                break;
+            }
+            least = with_slot(least, *last, deadline);
+        }
+        least
+    }
+
     /// The first moment of a request that is not cancelled.
     pub(crate) fn first_awaited(&self) -> Option<Instant>
         ensures { result ≡ first_awaited self.now }
@@ -175,6 +211,33 @@ impl<A: Allocator> DeadlineIndex<A> {
             }
         }
         None
+    }
+}
+
+// The lesser id, where the deadline is that of a slot, of an id after `last`.
+fn with_slot(
+    least: Option<TransactionId>,
+    last: Option<TransactionId>,
+    deadline: Deadline,
+) -> Option<TransactionId>
+    ensures { result ≡ (if is_slot_after last deadline then sooner least deadline.id else least) }
+{
+    if !deadline.kind.is_slot() || is_passed(last, deadline.id) {
+        return least;
+    }
+    match least {
+        Some(before) => Some(before.min(deadline.id)),
+        None => Some(deadline.id),
+    }
+}
+
+// Whether an id is at most the last one whose slot has passed.
+fn is_passed(last: Option<TransactionId>, id: TransactionId) -> bool
+    ensures { result ≡ is_passed last id }
+{
+    match last {
+        Some(last) => id <= last,
+        None => false,
     }
 }
 

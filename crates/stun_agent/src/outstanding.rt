@@ -2,7 +2,6 @@
 ghost use Rattle.std.specs.Prelude.{◌≡◌, ◌+◌, ◌≤◌, [], length, Some, None, IfSome, OnOk, OnErr};
 ghost use Rattle.std.specs.Option.{option_map, option_copied, is_some};
 ghost use Rattle.stun_agent.specs.Deadlines.{early_requests};
-ghost use Rattle.stun_agent.specs.code.Deadlines.{is_later};
 ghost use Rattle.stun_agent.specs.Timing.{settings_of};
 ghost use Rattle.stun_agent.specs.Transactions.{repeats, AreKept, at, with, without, changed, silenced, cancelled, configured, first_over, wake_up, next_awaited, next_sent, after_slots, IsNamed};
 ghost use Rattle.stun_agent.specs.code.Transactions.{contents};
@@ -141,10 +140,7 @@ impl<A: Allocator + Copy> Outstanding<A> {
         ensures request { IfSome (next_sent self.old.transport now self.old.requests) IsNamed }
         ensures kept { IfSome result (λ s. option_map contents (at s.0 self.new.requests) ≡ option_map (λ e. contents e.1) (next_sent self.old.transport now self.old.requests)) }
     {
-        if is_later(self.deadlines.earliest(), now) {
-            return None;
-        }
-        transactions::pass_due_slots(&mut self.requests, &mut self.deadlines, self.transport, now)
+        transactions::pass_slots(&mut self.requests, &mut self.deadlines, self.transport, now)
     }
 
     /// Stops the retransmissions of a request, where it is there.
@@ -178,15 +174,5 @@ impl<A: Allocator + Copy> Outstanding<A> {
         };
         transactions::configure(&mut self.requests, id, settings);
         transactions::renew(&mut self.deadlines, &self.requests, self.transport, before);
-    }
-}
-
-// Whether no moment is at most `now`.
-fn is_later(first: Option<Instant>, now: Instant) -> bool
-    ensures { result ≡ is_later first now }
-{
-    match first {
-        Some(moment) => now < moment,
-        None => true,
     }
 }

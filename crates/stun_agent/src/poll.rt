@@ -84,7 +84,7 @@ impl<A: Allocator + Copy> StunAgent<A> {
         ensures sent { option_map lent_datagram result ≡ option_map (λ e. datagram_of self.old e.1) (sent_by_poll now self.old) }
         ensures request { IfSome (sent_by_poll now self.old) IsNamed }
     {
-        let id = self.pass_due_slots(now)?;
+        let id = self.pass_and_count(now)?;
         let transport = self.outstanding.transport();
         let from = self.local_addr;
         let request = self.outstanding.get(id)?;
@@ -98,8 +98,8 @@ impl<A: Allocator + Copy> StunAgent<A> {
         })
     }
 
-    // Passes the slots that are due, and tells the id of the request that is to be sent again.
-    fn pass_due_slots(&mut self, now: Instant) -> Option<TransactionId>
+    // Passes the slots that are due, counts the request that is to be sent again, and tells its id.
+    fn pass_and_count(&mut self, now: Instant) -> Option<TransactionId>
         ensures sent { result ≡ option_map (λ e. e.0) (sent_by_poll now self.old) }
         ensures after { self.new ≡ after_poll_transmit now self.old }
         ensures kept { IfSome result (λ id. option_map contents (at id self.new.transactions) ≡ option_map (λ e. contents e.1) (sent_by_poll now self.old)) }

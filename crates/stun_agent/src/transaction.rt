@@ -2,8 +2,9 @@
 ghost use Rattle.std.specs.Prelude.{◌≡◌, IsTrue};
 ghost use Rattle.stun_base.specs.Address.{same_address};
 ghost use Rattle.stun_agent.specs.code.Deadlines.{deadline_of};
+ghost use Rattle.stun_agent.specs.code.Transactions.{length_sent};
 ghost use Rattle.stun_agent.specs.Timing.{settings_of};
-ghost use Rattle.stun_agent.specs.Transactions.{repeats, is_cancelled, after_silence, new_transaction, silenced, cancelled, configured, has_slots, awaited, is_due, is_over, is_reached, after_slot, slot_passed, round_trip};
+ghost use Rattle.stun_agent.specs.Transactions.{repeats, is_cancelled, after_silence, new_transaction, silenced, cancelled, configured, has_slots, awaited, is_due, after_slot, round_trip};
 
 use crate::address::is_same;
 use crate::deadlines::{Deadline, DeadlineKind};
@@ -179,20 +180,6 @@ impl<A: Allocator> Transaction<A> {
         self.last + wait
     }
 
-    /// Whether its next timeout has passed.
-    pub(crate) fn is_due(&self, transport: TransportType, now: Instant) -> bool
-        ensures { result ≡ is_due transport now self.now }
-    {
-        !self.is_cancelled() && self.has_slots(transport) && self.awaited(transport) <= now
-    }
-
-    /// Whether it has ended.
-    pub(crate) fn is_over(&self, transport: TransportType, now: Instant) -> bool
-        ensures { result ≡ is_over transport now self.now }
-    {
-        self.is_cancelled() || !self.has_slots(transport) && self.awaited(transport) <= now
-    }
-
     /// What it awaits, under its id.
     pub(crate) fn deadline(&self, id: TransactionId, transport: TransportType) -> Deadline
         ensures { result ≡ deadline_of transport (id, self.now) }
@@ -216,66 +203,25 @@ impl<A: Allocator> Transaction<A> {
         }
     }
 
-    /// What it awaits once it has taken the slot that is due.
-    pub(crate) fn deadline_after_slot(
-        &self,
-        id: TransactionId,
-        transport: TransportType,
-        now: Instant,
-    ) -> Deadline
-        requires { IsTrue (is_due transport now self.now) }
-        ensures { result ≡ deadline_of transport (id, after_slot now self.now) }
+    /// How many bytes are sent again of it, where it is.
+    pub(crate) fn length_sent(&self) -> Option<usize>
+        ensures { result ≡ length_sent self.now }
     {
-        let slots = self.settings.slots(transport);
-        prove!(self.slot < slots);
-        let slot = self.slot + 1;
-        if slot < slots {
-            Deadline {
-                moment: now + self.settings.timeout(slot),
-                id,
-                kind: DeadlineKind::Slot,
-            }
+        if self.sending.repeats() {
+            Some(self.bytes().len())
         } else {
-            Deadline {
-                moment: now + self.settings.final_wait(transport),
-                id,
-                kind: DeadlineKind::End,
-            }
+            None
         }
     }
 
-    /// Takes its slot, where it is due and its id is not past the one that is sent.
-    pub(crate) fn pass_slot(
-        &mut self,
-        id: TransactionId,
-        sent: Option<TransactionId>,
-        transport: TransportType,
-        now: Instant,
-    )
-        ensures { self.new ≡ slot_passed transport now sent (id, self.old) }
-    {
-        if is_reached(sent, id) && self.is_due(transport, now) {
-            self.take_slot(transport, now);
-        }
-    }
-
-    fn take_slot(&mut self, transport: TransportType, now: Instant)
-        requires { IsTrue (has_slots transport self.old) }
+    /// Takes the slot that is due.
+    pub(crate) fn take_slot(&mut self, transport: TransportType, now: Instant)
+        requires { IsTrue (is_due transport now self.old) }
         ensures { self.new ≡ after_slot now self.old }
     {
         let slots = self.settings.slots(transport);
         prove!(self.slot < slots);
         self.slot += 1;
         self.last = now;
-    }
-}
-
-/// Whether an id is up to the one that is sent, as any id is where none is.
-pub(crate) fn is_reached(sent: Option<TransactionId>, id: TransactionId) -> bool
-    ensures { result ≡ is_reached sent id }
-{
-    match sent {
-        Some(last) => id <= last,
-        None => true,
     }
 }

@@ -1,16 +1,16 @@
-//! Walks over the outstanding requests, by ascending id, and what becomes of their deadlines.
-ghost use Rattle.std.specs.Prelude.{◌≡◌, length, Some, None, IfSome, MatchOption};
+//! What becomes of the outstanding requests, and of their deadlines.
+ghost use Rattle.std.specs.Prelude.{◌≡◌, length, Some, None, IfSome, IsTrue, MatchOption};
 ghost use Rattle.std.specs.Ordering.{nat_cmp};
-ghost use Rattle.std.specs.BTreeMap.{get, IsOrdered};
+ghost use Rattle.std.specs.BTreeMap.{get};
 ghost use Rattle.std.specs.Option.{option_map};
-ghost use Rattle.stun_agent.specs.code.Deadlines.{deadline_of, IsInOrder, HasEntry, IsIndexOf, IsMoved, IsRenewed};
+ghost use Rattle.stun_agent.specs.code.Deadlines.{deadline_of, IsInOrder, HasEntry, IsIndexOf, IsRenewed};
 ghost use Rattle.stun_agent.specs.Timing.{settings_of};
-ghost use Rattle.stun_agent.specs.Transactions.{repeats, IsAscending, at, sooner, next_sent, after_slots, changed, silenced, cancelled, configured};
-ghost use Rattle.stun_agent.specs.code.Transactions.{contents};
+ghost use Rattle.stun_agent.specs.Transactions.{repeats, IsAscending, at, sooner, is_due, next_sent, after_slot, after_slots, changed, silenced, cancelled, configured};
+ghost use Rattle.stun_agent.specs.code.Transactions.{contents, length_sent};
 
 use crate::deadlines::{Deadline, DeadlineIndex};
 use crate::rto::RequestRto;
-use crate::transaction::{Transaction, is_reached};
+use crate::transaction::Transaction;
 use std::alloc::Allocator;
 use std::collections::BTreeMap;
 use stun_base::instant::Instant;
@@ -45,9 +45,9 @@ pub(crate) fn sooner(least: Option<Instant>, moment: Instant) -> Instant
     }
 }
 
-/// Passes the slots that are due, and tells of the transaction that is to be sent again its id and how many bytes
-/// it has.
-pub(crate) fn pass_due_slots<A: Allocator>(
+/// Passes the slots that are due, up to the one of the transaction that is sent again, and tells its id and how many
+/// bytes it has. Of the deadlines, only those that are at most `now` are read.
+pub(crate) fn pass_slots<A: Allocator>(
     all: &mut Transactions<A>,
     deadlines: &mut DeadlineIndex<A>,
     transport: TransportType,
@@ -60,88 +60,50 @@ pub(crate) fn pass_due_slots<A: Allocator>(
     ensures kept { IfSome result (λ s. option_map contents (get nat_cmp all.new s.0) ≡ option_map (λ e. contents e.1) (next_sent transport now all.old.entries)) }
     ensures index { IsIndexOf transport all.new.entries deadlines.new }
 {
-    match next_sent(all, transport, now) {
-        Some((id, length)) => {
-            move_deadlines(deadlines, all, transport, now, &Some(id));
-            pass_slots(all, transport, now, Some(id));
-            Some((id, length))
+    let mut last = None;
+    while let Some(id) = deadlines.least_due(now, &last) {
+        if let Some(length) = pass_slot(all, deadlines, transport, now, id) {
+            return Some((id, length));
         }
-        None => {
-            move_deadlines(deadlines, all, transport, now, &None);
-            pass_slots(all, transport, now, None);
-            None
-        }
-    }
-}
-
-// The deadlines that stand once `pass_slots` is done.
-fn move_deadlines<A: Allocator>(
-    deadlines: &mut DeadlineIndex<A>,
-    all: &Transactions<A>,
-    transport: TransportType,
-    now: Instant,
-    sent: &Option<TransactionId>,
-)
-    requires index { IsIndexOf transport all.now.entries deadlines.old }
-    requires ascending { IsAscending all.now.entries }
-    ensures { IsIndexOf transport (after_slots transport now sent.now all.now.entries) deadlines.new }
-{
-    for (id, transaction) in all {
-        move_deadline(deadlines, *id, transaction, transport, now, sent);
-    }
-}
-
-// The deadline of one that takes its slot.
-fn move_deadline<A: Allocator>(
-    deadlines: &mut DeadlineIndex<A>,
-    id: TransactionId,
-    transaction: &Transaction<A>,
-    transport: TransportType,
-    now: Instant,
-    sent: &Option<TransactionId>,
-)
-    requires order { IsInOrder deadlines.old }
-    requires entry { HasEntry (deadline_of transport (id, transaction.now)).moment id deadlines.old }
-    ensures { IsMoved transport now sent.now (id, transaction.now) deadlines.old deadlines.new }
-{
-    if is_reached(*sent, id) && transaction.is_due(transport, now) {
-        let before = transaction.deadline(id, transport);
-        deadlines.replace(
-            before.moment,
-            transaction.deadline_after_slot(id, transport, now),
-        );
-    }
-}
-
-fn next_sent<A: Allocator>(
-    all: &Transactions<A>,
-    transport: TransportType,
-    now: Instant,
-) -> Option<(TransactionId, usize)>
-    ensures { result ≡ option_map (λ e. (e.0, length e.1.bytes)) (next_sent transport now all.now.entries) }
-{
-    for (id, transaction) in all {
-        if transaction.is_due(transport, now) && transaction.sending().repeats() {
-            return Some((*id, transaction.bytes().len()));
-        }
+        last = Some(id);
     }
     None
 }
 
-// Each due transaction up to `sent` takes its slot, and all do where nothing is sent.
-fn pass_slots<A: Allocator>(
+// Passes the slot of the transaction at an id, and tells how many bytes it has where it is sent again.
+fn pass_slot<A: Allocator>(
+    all: &mut Transactions<A>,
+    deadlines: &mut DeadlineIndex<A>,
+    transport: TransportType,
+    now: Instant,
+    id: TransactionId,
+) -> Option<usize>
+    requires index { IsIndexOf transport all.old.entries deadlines.old }
+    requires due { IfSome (at id all.old.entries) (λ t. IsTrue (is_due transport now t)) }
+    ensures sent { MatchOption (at id all.old.entries) (result ≡ None) (λ t. result ≡ length_sent t) }
+    ensures after { all.new.entries ≡ changed (after_slot now) id all.old.entries }
+    ensures index { IsIndexOf transport all.new.entries deadlines.new }
+{
+    let before = deadline_at(all, transport, id)?;
+    let sent = take_slot(all, transport, now, id);
+    renew(deadlines, all, transport, before);
+    sent
+}
+
+// Lets the transaction at an id take its slot.
+fn take_slot<A: Allocator>(
     all: &mut Transactions<A>,
     transport: TransportType,
     now: Instant,
-    sent: Option<TransactionId>,
-)
-    ensures after { all.new.entries ≡ after_slots transport now sent all.old.entries }
-    ensures was_ordered { IsOrdered nat_cmp all.old }
+    id: TransactionId,
+) -> Option<usize>
+    requires { IfSome (at id all.old.entries) (λ t. IsTrue (is_due transport now t)) }
+    ensures sent { MatchOption (at id all.old.entries) (result ≡ None) (λ t. result ≡ length_sent t) }
+    ensures after { all.new.entries ≡ changed (after_slot now) id all.old.entries }
 {
-    all.retain(|id, transaction| {
-        transaction.pass_slot(*id, sent, transport, now);
-        true
-    });
+    let transaction = all.get_mut(&id)?;
+    transaction.take_slot(transport, now);
+    transaction.length_sent()
 }
 
 /// Stops the retransmissions of the transaction at an id, where there is one.

@@ -7,7 +7,7 @@ use Rattle.stun_base.specs.declared.transport.TransportType.{TransportType}
 use Rattle.stun_agent.specs.declared.deadlines.Deadline.{Deadline}
 use Rattle.stun_agent.specs.declared.deadlines.DeadlineKind.{DeadlineKind}
 use Rattle.stun_agent.specs.declared.deadlines.DeadlineKind.TheVariants.{Cancelled, End, Slot}
-use Rattle.stun_agent.specs.Transactions.{Transaction, Transactions, IsAscending, at, awaited, has_slots, is_cancelled, is_due, is_reached, after_slot, sooner, IsNamed}
+use Rattle.stun_agent.specs.Transactions.{Transaction, Transactions, IsAscending, at, awaited, has_slots, is_cancelled, sooner, IsNamed}
 
 -- what a transaction awaits: a cancelled one is to end at once, one with slots left is to be sent again, another is to end
 abbrev pub kind_of : TransportType → Transaction → DeadlineKind
@@ -30,6 +30,23 @@ has_ended now d = is_end d.kind && nat_le d.moment now
 -- the least id among those that have ended
 abbrev pub least_ended : ℕ → List Deadline → Option ℕ
 least_ended now ds = fold sooner None (map (λ d. d.id) (filter (has_ended now) ds))
+
+-- a retransmission, and no end
+abbrev pub is_slot : DeadlineKind → Bool
+is_slot Slot = true
+is_slot End = false
+is_slot Cancelled = false
+
+-- an id up to the last one that was passed, and no id where none was
+abbrev pub is_passed : Option ℕ → ℕ → Bool
+is_passed last id = option_map_or (λ l. nat_le id l) last false
+
+abbrev pub is_slot_after : Option ℕ → Deadline → Bool
+is_slot_after last d = is_slot d.kind && not (is_passed last d.id)
+
+-- the least id after `last` among those whose slot is due
+abbrev pub least_due : ℕ → Option ℕ → List Deadline → Option ℕ
+least_due now last ds = fold sooner None (map (λ d. d.id) (filter (λ d. is_slot_after last d && nat_le d.moment now) ds))
 
 -- how many are at most this moment
 abbrev pub early : ℕ → List Deadline → ℕ
@@ -83,11 +100,6 @@ pub record HasEntry (moment id : ℕ) (ds : List Deadline) : Type 0 where
 abbrev pub IsRenewed : TransportType → ℕ → Transactions → List Deadline → List Deadline → Type 0
 IsRenewed transport id all old new = MatchOption (at id all) (new ≡ old) (λ t. IsReplaced (deadline_of transport (id, t)) old new)
 
--- the deadline of a transaction that takes its slot in place of its old one
-pub record IsMoved (transport : TransportType) (now : ℕ) (sent : Option ℕ) (e : ℕ × Transaction) (old new : List Deadline) : Type 0 where
-  pub moves : (is_reached sent e.0 && is_due transport now e.1) ≡ true → IsReplaced (deadline_of transport (e.0, after_slot now e.1)) old new
-  pub stays : (is_reached sent e.0 && is_due transport now e.1) ≡ false → new ≡ old
-
 -- the ids ascend, each request has the id under which it stands, and each its deadline
 pub record AreIndexed (transport : TransportType) (all : Transactions) (ds : List Deadline) : Type 0 where
   pub ascending : IsAscending all
@@ -107,7 +119,3 @@ first_awaited ds = option_map (λ d. d.moment) (find (λ d. not (is_cancellation
 -- the first moment, if there is any
 abbrev pub earliest : List Deadline → Option ℕ
 earliest ds = option_map (λ d. d.moment) (slice_get ds 0)
-
--- no moment is at most `now`
-abbrev pub is_later : Option ℕ → ℕ → Bool
-is_later first now = option_map_or (λ moment. nat_lt now moment) first true

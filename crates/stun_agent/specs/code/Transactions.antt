@@ -1,8 +1,8 @@
 -- What the map of outstanding requests holds.
-use Rattle.std.specs.Prelude.{ℕ, List}
+use Rattle.std.specs.Prelude.{ℕ, List, Option, Some, None, if◌then◌else◌, length}
 use Rattle.std.specs.declared.net.socket_addr.SocketAddr.{SocketAddr}
 use Rattle.stun_base.specs.declared.transport.TransportType.{TransportType}
-use Rattle.stun_agent.specs.Transactions.{Transaction, Transactions}
+use Rattle.stun_agent.specs.Transactions.{Transaction, Transactions, repeats}
 
 -- these, and the transport that carries them
 pub record Outstanding : Type 0 where
@@ -12,3 +12,7 @@ pub record Outstanding : Type 0 where
 -- what is sent of a transaction, and where
 abbrev pub contents : Transaction → List ℕ × SocketAddr
 contents t = (t.bytes, t.to)
+
+-- how many bytes of a transaction are sent again, where it is
+abbrev pub length_sent : Transaction → Option ℕ
+length_sent t = if repeats t.sending then Some (length t.bytes) else None

@@ -2,6 +2,7 @@
 use Rattle.std.proofs.Common.{◌∙◌, sym, arith}
 use Rattle.std.specs.Prelude.{nat_le}
 use Rattle.std.proofs.lemmas.Bool.{le-leb}
+use Rattle.stun_agent.specs.code.Deadlines.{is_end}
 use Rattle.stun_agent.proofs.DeadlineLemmas.{least-more, least-stops}
 use Rattle.stun_agent.proofs.ReadLemmas.{reads-more}
 use Rattle.stun_agent.proofs.ending.least_ended.Goals as goal
@@ -12,7 +13,7 @@ loop-i-preserved g c =
     record {
       answer =
           rw c.with_end-least.ensures
-          (c.loop-i.invariant.answer ∙ least-more c.args.now c.args.index.now c.loop-i.i c.entry-deadline.result c.loop-i.least c.entry-deadline.ensures.value is_early);
+          (c.loop-i.invariant.answer ∙ least-more (λ d. is_end d.kind) c.args.now c.args.index.now c.loop-i.i c.entry-deadline.result c.loop-i.least c.entry-deadline.ensures.value is_early);
       work =
           reads-more (λ e. nat_le e.moment c.args.now) c.args.index.now c.loop-i.i _ _ _ c.entry-deadline.result c.entry-deadline.ensures.value is_early
           c.entry-deadline.ensures.count c.loop-i.invariant.work;
@@ -20,4 +21,4 @@ loop-i-preserved g c =
 
 pub returns-then-as_nanos-clause-answer : goal.returns-then-as_nanos-clause-answer
 returns-then-as_nanos-clause-answer g c =
-    sym (c.loop-i.invariant.answer ∙ least-stops c.args.now c.args.index.now c.loop-i.i c.entry-deadline.result c.loop-i.least c.requires c.entry-deadline.ensures.value (omega arith))
+    sym (c.loop-i.invariant.answer ∙ least-stops (λ d. is_end d.kind) c.args.now c.args.index.now c.loop-i.i c.entry-deadline.result c.loop-i.least c.requires c.entry-deadline.ensures.value (omega arith))

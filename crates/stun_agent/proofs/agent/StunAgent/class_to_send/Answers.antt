@@ -1,8 +1,7 @@
 -- The address is looked at where the class is no reason to refuse.
-use Rattle.std.proofs.Common.{◌≡◌, rules, sym, subst}
-use Rattle.std.specs.Prelude.{Some, IfErr}
-use Rattle.stun_agent.specs.Agent.{address_refusal, class_of_bytes, class_refusal, sending_refusal}
-use Rattle.stun_agent.proofs.RefusalLemmas.{none-from_ok, some-from_err, or-from_second, or-from_both}
+use Rattle.std.proofs.Common.{rules}
+use Rattle.stun_agent.specs.Agent.{address_refusal, class_of_bytes, class_refusal}
+use Rattle.stun_agent.proofs.RefusalLemmas.{none-from_ok, some-from_err, or-from_second}
 use Rattle.stun_agent.proofs.agent.StunAgent.class_to_send.Goals as goal
 
 pub returns-in_err-check_address-clause-refused : goal.returns-in_err-check_address-clause-refused

@@ -1,6 +1,6 @@
 -- Whether there is a reason to refuse is what `id_to_ask` has found.
-use Rattle.std.proofs.Common.{◌≡◌, rules, sym, subst, refl}
-use Rattle.std.specs.Prelude.{None, Some, Ok, MatchOption, IsErrOf, IsOkUnless}
+use Rattle.std.proofs.Common.{rules, sym, subst}
+use Rattle.std.specs.Prelude.{Ok, MatchOption, IsErrOf, IsOkUnless}
 use Rattle.stun_base.specs.Header.{transaction_id_field}
 use Rattle.stun_agent.specs.declared.error.StunError.TheVariants.{OutOfMemory}
 use Rattle.stun_agent.specs.Agent.{request_refusal}

@@ -1,6 +1,6 @@
 -- Whether there is a reason to refuse is what `class_to_send` has found.
 use Rattle.std.proofs.Common.{◌≡◌, rules, sym, subst, ◌∙◌, ap}
-use Rattle.std.specs.Prelude.{None, Some, Ok, MatchOption, IsOk, IsErrOf}
+use Rattle.std.specs.Prelude.{Ok, MatchOption, IsOk, IsErrOf}
 use Rattle.stun_agent.specs.declared.error.StunError.{StunError}
 use Rattle.stun_agent.specs.Agent.{sending_refusal}
 use Rattle.stun_agent.proofs.agent.StunAgent.send.Goals as goal

@@ -1,5 +1,5 @@
 -- What `keep_request` refuses is handed on.
-use Rattle.std.proofs.Common.{◌≡◌, rules, sym, subst, ap}
+use Rattle.std.proofs.Common.{◌≡◌, rules, sym, subst}
 use Rattle.std.specs.Prelude.{Err, MatchOption, IsErrOf, IsOkUnless}
 use Rattle.stun_agent.specs.declared.error.StunError.TheVariants.{OutOfMemory}
 use Rattle.stun_agent.specs.Agent.{request_refusal}

@@ -1,8 +1,7 @@
 -- The deadline that the request had is its entry, and the new one takes its place.
-use Rattle.std.proofs.Common.{◌≡◌, ◌∙◌, ap, sym, refl, rules}
-use Rattle.stun_agent.specs.Transactions.{Transactions, silenced, changed}
-use Rattle.stun_agent.specs.code.Transactions.{Outstanding}
-use Rattle.stun_agent.proofs.IndexedLemmas.{indexed_changed, entry_told, absent_stays}
+use Rattle.std.proofs.Common.{refl}
+use Rattle.stun_agent.specs.Transactions.{silenced}
+use Rattle.stun_agent.proofs.IndexedLemmas.{indexed_changed, entry_told}
 use Rattle.stun_agent.proofs.outstanding.Outstanding.cancel_retransmissions.Goals as goal
 
 pub renew-requires-clause-entry : goal.renew-requires-clause-entry

@@ -1,9 +1,8 @@
 -- The deadline that the request had is its entry, and the new one takes its place.
-use Rattle.std.proofs.Common.{◌≡◌, ◌∙◌, ap, sym, refl, rules}
+use Rattle.std.proofs.Common.{refl}
 use Rattle.stun_agent.specs.Timing.{settings_of}
-use Rattle.stun_agent.specs.Transactions.{Transactions, configured, changed}
-use Rattle.stun_agent.specs.code.Transactions.{Outstanding}
-use Rattle.stun_agent.proofs.IndexedLemmas.{indexed_changed, entry_told, absent_stays}
+use Rattle.stun_agent.specs.Transactions.{configured}
+use Rattle.stun_agent.proofs.IndexedLemmas.{indexed_changed, entry_told}
 use Rattle.stun_agent.proofs.outstanding.Outstanding.configure.Goals as goal
 
 pub renew-requires-clause-entry : goal.renew-requires-clause-entry

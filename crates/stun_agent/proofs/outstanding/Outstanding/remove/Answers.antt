@@ -1,8 +1,8 @@
 -- The request that was there tells where its deadline is.
-use Rattle.std.proofs.Common.{◌≡◌, ◌∙◌, ap, sym, subst, rules}
+use Rattle.std.proofs.Common.{sym, subst, rules}
 use Rattle.stun_agent.specs.declared.deadlines.Deadline.{Deadline}
 use Rattle.stun_agent.specs.code.Deadlines.{HasEntry}
-use Rattle.stun_agent.proofs.IndexedLemmas.{indexed_without, entry_of_told, without_absent}
+use Rattle.stun_agent.proofs.IndexedLemmas.{indexed_without, entry_of_told}
 use Rattle.stun_agent.proofs.outstanding.Outstanding.remove.Goals as goal
 
 pub remove-requires-2-clause-entry : goal.remove-requires-2-clause-entry

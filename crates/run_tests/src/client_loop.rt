@@ -61,12 +61,15 @@ fn ask(
         let Some((bytes, from)) = socket.receive(until) else {
             continue;
         };
-        // Dropped: what is no message, and what answers no outstanding request.
+        // Dropped: what is no message, and what answers no outstanding request of this sender.
         let Ok(message) = Message::from_bytes(bytes) else {
             continue;
         };
         let id = message.transaction_id();
-        if !message.is_response() || agent.request_transaction(id).is_none() {
+        let Some(asked) = agent.request_transaction(id) else {
+            continue;
+        };
+        if !message.is_response() || asked.peer_address() != from {
             continue;
         }
         // The authenticator is asked before the agent, and what is forged dropped.
@@ -75,10 +78,7 @@ fn ask(
             Err(error) if error.reason() == Reason::IntegrityFailed => continue,
             Err(error) => return Ok(End::Refused(error.reason())),
         };
-        // Dropped: what does not come from the server.
-        if !agent.handle_stun_message_with_time(&message, from, socket.now())? {
-            continue;
-        }
+        agent.handle_stun_message_with_time(&message, from, socket.now())?;
         match verdict {
             LongTermClientValidation::ResendRequest(_) => is_to_ask = true,
             LongTermClientValidation::Validated(_) => return end_of(&message),

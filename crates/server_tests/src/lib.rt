@@ -8,8 +8,6 @@ mod clients;
 #[cfg(test)]
 mod expect;
 #[cfg(test)]
-mod hostile;
-#[cfg(test)]
 mod memory;
 #[cfg(test)]
 mod messages;
@@ -17,7 +15,5 @@ mod messages;
 mod settings;
 #[cfg(test)]
 mod signing;
-#[cfg(test)]
-mod texts;
 #[cfg(test)]
 mod users;

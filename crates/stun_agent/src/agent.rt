@@ -26,10 +26,11 @@
 //!         StunAgentPollRet::TransactionCancelled(id) => return Err(cancelled(id)),
 //!     };
 //!     let Some((bytes, from)) = socket.receive(until) else { continue };
-//!     // Drop what is no message, and what answers no outstanding request.
+//!     // Drop what is no message, and what answers no outstanding request of this sender.
 //!     let Ok(message) = Message::from_bytes(&bytes) else { continue };
 //!     let id = message.transaction_id();
-//!     if !message.is_response() || agent.request_transaction(id).is_none() { continue }
+//!     let Some(asked) = agent.request_transaction(id) else { continue };
+//!     if !message.is_response() || asked.peer_address() != from { continue }
 //!     // Then the authenticator is asked, and what is forged dropped.
 //!     let verdict = match authenticator.validate_incoming_message(&message) {
 //!         Ok(verdict) => verdict,

@@ -1,0 +1,7 @@
+//! Tests of a server before hostile messages, and of what it shows of itself.
+#![tactic(auto)]
+
+#[cfg(test)]
+mod server;
+#[cfg(test)]
+mod texts;

@@ -1,4 +1,4 @@
-//! Tests that cross crates: both sides together, the runs, and the public paths.
+//! Tests that cross crates: the loops of a client and of a server on the same datagrams, and the public paths.
 #![tactic(auto)]
 
 #[cfg(test)]
@@ -6,16 +6,6 @@ mod client_loop;
 #[cfg(test)]
 mod dialogue;
 #[cfg(test)]
-mod drive;
-#[cfg(test)]
-mod negotiate;
-#[cfg(test)]
 mod paths;
 #[cfg(test)]
-mod renewal;
-#[cfg(test)]
-mod serve;
-#[cfg(test)]
 mod server_loop;
-#[cfg(test)]
-mod unchecked;

@@ -105,6 +105,17 @@ enum {
     STUN_MESSAGE_TOO_LONG = -14,   /* the message would have more than 65532 bytes after its header */
     STUN_MISSING_ATTRIBUTE = -15,  /* no attribute of the type that is read is visible */
     STUN_MALFORMED_ATTRIBUTE = -16, /* the first visible attribute of the type that is read is malformed */
+
+    /* Of the calls with state alone (stun_state.h). */
+    STUN_OUT_OF_MEMORY = -17,       /* an allocation failed */
+    STUN_EMPTY_HANDLE = -18,        /* the handle is empty */
+    STUN_FULL_HANDLE = -19,         /* the handle is full already */
+    STUN_ALREADY_IN_PROGRESS = -20, /* a request of this id is outstanding */
+    STUN_PROTOCOL_VIOLATION = -21,  /* the message or its address is none that this call takes */
+    STUN_UNAUTHORIZED = -22,        /* the message is not sufficiently authenticated (401) */
+    STUN_BAD_REQUEST = -23,         /* the request is not well-formed (400) */
+    STUN_STALE_NONCE = -24,         /* the nonce is not the current one (438) */
+    STUN_UNSUPPORTED_FEATURE = -25, /* the server lacks an algorithm or a feature that is required */
 };
 
 /* What an answer says, in English: of a refusal why, of any other number "no error". The text is constant. */
@@ -127,8 +138,17 @@ static inline const char *stun_strerror(int64_t answer) {
         "the message would be too long",
         "the attribute is missing",
         "the attribute is malformed",
+        "an allocation failed",
+        "the handle is empty",
+        "the handle is full already",
+        "a request of this id is outstanding",
+        "the message or its address is none that this call takes",
+        "the message is not sufficiently authenticated",
+        "the request is not well-formed",
+        "the nonce is not the current one",
+        "a required feature is not supported",
     };
-    return answer < 0 && answer >= STUN_MALFORMED_ATTRIBUTE ? texts[-answer] : texts[0];
+    return answer < 0 && answer >= STUN_UNSUPPORTED_FEATURE ? texts[-answer] : texts[0];
 }
 
 enum {

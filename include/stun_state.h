@@ -1,0 +1,246 @@
+/* STUN (RFC 8489) with state for programs in C, C++ and Rust: an agent that keeps requests and sends them again, and the
+ * long-term authenticators of a server and a client.
+ *
+ * Link crates/stun_state/out/libstun_state.a, which `rt lib` in crates/stun_state proves and builds, and examples/c/heap.c
+ * or an allocator of your own (below).
+ *
+ * Handles. A handle is the caller's: a variable, a field, an element of an array. All zero is empty (`stun_agent agent =
+ * {0};`). A `_new` call wants an empty handle and fills it; a `_free` call empties it, and on an empty one does nothing.
+ * A handle may be moved by copying its bytes and forgetting the first copy. Two copies may not both be used, and the fields
+ * may not be written.
+ *
+ * Threads. One thread at a time uses a handle, and it is the thread that filled it: whether a handle may move to another
+ * thread is not proved. Handles share nothing.
+ *
+ * Time and chance. No call reads a clock, a socket or a source of random bytes: moments are nanoseconds from a start that
+ * the caller chooses once for a handle, and random words are arguments.
+ *
+ * What is passed is read during the call and not kept: messages and texts are copied. No pointer is null, not even with a
+ * length of 0, and what a call writes to overlaps nothing else that is passed. Texts are UTF-8 and taken as they are.
+ *
+ * A call answers 0 or more, or refuses by a number below zero (stun.h), by the first reason in the order that its comment
+ * gives. STUN_EMPTY_HANDLE, or STUN_FULL_HANDLE of a `_new` call, comes before all others. A refusal leaves the handle and
+ * every output as they were, but where a comment says otherwise.
+ *
+ * Memory. The archive allocates by three functions that the program gives (examples/c/heap.c has them over malloc, with a
+ * bound): where one refuses, the call answers STUN_OUT_OF_MEMORY.
+ *
+ *     typedef struct { bool is_ok; void *at; } rattle_allocation;
+ *     rattle_allocation rattle_alloc(size_t length, size_t alignment);
+ *     rattle_allocation rattle_realloc(void *at, size_t kept, size_t length, size_t alignment);
+ *     void rattle_dealloc(void *at);
+ */
+#ifndef STUN_STATE_H
+#define STUN_STATE_H
+
+#include <stdbool.h>
+
+#include "stun.h"
+
+#ifdef __cplusplus
+extern "C" {
+#endif
+
+typedef struct { bool is_full; void *state; } stun_agent;
+typedef struct { bool is_full; void *state; } stun_server;
+typedef struct { bool is_full; void *state; } stun_client;
+
+/* An address: 4 octets (IPv4) or 16 (IPv6) in network order at the front, and a port in the processor's order. A call that
+ * takes one refuses STUN_BAD_ARGUMENT where `length` is neither, right after the refusal for the handle. An IPv4 address
+ * and the same address mapped into IPv6 are two. */
+typedef struct {
+    uint8_t octets[16];
+    uint16_t port;
+    uint16_t length;
+} stun_address;
+
+enum { STUN_UDP = 0, STUN_TCP = 1 };
+
+/* What an authenticator does with a user's name: STUN_AUTO hides it behind USERHASH where the peer can do so too,
+ * STUN_REQUIRED refuses a server that cannot, STUN_DISABLED never hides it (section 9.2). */
+enum { STUN_AUTO = 0, STUN_REQUIRED = 1, STUN_DISABLED = 2 };
+
+/* Answers above zero. */
+enum {
+    STUN_TIMED_OUT = 1, /* stun_agent_poll: no response came to a request in time */
+    STUN_CANCELLED = 2, /* stun_agent_poll: a request was cancelled */
+    STUN_RESEND = 3,    /* stun_client_validate: a 401 or 438 was taken up; sign a new request and send it */
+};
+
+/* When a request is sent again (section 6.2.1): the wait after the first transmission, the longest wait between two, the
+ * wait after the last, in nanoseconds, and how many transmissions there are over UDP. */
+typedef struct {
+    uint64_t initial;
+    uint64_t longest;
+    uint64_t last;
+    uint32_t transmissions;
+} stun_timeouts;
+
+/* What an agent counts. Round trips are in nanoseconds, and 0 where none was measured. */
+typedef struct {
+    uint64_t requests_sent, requests_received;
+    uint64_t responses_sent, responses_received;
+    uint64_t indications_sent, indications_received;
+    uint64_t transactions_timed_out, transactions_cancelled;
+    uint64_t bytes_sent, bytes_received;
+    uint64_t round_trips, round_trip_least, round_trip_most, round_trip_average;
+} stun_statistics;
+
+/* ---- The agent: requests and their time (section 6.2).
+ *
+ * STUN_TRUNCATED, STUN_NOT_STUN and STUN_TOO_LARGE of a message that is passed are those of stun_parse. An id of another
+ * length than 12 is refused as STUN_BAD_ARGUMENT. */
+
+/* Fills a handle with an agent of a transport at a local address, with the time-outs of section 6.2.1: 500 ms, doubled up
+ * to 8 s between two, 7 transmissions, and 8 s at the end; over TCP 39.5 s.
+ *
+ * Answers 0, or refuses: STUN_FULL_HANDLE, STUN_BAD_ARGUMENT (transport or address), STUN_OUT_OF_MEMORY. */
+int64_t stun_agent_new(stun_agent *agent, uint32_t transport, const stun_address *local);
+
+/* The same with time-outs of the caller's, and with a remote address, to which alone the agent then sends; a remote
+ * address of length 0 is none. */
+int64_t stun_agent_new_with(stun_agent *agent, uint32_t transport, const stun_address *local, const stun_address *remote,
+                            const stun_timeouts *timeouts);
+
+/* Keeps a request and counts it: send its bytes to `to` now, and ask stun_agent_poll and stun_agent_poll_transmit from
+ * then on.
+ *
+ * Answers 0, or refuses: STUN_EMPTY_HANDLE, STUN_BAD_ARGUMENT (address), STUN_TRUNCATED, STUN_NOT_STUN, STUN_TOO_LARGE,
+ * STUN_PROTOCOL_VIOLATION (the message is no request, or the agent sends only to another address),
+ * STUN_ALREADY_IN_PROGRESS (a request of this id is outstanding), STUN_OUT_OF_MEMORY. */
+int64_t stun_agent_send_request(stun_agent *agent, const uint8_t *message, size_t length, const stun_address *to,
+                                uint64_t now);
+
+/* Counts a response or an indication that is sent to an address. Nothing is kept.
+ *
+ * Refuses as stun_agent_send_request does; STUN_PROTOCOL_VIOLATION where the message is a request. */
+int64_t stun_agent_send(stun_agent *agent, const uint8_t *message, size_t length, const stun_address *to);
+
+/* What is to be done at a moment. Answers 0 where nothing is before `*until` (UINT64_MAX: nothing is awaited); or
+ * STUN_TIMED_OUT or STUN_CANCELLED, and the id of the request that ended is at the front of `id`: ask again.
+ *
+ * Refuses STUN_EMPTY_HANDLE, and STUN_BUFFER_TOO_SMALL where `id` has fewer than 12 bytes. Does not allocate. */
+int64_t stun_agent_poll(stun_agent *agent, uint64_t now, uint64_t *until, uint8_t *id, size_t id_length);
+
+/* The request that is to be sent again now: its bytes at the front of `out`, and where to. Ask again until it answers 0.
+ *
+ * Answers their number, or 0 where nothing is due, or refuses STUN_EMPTY_HANDLE, or STUN_BUFFER_TOO_SMALL, by which no
+ * transmission is lost: call it again with more room. Does not allocate. */
+int64_t stun_agent_poll_transmit(stun_agent *agent, uint64_t now, uint8_t *out, size_t room, stun_address *to);
+
+/* Takes a message that came from an address. Answers 1 where it is a response that ended the request of its id to this
+ * address, or is no response, and 0 where it is a response to nothing that is outstanding: the message is to be dropped.
+ *
+ * Refuses as stun_agent_send_request does up to STUN_TOO_LARGE, and STUN_OUT_OF_MEMORY. It checks no digest: show a
+ * response to stun_client_validate first. */
+int64_t stun_agent_handle(stun_agent *agent, const uint8_t *message, size_t length, const stun_address *from,
+                          uint64_t now);
+
+/* Whether a request of an id is outstanding: 1, and the address that it went to, or 0. Refuses STUN_EMPTY_HANDLE and
+ * STUN_BAD_ARGUMENT. */
+int64_t stun_agent_is_outstanding(stun_agent *agent, const uint8_t *id, size_t id_length, stun_address *peer);
+
+/* Cancels the request of an id: the next stun_agent_poll answers STUN_CANCELLED for it. Or only ends its
+ * retransmissions, or gives it time-outs of its own. Each answers 1, or 0 where none is outstanding, or refuses
+ * STUN_EMPTY_HANDLE and STUN_BAD_ARGUMENT. */
+int64_t stun_agent_cancel(stun_agent *agent, const uint8_t *id, size_t id_length);
+int64_t stun_agent_cancel_retransmissions(stun_agent *agent, const uint8_t *id, size_t id_length);
+int64_t stun_agent_configure(stun_agent *agent, const uint8_t *id, size_t id_length, const stun_timeouts *timeouts);
+
+/* What the agent counted. Answers 0, or refuses STUN_EMPTY_HANDLE. */
+int64_t stun_agent_statistics(stun_agent *agent, stun_statistics *statistics);
+
+void stun_agent_free(stun_agent *agent);
+
+/* ---- The long-term authenticator of a server (section 9.2.4). */
+
+/* Fills a handle with a server of a realm, which supports HMAC-SHA1 and has no users. Nonces last an hour.
+ *
+ * Answers 0, or refuses: STUN_FULL_HANDLE, STUN_NOT_TEXT, STUN_OUT_OF_MEMORY. */
+int64_t stun_server_new(stun_server *server, const uint8_t *realm, size_t realm_length);
+
+/* Which algorithms the server supports: STUN_SHA1, STUN_SHA256, or STUN_SHA1 | STUN_SHA256. Refuses STUN_BAD_ARGUMENT
+ * for another number. */
+int64_t stun_server_set_algorithms(stun_server *server, uint32_t algorithms);
+
+/* STUN_AUTO or STUN_DISABLED; a server takes STUN_REQUIRED as STUN_AUTO. Refuses STUN_BAD_ARGUMENT, STUN_OUT_OF_MEMORY. */
+int64_t stun_server_set_anonymous_username(stun_server *server, uint32_t feature);
+
+/* How long a nonce lasts, in nanoseconds; less than 30 s is taken as 30 s. Nonces that were made keep their end. */
+int64_t stun_server_set_nonce_expiry(stun_server *server, uint64_t nanoseconds);
+
+/* Registers a user, in the place of one of the same name. Refuses STUN_NOT_TEXT, STUN_OUT_OF_MEMORY. */
+int64_t stun_server_add_user(stun_server *server, const uint8_t *name, size_t name_length, const uint8_t *password,
+                             size_t password_length);
+
+/* Removes a user: messages in that name are refused from then on. Refuses STUN_NOT_TEXT. */
+int64_t stun_server_remove_user(stun_server *server, const uint8_t *name, size_t name_length);
+
+/* Forgets who was validated at an address. Refuses STUN_BAD_ARGUMENT. */
+int64_t stun_server_remove_client(stun_server *server, const stun_address *at);
+
+/* Forgets each address without a client whose nonce expired before a moment. Takes time that grows with the number of
+ * addresses. */
+int64_t stun_server_forget_expired(stun_server *server, uint64_t now);
+
+/* Who was validated at an address: answers STUN_SHA1 or STUN_SHA256, and writes the user's name to the front of `name` and
+ * its length; or answers 0 where nobody was. Refuses STUN_BAD_ARGUMENT, STUN_BUFFER_TOO_SMALL. */
+int64_t stun_server_client(stun_server *server, const stun_address *at, uint8_t *name, size_t room, size_t *name_length);
+
+/* Who signed a message that came from an address. `words` are 16 random numbers, read where a nonce is made.
+ *
+ * Answers STUN_SHA1 or STUN_SHA256 where the message is validated, and this is the algorithm of the key. Refuses
+ * STUN_EMPTY_HANDLE, STUN_BAD_ARGUMENT, STUN_TRUNCATED, STUN_NOT_STUN, STUN_TOO_LARGE; and then STUN_UNAUTHORIZED (answer
+ * 401), STUN_BAD_REQUEST (400), STUN_STALE_NONCE (438), STUN_INTEGRITY_FAILED (a response to the server that
+ * is not rightly signed), STUN_OUT_OF_MEMORY. A refusal may make a nonce for the address, which stun_server_sign then sends. */
+int64_t stun_server_validate(stun_server *server, const uint8_t *message, size_t length, const stun_address *from,
+                             uint64_t now, const uint32_t words[16]);
+
+/* Signs the message in the first `length` bytes of a buffer of `room` bytes, which goes to an address: NONCE and REALM in a
+ * response, and the offered algorithms or the integrity attribute of the address's client. Sign successes, 401 and 438; a
+ * 400 goes out as it is (section 9.2.4). Before any nonce was made for the address the message stays as it is.
+ *
+ * Answers the message's new length, or refuses: STUN_EMPTY_HANDLE, STUN_BAD_ARGUMENT (address, or `length` above `room`),
+ * STUN_TRUNCATED, STUN_NOT_STUN, STUN_TOO_LARGE; STUN_CLOSED where it has an integrity attribute or FINGERPRINT,
+ * STUN_ATTRIBUTE_EXISTS where it has an attribute that signing adds, STUN_MESSAGE_TOO_LONG, STUN_TEXT_TOO_LONG,
+ * STUN_INTEGRITY_FAILED where the client's user was removed, STUN_BUFFER_TOO_SMALL, STUN_OUT_OF_MEMORY. */
+int64_t stun_server_sign(stun_server *server, uint8_t *buffer, size_t room, size_t length, const stun_address *to);
+
+void stun_server_free(stun_server *server);
+
+/* ---- The long-term authenticator of a client (section 9.2.3, 9.2.5). */
+
+/* Fills a handle with a client without credentials, which supports HMAC-SHA1. Refuses STUN_FULL_HANDLE,
+ * STUN_OUT_OF_MEMORY. */
+int64_t stun_client_new(stun_client *client);
+
+/* Whose name and password are used. Refuses STUN_NOT_TEXT, STUN_OUT_OF_MEMORY. */
+int64_t stun_client_set_credentials(stun_client *client, const uint8_t *name, size_t name_length,
+                                    const uint8_t *password, size_t password_length);
+
+/* As stun_server_set_algorithms. */
+int64_t stun_client_set_algorithms(stun_client *client, uint32_t algorithms);
+
+/* STUN_AUTO, STUN_REQUIRED or STUN_DISABLED. Refuses STUN_BAD_ARGUMENT. */
+int64_t stun_client_set_anonymous_username(stun_client *client, uint32_t feature);
+
+/* Signs the message in the first `length` bytes of a buffer of `room` bytes, as the challenge that was taken up asks.
+ * Before one was, the message stays as it is.
+ *
+ * Answers and refuses as stun_server_sign does, without address. */
+int64_t stun_client_sign(stun_client *client, uint8_t *buffer, size_t room, size_t length);
+
+/* What a response says. Show it only responses to an outstanding request, from the address that was asked.
+ *
+ * Answers STUN_SHA1 or STUN_SHA256 where the digest verifies, or STUN_RESEND. Refuses STUN_EMPTY_HANDLE, STUN_TRUNCATED,
+ * STUN_NOT_STUN, STUN_TOO_LARGE; and then STUN_UNAUTHORIZED, STUN_INTEGRITY_FAILED, STUN_UNSUPPORTED_FEATURE,
+ * STUN_OUT_OF_MEMORY. */
+int64_t stun_client_validate(stun_client *client, const uint8_t *message, size_t length);
+
+void stun_client_free(stun_client *client);
+
+#ifdef __cplusplus
+}
+#endif
+
+#endif

@@ -20,7 +20,7 @@ const SAMPLE_ID: u128 = 0xb7e7a701bc34d686fa87dfae;
 /// A value with more bytes than any text may have.
 const LETTERS: [u8; 800] = [b'a'; 800];
 
-// The attribute, written into a request with the sample's id, as it stands behind the header.
+// The attribute, written into a request with the sample's id, as it is after the header.
 fn expect_written<A: Attribute>(
     rt: &impl Abort,
     attribute: &A,

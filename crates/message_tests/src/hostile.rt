@@ -1,7 +1,7 @@
 //! Messages that a hostile peer may send, with the answers of RFC 8489, sections 14.5 to 14.7 and 9.2.4.
 //!
-//! Behind MESSAGE-INTEGRITY only MESSAGE-INTEGRITY-SHA256 and FINGERPRINT count, behind that only
-//! FINGERPRINT, and behind FINGERPRINT nothing. Of two integrity attributes that count the stronger decides.
+//! After MESSAGE-INTEGRITY only MESSAGE-INTEGRITY-SHA256 and FINGERPRINT count, after that only
+//! FINGERPRINT, and after FINGERPRINT nothing. Of two integrity attributes that count the stronger decides.
 use std::alloc::Global;
 use std::process::Abort;
 use std::test::Fail;
@@ -73,7 +73,7 @@ const FINGERPRINT: &str = "80280004 00000000";
 const ZEROS: &str = "00080014 0000000000000000000000000000000000000000";
 
 const ZEROS_256: &str = "001c0020 0000000000000000000000000000000000000000000000000000000000000000";
-/// The right digests behind `NAME` alone.
+/// The right digests after `NAME` alone.
 const RIGHT: &str = "00080014 beb4535433a9f8b97157129c2f12c902c8226553";
 
 const RIGHT_256: &str = "001c0020 a2d291b5aedd82ab8fa80c51406792e31f4f9720947e009583062635735d6d4e";
@@ -297,7 +297,7 @@ fn no_digest(rt: HostRuntime) -> Result<(), Fail> {
     Ok(())
 }
 
-/// An attribute of zeros with the attributes behind it.
+/// An attribute of zeros with the attributes after it.
 fn expect_length(
     rt: &impl Abort,
     alloc: Global,

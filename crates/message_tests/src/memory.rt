@@ -1,4 +1,4 @@
-//! Each request for memory refused in turn: what stands afterwards, and which calls make none.
+//! Each request for memory refused in turn: what is left afterwards, and which calls make none.
 ghost use Rattle.std.specs.Prelude.{◌≡◌, ◌≤◌, [], length, IfOk};
 
 use fail_alloc::RefusingAllocator;
@@ -18,7 +18,7 @@ use test_support::spelled::bytes_of;
 /// Below this many allocations each run here has met its last one.
 const MOST_ALLOCATIONS: u64 = 100;
 
-/// The bytes of a key that is just too long to stand in the value itself.
+/// The bytes of a key that is just too long to be in the value itself.
 const LONG_KEY: [u8; 33] = [5; 33];
 
 /// A password of just as many bytes.
@@ -344,7 +344,7 @@ fn a_slice(rt: HostRuntime) -> Result<(), Fail> {
     Ok(())
 }
 
-/// A password of 100 bytes is no key of its own: it is hashed where it stands. The digest is that of Python's `hmac`.
+/// A password of 100 bytes is no key of its own: it is hashed in its place. The digest is that of Python's `hmac`.
 #[test]
 fn a_long_password(rt: HostRuntime) -> Result<(), Fail> {
     let heap = RefusingAllocator::new(rt.alloc());

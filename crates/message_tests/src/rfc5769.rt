@@ -144,13 +144,13 @@ fn reads_the_responses(rt: HostRuntime) -> Result<(), Fail> {
     expect_read(&rt, rt.alloc(), IPV6_RESPONSE, &ipv6)
 }
 
-/// The digest covers all before it, padding too, under the length of a message that ends behind it.
+/// The digest covers all before it, padding too, under the length of a message that ends after it.
 #[test]
 fn judges_the_short_term_samples(rt: HostRuntime) -> Result<(), Fail> {
     let standing = Ok(IntegrityAlgorithm::Sha1);
     let failed = Err(ValidateError::IntegrityFailed);
     for (digits, change, verdict) in [
-        // The byte that stands there: all is as published.
+        // The byte that is there: all is as published.
         (REQUEST, (0, 0x00), standing),
         (IPV4_RESPONSE, (0, 0x01), standing),
         (IPV6_RESPONSE, (0, 0x01), standing),
@@ -160,7 +160,7 @@ fn judges_the_short_term_samples(rt: HostRuntime) -> Result<(), Fail> {
         // The last byte of the id, and of the digest.
         (REQUEST, (19, 0xaf), failed),
         (REQUEST, (99, 0xa3), failed),
-        // FINGERPRINT stands behind the digest.
+        // FINGERPRINT is after the digest.
         (REQUEST, (107, 0x00), standing),
         (REQUEST, (104, 0x00), standing),
         (IPV6_RESPONSE, (91, 0x00), standing),

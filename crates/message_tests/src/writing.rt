@@ -90,7 +90,7 @@ fn refuses_types_set_apart(rt: HostRuntime) -> Result<(), Fail> {
     Ok(())
 }
 
-/// Behind an integrity attribute nothing is written, whatever else speaks against it.
+/// After an integrity attribute nothing is written, whatever else speaks against it.
 #[test]
 fn refuses_behind_integrity(rt: HostRuntime) -> Result<(), Fail> {
     let key = IntegrityKey::from_bytes(rt.alloc(), PASSWORD.as_bytes())?;
@@ -121,7 +121,7 @@ fn write_long(alloc: Global, count: usize) -> Result<MessageWriteVec, StunWriteE
     Ok(writer)
 }
 
-/// The longest message has 65532 bytes behind its header, and USERNAME takes eight of them.
+/// The longest message has 65532 bytes after its header, and USERNAME takes eight of them.
 #[test]
 fn refuses_what_is_too_long(rt: HostRuntime) -> Result<(), Fail> {
     let key = IntegrityKey::from_bytes(rt.alloc(), PASSWORD.as_bytes())?;
@@ -183,7 +183,7 @@ fn builds_each_class(rt: HostRuntime) -> Result<(), Fail> {
     Ok(())
 }
 
-// What a writer tells of the message that stands in it, which is of this class and has id 7.
+// What a writer tells of the message that is in it, which is of this class and has id 7.
 fn expect_told<W: MessageWrite>(
     rt: &impl Abort,
     writer: W,
@@ -319,7 +319,7 @@ fn validates_what_is_signed(rt: HostRuntime) -> Result<(), Fail> {
     Ok(())
 }
 
-// The answer of signing the request in so many bytes, and what then stands in them.
+// The answer of signing the request in so many bytes, and what then is in them.
 fn sign_within(
     alloc: Global,
     room: &mut [u8],

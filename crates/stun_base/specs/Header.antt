@@ -18,7 +18,7 @@ MAGIC_COOKIE = 0x2112A442
 abbrev pub type_field : List ℕ → ℕ
 type_field bytes = big_number 2 bytes
 
--- the number of bytes behind the header, in the next two
+-- the number of bytes after the header, in the next two
 abbrev pub length_field : List ℕ → ℕ
 length_field bytes = big_number 2 (drop 2 bytes)
 

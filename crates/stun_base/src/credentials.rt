@@ -48,7 +48,7 @@ impl<A: Allocator> ShortTermCredentials<A> {
 impl<A: Allocator + Copy> ShortTermCredentials<A> {
     /// The key of these credentials, which is the password's bytes (RFC 8489, section 9.1.1).
     ///
-    /// Up to 32 bytes stand in the key itself; a longer key is allocated by the password's allocator.
+    /// Up to 32 bytes are in the key itself; a longer key is allocated by the password's allocator.
     pub fn make_key(&self) -> Result<IntegrityKey<A>, AllocError>
         ensures key { IfOk result (λ key. key ≡ self.now) }
         ensures succeeds_inline { length self.now ≤ 32 → IsOk result }
@@ -70,10 +70,12 @@ impl<A: Allocator> fmt::Debug for ShortTermCredentials<A> {
     ghost debug_output = { λ _. Some (codes "ShortTermCredentials { .. }") };
 
     fn fmt<W: fmt::Write>(&self, f: &mut fmt::Formatter<W>) -> fmt::Result
-        ensures writes { WritesOnOk W.write_str_gives f.old result (codes "ShortTermCredentials { .. }") f.new }
+        ensures writes { WritesOnOk W.write_str_gives f.old result
+            (codes "ShortTermCredentials { .. }") f.new }
 
         // So it is whatever width, precision or other option is asked.
-        ensures styled { WritesStyledOnOk W.write_str_gives f.old result (codes "ShortTermCredentials { .. }") f.new }
+        ensures styled { WritesStyledOnOk W.write_str_gives f.old result
+            (codes "ShortTermCredentials { .. }") f.new }
     {
         f.write_str("ShortTermCredentials { .. }")
     }
@@ -195,10 +197,12 @@ impl<A: Allocator> fmt::Debug for LongTermCredentials<A> {
     ghost debug_output = { λ _. Some (codes "LongTermCredentials { .. }") };
 
     fn fmt<W: fmt::Write>(&self, f: &mut fmt::Formatter<W>) -> fmt::Result
-        ensures writes { WritesOnOk W.write_str_gives f.old result (codes "LongTermCredentials { .. }") f.new }
+        ensures writes { WritesOnOk W.write_str_gives f.old result
+            (codes "LongTermCredentials { .. }") f.new }
 
         // So it is whatever width, precision or other option is asked.
-        ensures styled { WritesStyledOnOk W.write_str_gives f.old result (codes "LongTermCredentials { .. }") f.new }
+        ensures styled { WritesStyledOnOk W.write_str_gives f.old result
+            (codes "LongTermCredentials { .. }") f.new }
     {
         f.write_str("LongTermCredentials { .. }")
     }
@@ -300,10 +304,12 @@ impl<A: Allocator> fmt::Debug for LongTermKeyCredentials<A> {
     ghost debug_output = { λ _. Some (codes "LongTermKeyCredentials { .. }") };
 
     fn fmt<W: fmt::Write>(&self, f: &mut fmt::Formatter<W>) -> fmt::Result
-        ensures writes { WritesOnOk W.write_str_gives f.old result (codes "LongTermKeyCredentials { .. }") f.new }
+        ensures writes { WritesOnOk W.write_str_gives f.old result
+            (codes "LongTermKeyCredentials { .. }") f.new }
 
         // So it is whatever width, precision or other option is asked.
-        ensures styled { WritesStyledOnOk W.write_str_gives f.old result (codes "LongTermKeyCredentials { .. }") f.new }
+        ensures styled { WritesStyledOnOk W.write_str_gives f.old result
+            (codes "LongTermKeyCredentials { .. }") f.new }
     {
         f.write_str("LongTermKeyCredentials { .. }")
     }
@@ -372,7 +378,8 @@ impl<A: Allocator> fmt::Debug for MessageIntegrityCredentials<A> {
         ensures writes { WritesOnOk W.write_str_gives f.old result (kind_shown self.now) f.new }
 
         // So it is whatever width, precision or other option is asked.
-        ensures styled { WritesStyledOnOk W.write_str_gives f.old result (kind_shown self.now) f.new }
+        ensures styled { WritesStyledOnOk W.write_str_gives f.old result
+            (kind_shown self.now) f.new }
     {
         match self {
             MessageIntegrityCredentials::ShortTerm(_) => f.write_str("ShortTerm(..)"),
@@ -390,7 +397,7 @@ pub struct CredentialsKey<'a, A: Allocator = Global> {
     bytes: CredentialsKeyBytes<'a, A>,
 }
 
-/// Where the bytes of the key stand.
+/// Where the bytes of the key are.
 #[derive(Drop)]
 enum CredentialsKeyBytes<'a, A: Allocator> {
     Password(&'a [u8]),
@@ -422,10 +429,12 @@ impl<'a, A: Allocator> fmt::Debug for CredentialsKey<'a, A> {
     ghost debug_output = { λ _. Some (codes "CredentialsKey { .. }") };
 
     fn fmt<W: fmt::Write>(&self, f: &mut fmt::Formatter<W>) -> fmt::Result
-        ensures writes { WritesOnOk W.write_str_gives f.old result (codes "CredentialsKey { .. }") f.new }
+        ensures writes { WritesOnOk W.write_str_gives f.old result
+            (codes "CredentialsKey { .. }") f.new }
 
         // So it is whatever width, precision or other option is asked.
-        ensures styled { WritesStyledOnOk W.write_str_gives f.old result (codes "CredentialsKey { .. }") f.new }
+        ensures styled { WritesStyledOnOk W.write_str_gives f.old result
+            (codes "CredentialsKey { .. }") f.new }
     {
         f.write_str("CredentialsKey { .. }")
     }

@@ -20,7 +20,7 @@ use std::marker::Model;
 /// The number of bytes of the longest key that is kept without an allocation.
 const INLINE_LENGTH: usize = 32;
 
-/// The key of a digest. Up to 32 bytes stand in the value itself.
+/// The key of a digest. Up to 32 bytes are in the value itself.
 ///
 /// Contracts see a key as its bytes. `Debug` shows none of them.
 #[derive(Drop)]
@@ -47,7 +47,7 @@ impl<A: Allocator> Model for IntegrityKey<A> {
 }
 
 impl<A: Allocator> IntegrityKey<A> {
-    /// A key of these bytes. Up to 32 bytes stand in the key itself; more are allocated by `alloc`,
+    /// A key of these bytes. Up to 32 bytes are in the key itself; more are allocated by `alloc`,
     /// and the one error is that this fails.
     pub fn from_bytes(alloc: A, bytes: &[u8]) -> Result<Self, AllocError>
         ensures ok { IfOk result (λ key. key ≡ bytes.now) }
@@ -94,10 +94,12 @@ impl<A: Allocator> fmt::Debug for IntegrityKey<A> {
     ghost debug_output = { λ _. Some (codes "IntegrityKey { .. }") };
 
     fn fmt<W: fmt::Write>(&self, f: &mut fmt::Formatter<W>) -> fmt::Result
-        ensures writes { WritesOnOk W.write_str_gives f.old result (codes "IntegrityKey { .. }") f.new }
+        ensures writes { WritesOnOk W.write_str_gives f.old result
+            (codes "IntegrityKey { .. }") f.new }
 
         // So it is whatever width, precision or other option is asked.
-        ensures styled { WritesStyledOnOk W.write_str_gives f.old result (codes "IntegrityKey { .. }") f.new }
+        ensures styled { WritesStyledOnOk W.write_str_gives f.old result
+            (codes "IntegrityKey { .. }") f.new }
     {
         f.write_str("IntegrityKey { .. }")
     }
@@ -107,7 +109,8 @@ impl<A: Allocator> fmt::Debug for IntegrityKey<A> {
 /// false where they find no room. It is filled in place: to move it would wait for what was written.
 fn join(text: &mut ShortText, username: &[u8], realm: &[u8], password: &[u8]) -> bool
     requires { text.old ≡ [] }
-    ensures { result ≡ true → text.new ≡ spec.with_colon (spec.with_colon username.now realm.now) password.now }
+    ensures { result ≡ true → text.new ≡ spec.with_colon
+        (spec.with_colon username.now realm.now) password.now }
 {
     text.push(username)
         && text.push(b":")
@@ -178,7 +181,7 @@ fn digest_of_utf8<H: HashFunction>(
 /// HMAC-SHA256, each the hash of `username:realm:password` (RFC 8489, sections 9.2.2 and 18.5.1).
 ///
 /// It does not allocate: `alloc` is dropped, and only says where longer keys of this type would
-/// stand.
+/// are.
 pub fn long_term_key<A: Allocator>(
     alloc: A,
     algorithm: IntegrityAlgorithm,

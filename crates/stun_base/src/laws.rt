@@ -261,7 +261,7 @@ pub fn binding_types() -> [MessageType; 4]
     ]
 }
 
-/// Where the bits of a method stand in a type: the method 0x5A3 and the class of a success give
+/// Where the bits of a method are in a type: the method 0x5A3 and the class of a success give
 /// 0x1743.
 pub fn spread_type() -> Option<MessageType>
     ensures { result ≡ Some 0x1743 }

@@ -1,4 +1,4 @@
--- The first attribute of a type as it is read, and where the attributes after a place stand.
+-- The first attribute of a type as it is read, and where the attributes after a place are.
 use Rattle.std.proofs.Common.{◌≡◌, ◌≤◌, ℕ, List, length, arith}
 use Rattle.std.specs.Prelude.{nat_lt, IfSome, MatchOption, Option, Some, None, Result, Err}
 use Rattle.stun_base.specs.declared.error.StunParseError.{StunParseError}
@@ -23,6 +23,6 @@ place-within : (bytes : List ℕ) (found : Option Member) → IfSome found (IsWi
 place-within bytes None within = within
 place-within bytes (Some m) within = omega (arith, within.whole)
 
--- the attribute that stands after a place does so within
+-- the attribute that comes after a place does so within
 pub next-within : (place : ℕ) (bytes : List ℕ) → IfSome (next_member place bytes) (λ m. m.0 ≤ length bytes)
 next-within place bytes = place-within bytes (next_member place bytes) (IfSome-find (IsWithin bytes) (λ m. nat_lt place m.0) (visible bytes) (visible-within bytes))

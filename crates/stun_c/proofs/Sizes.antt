@@ -1,4 +1,4 @@
--- How long a request is, and that its integrity attribute fits behind it.
+-- How long a request is, and that its integrity attribute fits after it.
 use Rattle.std.proofs.Common.{◌≡◌, ◌≤◌, ℕ, ◌+◌, List, [], ◌∷◌, ◌++◌, length, length-append, rules, arith}
 use Rattle.std.specs.Prelude.{None}
 use Rattle.std.proofs.lemmas.List.{length-replicate}
@@ -14,7 +14,7 @@ pub request_length : (kind id : ℕ) (name : List ℕ)
     → length (spelled kind id ([] ++ record { kind = USERNAME; value = name } ∷ [])) ≡ 24 + padded_length (length name)
 request_length kind id name = simp (length-append, length-replicate) (omega arith)
 
--- a short message with room behind it is signed
+-- a short message with room after it is signed
 pub signing_fits : (message : List ℕ) (room : ℕ) (algorithm : IntegrityAlgorithm) → IsOpen message → length message ≤ 540 → 36 ≤ room
     → signing_refusal message room algorithm ≡ None
 signing_fits message room Sha1 is_open short wide =

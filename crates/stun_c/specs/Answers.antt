@@ -18,7 +18,7 @@ parse_number (Some error) = code_of (refusal_of_parse error)
 abbrev pub parse_answer : List ℕ → ℤ
 parse_answer bytes = parse_number (refusal bytes)
 
--- the number of the algorithm that stands, if one does
+-- the number of the algorithm whose digest verifies, if one does
 abbrev pub integrity_number : Option IntegrityAlgorithm → ValidateError → ℤ
 integrity_number (Some algorithm) error = pos (algorithm_number algorithm)
 integrity_number None error = code_of (refusal_of_validate error)
@@ -42,7 +42,7 @@ abbrev pub written_number : Result (List ℕ) Refusal → ℤ
 written_number (Ok bytes) = pos (length bytes)
 written_number (Err refusal) = code_of refusal
 
--- the buffer afterwards: the bytes, then what stood after their places; a refusal leaves it
+-- the buffer afterwards: the bytes, then what was after their places; a refusal leaves it
 abbrev pub buffer_after : Result (List ℕ) Refusal → List ℕ → List ℕ
 buffer_after (Ok bytes) buffer = bytes ++ drop (length bytes) buffer
 buffer_after (Err refusal) buffer = buffer

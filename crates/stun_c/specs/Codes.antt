@@ -28,7 +28,7 @@ code_of MessageTooLong = neg_ℤ (pos 14)
 code_of NotFound = neg_ℤ (pos 15)
 code_of MalformedAttribute = neg_ℤ (pos 16)
 
--- the refusal that stands for an error of reading
+-- the refusal that tells an error of reading
 abbrev pub refusal_of_parse : StunParseError → Refusal
 refusal_of_parse ParseTruncated = Truncated
 refusal_of_parse ParseNotStun = NotStun
@@ -36,7 +36,7 @@ refusal_of_parse ParseTooLarge = TooLarge
 refusal_of_parse (MissingAttribute _) = NoIntegrity
 refusal_of_parse InvalidAttributeData = MalformedIntegrity
 
--- the refusal that stands for an error of reading an attribute
+-- the refusal that tells an error of reading an attribute
 abbrev pub refusal_of_attribute : StunParseError → Refusal
 refusal_of_attribute ParseTruncated = Truncated
 refusal_of_attribute ParseNotStun = NotStun
@@ -44,7 +44,7 @@ refusal_of_attribute ParseTooLarge = TooLarge
 refusal_of_attribute (MissingAttribute _) = NotFound
 refusal_of_attribute InvalidAttributeData = MalformedAttribute
 
--- the refusal that stands for an error of the integrity check
+-- the refusal that tells an error of the integrity check
 abbrev pub refusal_of_validate : ValidateError → Refusal
 refusal_of_validate (Parse error) = refusal_of_parse error
 refusal_of_validate DigestFailed = IntegrityFailed

@@ -32,7 +32,7 @@ method_answer bytes = unless_no_message (refusal bytes) (pos (method_of (type_fi
 abbrev pub id_of_message : List ℕ → Result (List ℕ) Refusal
 id_of_message bytes = unless_refused (option_map refusal_of_parse (refusal bytes)) (take 12 (drop 8 bytes))
 
--- the first visible attribute that stands after a place (sections 14.5 to 14.7)
+-- the first visible attribute that comes after a place (sections 14.5 to 14.7)
 abbrev pub next_member : ℕ → List ℕ → Option Member
 next_member place bytes = find (λ m. nat_lt place m.0) (visible bytes)
 

@@ -26,7 +26,7 @@ begun class method id =
     if nat_lt class 4 && nat_lt method 4096 && (length id == 12)
     then Ok (spelled (type_number (class_of_bits class) method) (big_number 12 id) []) else Err BadArgument
 
--- whether a message has an attribute behind which no other may be added (sections 14.5 to 14.7)
+-- whether a message has an attribute after which no other may be added (sections 14.5 to 14.7)
 abbrev pub is_closed : List ℕ → Bool
 is_closed message = is_some (find (λ m. is_set_apart m.1.kind) (visible message))
 
@@ -41,7 +41,7 @@ base_refusal buffer count =
     else option_or (option_map refusal_of_parse (refusal (take count buffer)))
     (if is_closed (take count buffer) then Some Closed else None)
 
--- why a value of n bytes does not fit behind a message with so much room: the length field, then the room
+-- why a value of n bytes does not fit after a message with so much room: the length field, then the room
 abbrev pub fit_refusal : List ℕ → ℕ → ℕ → Option Refusal
 fit_refusal message room n =
     if nat_lt max_length (length_with message n) then Some MessageTooLong
@@ -55,7 +55,7 @@ adding_refusal buffer count kind n =
     else if shows_kind kind (take count buffer) then Some AttributeExists
     else fit_refusal (take count buffer) (length buffer - count) n)
 
--- a message with an attribute more, behind it in its buffer
+-- a message with an attribute more, after it in its buffer
 abbrev pub added : List ℕ → ℕ → ℕ → List ℕ → Result (List ℕ) Refusal
 added buffer count kind value =
     unless_refused (adding_refusal buffer count kind (length value)) (with_attribute (take count buffer) (record { kind = kind; value = value }))

@@ -103,7 +103,8 @@ fn add_hidden(buffer: &mut [u8], count: usize, octets: &[u8], port: u16) -> i64
 /// number of the refusal.
 pub fn add_address(buffer: &mut [u8], count: usize, octets: &[u8], port: u32) -> i64
     ensures answer { result ≡ written_number (added_address buffer.old count octets.now port) }
-    ensures written { buffer.new ≡ buffer_after (added_address buffer.old count octets.now port) buffer.old }
+    ensures written { buffer.new ≡ buffer_after
+        (added_address buffer.old count octets.now port) buffer.old }
 {
     if !is_address(octets, port) {
         return Refusal::BadArgument.code();

@@ -8,7 +8,8 @@ use crate::codes::Refusal;
 /// Copies the bytes to the front of the buffer and answers their number, or leaves it where it has fewer bytes.
 pub fn fill(buffer: &mut [u8], bytes: &[u8]) -> i64
     ensures answer { result ≡ written_number (fitted (Ok bytes.now) (length buffer.old)) }
-    ensures written { buffer.new ≡ buffer_after (fitted (Ok bytes.now) (length buffer.old)) buffer.old }
+    ensures written { buffer.new ≡ buffer_after
+        (fitted (Ok bytes.now) (length buffer.old)) buffer.old }
 {
     if buffer.len() < bytes.len() {
         return Refusal::BufferTooSmall.code();

@@ -13,7 +13,7 @@ pub enum Refusal {
     Truncated,
     /// -2: the first 20 bytes are no header of STUN.
     NotStun,
-    /// -3: bytes stand behind the end of the message.
+    /// -3: bytes are after the end of the message.
     TooLarge,
     /// -4: the message has no visible integrity attribute.
     NoIntegrity,
@@ -31,9 +31,9 @@ pub enum Refusal {
     BufferTooSmall,
     /// -11: attributes of this type are written by a call of its own, or by none.
     NotAllowed,
-    /// -12: an integrity attribute or FINGERPRINT stands in the message, so nothing may follow it.
+    /// -12: an integrity attribute or FINGERPRINT is in the message, so nothing may follow it.
     Closed,
-    /// -13: an attribute of this type stands in the message.
+    /// -13: an attribute of this type is in the message.
     AttributeExists,
     /// -14: the message would have more than 65532 bytes after its header.
     MessageTooLong,
@@ -113,7 +113,8 @@ pub fn algorithm_number(algorithm: IntegrityAlgorithm) -> u32
 /// The algorithm of a number, or `BadArgument`.
 pub fn algorithm_numbered(number: u32) -> Result<IntegrityAlgorithm, Refusal>
     ensures ok { IfOk result (λ algorithm. algorithm_numbered number ≡ Some algorithm) }
-    ensures err { IfErr result (λ refusal. (algorithm_numbered number ≡ None) × (refusal ≡ Refusal.BadArgument)) }
+    ensures err { IfErr result (λ refusal. (algorithm_numbered number ≡ None)
+        × (refusal ≡ Refusal.BadArgument)) }
 {
     match number {
         1 => Ok(IntegrityAlgorithm::Sha1),

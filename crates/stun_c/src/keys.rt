@@ -20,8 +20,12 @@ pub fn write_key(
     password: &[u8],
     buffer: &mut [u8],
 ) -> i64
-    ensures answer { result ≡ written_number (fitted (key_of_texts (algorithm_numbered algorithm) username.now realm.now password.now) (length buffer.old)) }
-    ensures written { buffer.new ≡ buffer_after (fitted (key_of_texts (algorithm_numbered algorithm) username.now realm.now password.now) (length buffer.old)) buffer.old }
+    ensures answer { result ≡ written_number (fitted
+        (key_of_texts (algorithm_numbered algorithm) username.now realm.now password.now)
+        (length buffer.old)) }
+    ensures written { buffer.new ≡ buffer_after
+        (fitted (key_of_texts (algorithm_numbered algorithm) username.now realm.now password.now)
+        (length buffer.old)) buffer.old }
 {
     match algorithm_numbered(algorithm) {
         Ok(IntegrityAlgorithm::Sha1) => match md5_key_from_utf8(username, realm, password) {

@@ -11,7 +11,8 @@ use stun_base::algorithm::IntegrityAlgorithm;
 
 /// A key has 16 or 32 bytes, a USERHASH 32, and a request those of its header, USERNAME and digest.
 pub fn stated_lengths()
-    ensures long_term_key { (algorithm : IntegrityAlgorithm) (username realm password : List ℕ) → length (long_term_key algorithm username realm password) ≡ key_length algorithm }
+    ensures long_term_key { (algorithm : IntegrityAlgorithm) (username realm password : List ℕ)
+        → length (long_term_key algorithm username realm password) ≡ key_length algorithm }
     ensures userhash { (username realm : List ℕ) → length (userhash username realm) ≡ 32 }
     ensures request { (algorithm : IntegrityAlgorithm) (id username key : List ℕ)
         → length (with_integrity (binding_request id username) algorithm key) ≡ 28 + padded_length (length username) + digest_length algorithm }

@@ -41,7 +41,7 @@ pub extern "C" fn stun_parse(message: &[u8]) -> i64
     }
 }
 
-/// The number of the algorithm whose digest stands under the key, or why none does.
+/// The number of the algorithm whose digest verifies under the key, or why none does.
 #[unsafe(no_mangle)]
 pub extern "C" fn stun_verify(message: &[u8], key: &[u8]) -> i64
     ensures { result ≡ verify_answer message.now key.now }
@@ -61,8 +61,12 @@ pub extern "C" fn stun_build_signed(
     key: &[u8],
     out: &mut [u8],
 ) -> i64
-    ensures answer { result ≡ written_number (fitted (signed_request (algorithm_numbered algorithm) id.now username.now key.now) (length out.old)) }
-    ensures written { out.new ≡ buffer_after (fitted (signed_request (algorithm_numbered algorithm) id.now username.now key.now) (length out.old)) out.old }
+    ensures answer { result ≡ written_number (fitted
+        (signed_request (algorithm_numbered algorithm) id.now username.now key.now)
+        (length out.old)) }
+    ensures written { out.new ≡ buffer_after (fitted
+        (signed_request (algorithm_numbered algorithm) id.now username.now key.now)
+        (length out.old)) out.old }
 {
     let mut longest = [0; LONGEST_REQUEST];
     match signed_request(algorithm, id, username, key, &mut longest) {
@@ -80,8 +84,12 @@ pub extern "C" fn stun_long_term_key(
     password: &[u8],
     out: &mut [u8],
 ) -> i64
-    ensures answer { result ≡ written_number (fitted (key_of_texts (algorithm_numbered algorithm) username.now realm.now password.now) (length out.old)) }
-    ensures written { out.new ≡ buffer_after (fitted (key_of_texts (algorithm_numbered algorithm) username.now realm.now password.now) (length out.old)) out.old }
+    ensures answer { result ≡ written_number (fitted
+        (key_of_texts (algorithm_numbered algorithm) username.now realm.now password.now)
+        (length out.old)) }
+    ensures written { out.new ≡ buffer_after (fitted
+        (key_of_texts (algorithm_numbered algorithm) username.now realm.now password.now)
+        (length out.old)) out.old }
 {
     write_key(algorithm, username, realm, password, out)
 }
@@ -89,8 +97,10 @@ pub extern "C" fn stun_long_term_key(
 /// Writes the hash that stands for a user at a realm, and answers its length, 32.
 #[unsafe(no_mangle)]
 pub extern "C" fn stun_userhash(username: &[u8], realm: &[u8], out: &mut [u8]) -> i64
-    ensures answer { result ≡ written_number (fitted (userhash_of_texts username.now realm.now) (length out.old)) }
-    ensures written { out.new ≡ buffer_after (fitted (userhash_of_texts username.now realm.now) (length out.old)) out.old }
+    ensures answer { result ≡ written_number (fitted (userhash_of_texts username.now realm.now)
+        (length out.old)) }
+    ensures written { out.new ≡ buffer_after (fitted (userhash_of_texts username.now realm.now)
+        (length out.old)) out.old }
 {
     match userhash_of_texts(username, realm) {
         Ok(hash) => fill(out, &hash),
@@ -110,7 +120,8 @@ pub extern "C" fn stun_version() -> i64
 #[unsafe(no_mangle)]
 pub extern "C" fn stun_begin(class: u32, method: u32, id: &[u8], out: &mut [u8]) -> i64
     ensures answer { result ≡ written_number (fitted (begun class method id.now) (length out.old)) }
-    ensures written { out.new ≡ buffer_after (fitted (begun class method id.now) (length out.old)) out.old }
+    ensures written { out.new ≡ buffer_after (fitted (begun class method id.now)
+        (length out.old)) out.old }
 {
     writing::begin(class, method, id, out)
 }
@@ -119,7 +130,8 @@ pub extern "C" fn stun_begin(class: u32, method: u32, id: &[u8], out: &mut [u8])
 #[unsafe(no_mangle)]
 pub extern "C" fn stun_add(buffer: &mut [u8], count: usize, kind: u32, value: &[u8]) -> i64
     ensures answer { result ≡ written_number (added_number buffer.old count kind value.now) }
-    ensures written { buffer.new ≡ buffer_after (added_number buffer.old count kind value.now) buffer.old }
+    ensures written { buffer.new ≡ buffer_after
+        (added_number buffer.old count kind value.now) buffer.old }
 {
     if kind >= 65536 {
         return Refusal::BadArgument.code();
@@ -136,7 +148,8 @@ pub extern "C" fn stun_add_xor_mapped_address(
     port: u32,
 ) -> i64
     ensures answer { result ≡ written_number (added_address buffer.old count octets.now port) }
-    ensures written { buffer.new ≡ buffer_after (added_address buffer.old count octets.now port) buffer.old }
+    ensures written { buffer.new ≡ buffer_after
+        (added_address buffer.old count octets.now port) buffer.old }
 {
     address::add_address(buffer, count, octets, port)
 }
@@ -145,7 +158,8 @@ pub extern "C" fn stun_add_xor_mapped_address(
 #[unsafe(no_mangle)]
 pub extern "C" fn stun_add_error(buffer: &mut [u8], count: usize, code: u32, reason: &[u8]) -> i64
     ensures answer { result ≡ written_number (added_error buffer.old count code reason.now) }
-    ensures written { buffer.new ≡ buffer_after (added_error buffer.old count code reason.now) buffer.old }
+    ensures written { buffer.new ≡ buffer_after
+        (added_error buffer.old count code reason.now) buffer.old }
 {
     writing::add_error(buffer, count, code, reason)
 }
@@ -153,8 +167,10 @@ pub extern "C" fn stun_add_error(buffer: &mut [u8], count: usize, code: u32, rea
 /// Adds the integrity attribute of an algorithm to the message in the first bytes of a buffer, and answers the new length.
 #[unsafe(no_mangle)]
 pub extern "C" fn stun_sign(buffer: &mut [u8], count: usize, algorithm: u32, key: &[u8]) -> i64
-    ensures answer { result ≡ written_number (signed buffer.old count (algorithm_numbered algorithm) key.now) }
-    ensures written { buffer.new ≡ buffer_after (signed buffer.old count (algorithm_numbered algorithm) key.now) buffer.old }
+    ensures answer { result ≡ written_number (signed buffer.old count
+        (algorithm_numbered algorithm) key.now) }
+    ensures written { buffer.new ≡ buffer_after
+        (signed buffer.old count (algorithm_numbered algorithm) key.now) buffer.old }
 {
     writing::sign(buffer, count, algorithm, key)
 }
@@ -179,7 +195,8 @@ pub extern "C" fn stun_method(message: &[u8]) -> i64
 #[unsafe(no_mangle)]
 pub extern "C" fn stun_id(message: &[u8], out: &mut [u8]) -> i64
     ensures answer { result ≡ written_number (fitted (id_of_message message.now) (length out.old)) }
-    ensures written { out.new ≡ buffer_after (fitted (id_of_message message.now) (length out.old)) out.old }
+    ensures written { out.new ≡ buffer_after (fitted (id_of_message message.now)
+        (length out.old)) out.old }
 {
     reading::id(message, out)
 }
@@ -212,8 +229,10 @@ pub extern "C" fn stun_error_code(message: &[u8]) -> i64
 /// Writes the address that a message reports, 4 or 16 octets, and its port, and answers how many octets there are.
 #[unsafe(no_mangle)]
 pub extern "C" fn stun_xor_mapped_address(message: &[u8], out: &mut [u8], port: &mut u16) -> i64
-    ensures answer { result ≡ written_number (fitted (octets_of_message message.now) (length out.old)) }
-    ensures written { out.new ≡ buffer_after (fitted (octets_of_message message.now) (length out.old)) out.old }
+    ensures answer { result ≡ written_number (fitted (octets_of_message message.now)
+        (length out.old)) }
+    ensures written { out.new ≡ buffer_after (fitted (octets_of_message message.now)
+        (length out.old)) out.old }
     ensures port { port.new ≡ port_after (fitted (octets_of_message message.now) (length out.old))
         (address_in message.now) port.old }
 {

@@ -58,7 +58,8 @@ fn id_bytes(message: &[u8]) -> Result<&[u8], Refusal>
 /// Copies the transaction id of a message to the front of the buffer, and answers its length or the number of the refusal.
 pub fn id(message: &[u8], out: &mut [u8]) -> i64
     ensures answer { result ≡ written_number (fitted (id_of_message message.now) (length out.old)) }
-    ensures written { out.new ≡ buffer_after (fitted (id_of_message message.now) (length out.old)) out.old }
+    ensures written { out.new ≡ buffer_after (fitted (id_of_message message.now)
+        (length out.old)) out.old }
 {
     match id_bytes(message) {
         Ok(id) => fill(out, id),
@@ -66,7 +67,7 @@ pub fn id(message: &[u8], out: &mut [u8]) -> i64
     }
 }
 
-/// The first visible attribute that stands after a place, with its own place.
+/// The first visible attribute that comes after a place, with its own place.
 fn member_after<'a>(message: &Message<'a>, place: usize) -> Option<(usize, RawAttribute<'a>)>
     ensures first { result ≡ next_member place message.now }
     ensures within { IfSome result (λ m. m.0 ≤ length message.now) }
@@ -74,7 +75,7 @@ fn member_after<'a>(message: &Message<'a>, place: usize) -> Option<(usize, RawAt
     message.iter_attributes().find(|found| place < found.0)
 }
 
-/// The place of the first visible attribute that stands after a place, or 0, or the number of the refusal. Its type and the
+/// The place of the first visible attribute that comes after a place, or 0, or the number of the refusal. Its type and the
 /// length of its value are written.
 pub fn next(message: &[u8], place: usize, kind: &mut u16, value_length: &mut usize) -> i64
     ensures answer { result ≡ next_answer message.now place }
@@ -96,7 +97,7 @@ pub fn next(message: &[u8], place: usize, kind: &mut u16, value_length: &mut usi
     }
 }
 
-/// The refusal that stands for an error of reading an attribute.
+/// The refusal that tells an error of reading an attribute.
 fn attribute_refusal(error: StunParseError) -> Refusal
     ensures { result ≡ refusal_of_attribute error }
 {
@@ -176,7 +177,8 @@ fn address_in<'a>(message: &Message<'a>) -> Result<(u16, &'a [u8]), Refusal>
         → shown_octets (address_in message.now) id ≡ Ok (xor_bytes parts.1.now (xor_key id))) }
     ensures port { IfOk result (λ parts. IsOkAnd (address_in message.now) (λ a. a.port ≡ parts.0)) }
     ensures short { IfOk result (λ parts. length parts.1.now ≤ 16) }
-    ensures err { IfErr result (λ refusal. (id : ℕ) → shown_octets (address_in message.now) id ≡ Err refusal) }
+    ensures err { IfErr result (λ refusal. (id : ℕ)
+        → shown_octets (address_in message.now) id ≡ Err refusal) }
 {
     let Some((_, attribute)) = first_of(message, AttributeType::XOR_MAPPED_ADDRESS) else {
         return Err(Refusal::MissingAttribute);
@@ -192,7 +194,8 @@ fn shown_in<'a>(message: &Message<'_>, place: &'a mut [u8]) -> Result<(u16, &'a 
     requires { length place.old ≡ 16 }
     ensures ok { IfOk result (λ parts. shown_octets (address_in message.now)
         (transaction_id_field message.now) ≡ Ok parts.1.now) }
-    ensures port { IfOk result (λ parts. IsOkAnd (address_in message.now) (λ a. parts.0 ≡ xor_port a.port)) }
+    ensures port { IfOk result (λ parts. IsOkAnd (address_in message.now)
+        (λ a. parts.0 ≡ xor_port a.port)) }
     ensures err { IfErr result (λ refusal. shown_octets (address_in message.now)
         (transaction_id_field message.now) ≡ Err refusal) }
 {
@@ -207,7 +210,8 @@ fn shown_in<'a>(message: &Message<'_>, place: &'a mut [u8]) -> Result<(u16, &'a 
 fn shown_address<'a>(message: &[u8], place: &'a mut [u8]) -> Result<(u16, &'a [u8]), Refusal>
     requires { length place.old ≡ 16 }
     ensures ok { IfOk result (λ parts. octets_of_message message.now ≡ Ok parts.1.now) }
-    ensures port { IfOk result (λ parts. IsOkAnd (address_in message.now) (λ a. parts.0 ≡ xor_port a.port)) }
+    ensures port { IfOk result (λ parts. IsOkAnd (address_in message.now)
+        (λ a. parts.0 ≡ xor_port a.port)) }
     ensures err { IfErr result (λ refusal. octets_of_message message.now ≡ Err refusal) }
 {
     let message = Message::from_bytes(message)?;
@@ -217,8 +221,10 @@ fn shown_address<'a>(message: &[u8], place: &'a mut [u8]) -> Result<(u16, &'a [u
 /// Copies the octets of the address that a message reports to the front of the buffer and its port to the caller's, and
 /// answers how many octets there are or the number of the refusal.
 pub fn mapped_address(message: &[u8], out: &mut [u8], port: &mut u16) -> i64
-    ensures answer { result ≡ written_number (fitted (octets_of_message message.now) (length out.old)) }
-    ensures written { out.new ≡ buffer_after (fitted (octets_of_message message.now) (length out.old)) out.old }
+    ensures answer { result ≡ written_number (fitted (octets_of_message message.now)
+        (length out.old)) }
+    ensures written { out.new ≡ buffer_after (fitted (octets_of_message message.now)
+        (length out.old)) out.old }
     ensures port { port.new ≡ port_after (fitted (octets_of_message message.now) (length out.old))
         (address_in message.now) port.old }
 {

@@ -20,7 +20,8 @@ pub const LONGEST_REQUEST: usize = 20 + 4 + 516 + 4 + 32;
 /// The id in 12 bytes, or `BadArgument` where they are more or fewer.
 pub fn transaction_id(bytes: &[u8]) -> Result<TransactionId, Refusal>
     ensures ok { IfOk result (λ id. (length bytes.now ≡ 12) × (id ≡ big_number 12 bytes.now)) }
-    ensures err { IfErr result (λ refusal. ¬ (length bytes.now ≡ 12) × (refusal ≡ Refusal.BadArgument)) }
+    ensures err { IfErr result (λ refusal. ¬ (length bytes.now ≡ 12)
+        × (refusal ≡ Refusal.BadArgument)) }
 {
     if bytes.len() != 12 {
         return Err(Refusal::BadArgument);
@@ -30,7 +31,8 @@ pub fn transaction_id(bytes: &[u8]) -> Result<TransactionId, Refusal>
 
 /// The user name in these bytes: `NotText` where they are not UTF-8, `TextTooLong` where they are more than 513.
 fn username(bytes: &[u8]) -> Result<Username<'_>, Refusal>
-    ensures ok { IfOk result (λ username. (username_refusal bytes.now ≡ None) × (username ≡ bytes.now)) }
+    ensures ok { IfOk result (λ username. (username_refusal bytes.now ≡ None)
+        × (username ≡ bytes.now)) }
     ensures short { OnOk result (length bytes.now ≤ USERNAME_LIMIT) }
     ensures err { IfErr result (λ refusal. username_refusal bytes.now ≡ Some refusal) }
 {
@@ -51,8 +53,10 @@ pub fn signed_request<'a>(
     buffer: &'a mut [u8],
 ) -> Result<&'a [u8], Refusal>
     requires { LONGEST_REQUEST ≤ length buffer.old }
-    ensures ok { IfOk result (λ request. signed_request (algorithm_numbered algorithm) id.now name.now key.now ≡ Ok request.now) }
-    ensures err { IfErr result (λ refusal. signed_request (algorithm_numbered algorithm) id.now name.now key.now ≡ Err refusal) }
+    ensures ok { IfOk result (λ request. signed_request
+        (algorithm_numbered algorithm) id.now name.now key.now ≡ Ok request.now) }
+    ensures err { IfErr result (λ refusal. signed_request
+        (algorithm_numbered algorithm) id.now name.now key.now ≡ Err refusal) }
 {
     let algorithm = algorithm_numbered(algorithm)?;
     let id = transaction_id(id)?;

@@ -8,9 +8,10 @@ use crate::codes::Refusal;
 use stun_base::algorithm::IntegrityAlgorithm;
 use stun_types::message::Message;
 
-/// The algorithm whose digest stands under the key, or why none does.
+/// The algorithm whose digest verifies under the key, or why none does.
 pub fn verdict(message: &[u8], key: &[u8]) -> Result<IntegrityAlgorithm, Refusal>
-    ensures ok { IfOk result (λ algorithm. verify_answer message.now key.now ≡ pos (algorithm_number algorithm)) }
+    ensures ok { IfOk result (λ algorithm. verify_answer message.now key.now
+        ≡ pos (algorithm_number algorithm)) }
     ensures err { IfErr result (λ refusal. verify_answer message.now key.now ≡ code_of refusal) }
 {
     let message = Message::from_bytes(message)?;

@@ -89,7 +89,8 @@ fn fits(message: &Message<'_>, room: usize, value_length: usize) -> Result<(), R
     ensures header { OnOk result (20 ≤ length message.now) }
     ensures room { OnOk result (attribute_length value_length ≤ room) }
     ensures short { OnOk result (length message.now - 20 + attribute_length value_length ≤ 65532) }
-    ensures err { IfErr result (λ refusal. fit_refusal message.now room value_length ≡ Some refusal) }
+    ensures err { IfErr result (λ refusal. fit_refusal message.now room value_length
+        ≡ Some refusal) }
 {
     let padded_length = attribute_length(value_length);
     let data_length = message.as_bytes().len() - HEADER_LENGTH;
@@ -111,7 +112,8 @@ fn addable(
 ) -> Result<(), Refusal>
     ensures ok { OnOk result (adding_refusal buffer.now count kind.0 value_length ≡ None) }
     ensures fits { OnOk result (HasRoom count value_length (length buffer.now)) }
-    ensures err { IfErr result (λ refusal. adding_refusal buffer.now count kind.0 value_length ≡ Some refusal) }
+    ensures err { IfErr result (λ refusal. adding_refusal buffer.now count kind.0 value_length
+        ≡ Some refusal) }
 {
     let message = base_message(buffer, count)?;
     if is_set_apart(kind) {
@@ -183,7 +185,8 @@ fn append(buffer: &mut [u8], count: usize, kind: AttributeType, value: &[u8]) ->
 /// of the refusal.
 pub fn add(buffer: &mut [u8], count: usize, kind: AttributeType, value: &[u8]) -> i64
     ensures answer { result ≡ written_number (added buffer.old count kind.0 value.now) }
-    ensures written { buffer.new ≡ buffer_after (added buffer.old count kind.0 value.now) buffer.old }
+    ensures written { buffer.new ≡ buffer_after
+        (added buffer.old count kind.0 value.now) buffer.old }
 {
     match addable(buffer, count, kind, value.len()) {
         Ok(()) => append(buffer, count, kind, value),
@@ -247,7 +250,8 @@ fn append_integrity(
 fn signable(buffer: &[u8], count: usize, algorithm: u32) -> Result<IntegrityAlgorithm, Refusal>
     ensures ok { IfOk result (λ algorithm'. (algorithm_numbered algorithm ≡ Some algorithm')
         × (signing_refusal buffer.now count algorithm' ≡ None) × HasRoom count (digest_length algorithm') (length buffer.now)) }
-    ensures err { IfErr result (λ refusal. (key : List ℕ) → signed buffer.now count (algorithm_numbered algorithm) key ≡ Err refusal) }
+    ensures err { IfErr result (λ refusal. (key : List ℕ)
+        → signed buffer.now count (algorithm_numbered algorithm) key ≡ Err refusal) }
 {
     let algorithm = algorithm_numbered(algorithm)?;
     let message = base_message(buffer, count)?;
@@ -258,8 +262,10 @@ fn signable(buffer: &[u8], count: usize, algorithm: u32) -> Result<IntegrityAlgo
 /// Adds the integrity attribute to the message in the first `count` bytes of the buffer, and answers the new length or
 /// the number of the refusal.
 pub fn sign(buffer: &mut [u8], count: usize, algorithm: u32, key: &[u8]) -> i64
-    ensures answer { result ≡ written_number (signed buffer.old count (algorithm_numbered algorithm) key.now) }
-    ensures written { buffer.new ≡ buffer_after (signed buffer.old count (algorithm_numbered algorithm) key.now) buffer.old }
+    ensures answer { result ≡ written_number (signed buffer.old count
+        (algorithm_numbered algorithm) key.now) }
+    ensures written { buffer.new ≡ buffer_after
+        (signed buffer.old count (algorithm_numbered algorithm) key.now) buffer.old }
 {
     match signable(buffer, count, algorithm) {
         Ok(algorithm) => append_integrity(buffer, count, algorithm, key),
@@ -270,7 +276,8 @@ pub fn sign(buffer: &mut [u8], count: usize, algorithm: u32, key: &[u8]) -> i64
 /// The class of these two bits.
 fn class_numbered(number: u32) -> Result<MessageClass, Refusal>
     ensures ok { IfOk result (λ class. (nat_lt number 4 ≡ true) × (class ≡ class_of_bits number)) }
-    ensures err { IfErr result (λ refusal. (nat_lt number 4 ≡ false) × (refusal ≡ Refusal.BadArgument)) }
+    ensures err { IfErr result (λ refusal. (nat_lt number 4 ≡ false)
+        × (refusal ≡ Refusal.BadArgument)) }
 {
     match number {
         0 => Ok(MessageClass::Request),
@@ -284,7 +291,8 @@ fn class_numbered(number: u32) -> Result<MessageClass, Refusal>
 /// The method of this number, which has 12 bits.
 fn method_numbered(number: u32) -> Result<Method, Refusal>
     ensures ok { IfOk result (λ method. (nat_lt number 4096 ≡ true) × (method ≡ number)) }
-    ensures err { IfErr result (λ refusal. (nat_lt number 4096 ≡ false) × (refusal ≡ Refusal.BadArgument)) }
+    ensures err { IfErr result (λ refusal. (nat_lt number 4096 ≡ false)
+        × (refusal ≡ Refusal.BadArgument)) }
 {
     if number >= 4096 {
         return Err(Refusal::BadArgument);
@@ -310,7 +318,8 @@ fn header<'a>(class: u32, method: u32, id: &[u8], buffer: &'a mut [u8]) -> Resul
 /// Writes a message without attributes to the front of the buffer, and answers its length or the number of the refusal.
 pub fn begin(class: u32, method: u32, id: &[u8], out: &mut [u8]) -> i64
     ensures answer { result ≡ written_number (fitted (begun class method id.now) (length out.old)) }
-    ensures written { out.new ≡ buffer_after (fitted (begun class method id.now) (length out.old)) out.old }
+    ensures written { out.new ≡ buffer_after (fitted (begun class method id.now)
+        (length out.old)) out.old }
 {
     let mut place = [0; HEADER_LENGTH];
     match header(class, method, id, &mut place) {
@@ -350,7 +359,8 @@ fn error_arguments(code: u32, reason: &[u8]) -> Result<u16, Refusal>
 /// of the refusal.
 pub fn add_error(buffer: &mut [u8], count: usize, code: u32, reason: &[u8]) -> i64
     ensures answer { result ≡ written_number (added_error buffer.old count code reason.now) }
-    ensures written { buffer.new ≡ buffer_after (added_error buffer.old count code reason.now) buffer.old }
+    ensures written { buffer.new ≡ buffer_after
+        (added_error buffer.old count code reason.now) buffer.old }
 {
     match error_arguments(code, reason) {
         Ok(code) => {

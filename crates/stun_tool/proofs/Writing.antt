@@ -12,7 +12,7 @@ pub take-then-more : (text : List ℕ) (written count : ℕ)
 take-then-more text written count =
     ap (λ rest. take written text ++ take count rest) (take_rest text written) ∙ sym (take-add written count text)
 
--- whichever way writing a text ends, a beginning of it stands
+-- whichever way writing a text ends, a beginning of it is there
 pub written_unless_failed : {T E : Type 0} (result : Result T E) (before after : Option (List ℕ)) (text : List ℕ)
     → OnOk result (Appends before after text) → OnErr result (AppendsBeginning before after text) → AppendsUnlessFailed before after text
 written_unless_failed (Ok _) before after text whole part =

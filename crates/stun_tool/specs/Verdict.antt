@@ -14,13 +14,13 @@ use Rattle.stun_tool.specs.declared.status.Status.{Status}
 use Rattle.stun_tool.specs.declared.status.Status.TheVariants.{Answered, Refused}
 use Rattle.stun_tool.specs.Input.{bytes_read}
 
--- where no digest stands: an integrity attribute is missing or malformed, or its digest is another
+-- where no digest verifies: an integrity attribute is missing or malformed, or its digest is another
 abbrev pub verdict_without_digest : ValidateError → Verdict
 verdict_without_digest (Parse (MissingAttribute _)) = NoIntegrity
 verdict_without_digest (Parse _) = MalformedIntegrity
 verdict_without_digest IntegrityFailed = Invalid
 
--- on a message: the algorithm whose digest stands, if one does
+-- on a message: the algorithm whose digest verifies, if one does
 abbrev pub verdict_on_integrity : Option IntegrityAlgorithm → ValidateError → Verdict
 verdict_on_integrity (Some algorithm) error = Valid algorithm
 verdict_on_integrity None error = verdict_without_digest error

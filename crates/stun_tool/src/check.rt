@@ -10,11 +10,11 @@ use crate::verdict::verdict_on_input;
 use std::alloc::Allocator;
 use std::io::Write;
 
-/// Reads a message as hexadecimal digits, and prints in a line whether its integrity stands under the
+/// Reads a message as hexadecimal digits, and prints in a line whether its integrity verifies under the
 /// password, which is the one word and whose bytes are the key (RFC 8489, section 9.1.1).
 ///
 /// Where a read, a write or a growth fails, or the reader's end does not come within 1048576 reads,
-/// it answers `Failed`, and at most a beginning of the line stands.
+/// it answers `Failed`, and at most a beginning of the line is there.
 pub fn check<R: CountedRead, W: Write, A: Allocator + Copy>(
     alloc: A,
     words: &[String],
@@ -22,8 +22,10 @@ pub fn check<R: CountedRead, W: Write, A: Allocator + Copy>(
     writer: &mut W,
 ) -> Status
     ensures wrong_words { (result ≡ Status.WrongWords) ↔ (length words.now ≢ 1) }
-    ensures untouched { result ≡ Status.WrongWords → (reader.new ≡ reader.old) × (writer.new ≡ writer.old) }
-    ensures prints { IfSome (R.remaining reader.old) (λ input. Prints words.now input result (W.contents writer.old) (W.contents writer.new)) }
+    ensures untouched { result ≡ Status.WrongWords → (reader.new ≡ reader.old)
+        × (writer.new ≡ writer.old) }
+    ensures prints { IfSome (R.remaining reader.old)
+        (λ input. Prints words.now input result (W.contents writer.old) (W.contents writer.new)) }
     ensures asked { R.asked reader.new ≤ R.asked reader.old + most_reads }
 {
     let [password] = words else {

@@ -14,7 +14,7 @@ const MAX_READS: u32 = 1_048_576;
 /// The bytes that one read may give.
 const READ_SIZE: usize = 256;
 
-/// A read or a write failed, or memory was wanting.
+/// A read or a write failed, or an allocation failed.
 #[derive(Clone, Copy, Debug, PartialEq, Eq)]
 pub struct Failure;
 
@@ -32,7 +32,8 @@ pub trait CountedRead: Read {
     /// One read, as `read` makes it, which counts also where it is interrupted.
     fn ask(&mut self, buf: &mut [u8]) -> io::Result<usize>
         ensures bound { ReadsAtMost result buf.new }
-        ensures bytes { ReadConsumes (Self.remaining self.old) (Self.remaining self.new) result buf.new }
+        ensures bytes { ReadConsumes (Self.remaining self.old)
+            (Self.remaining self.new) result buf.new }
         ensures counted { asked self.new ≤ asked self.old + 1 };
 }
 
@@ -75,7 +76,8 @@ pub fn read_to_end<R: CountedRead, A: Allocator>(
     alloc: A,
     reader: &mut R,
 ) -> Result<Vec<u8, A>, Failure>
-    ensures all { IfSome (R.remaining reader.old) (λ input. IfOk result (λ bytes. bytes.items ≡ input)) }
+    ensures all { IfSome (R.remaining reader.old)
+        (λ input. IfOk result (λ bytes. bytes.items ≡ input)) }
     ensures asked { R.asked reader.new ≤ R.asked reader.old + most_reads }
 {
     let mut bytes = Vec::new(alloc);

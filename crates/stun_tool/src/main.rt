@@ -47,17 +47,23 @@ fn run<R: CountedRead, W: Write, E: Write>(
     writer: &mut W,
     errors: &mut E,
 ) -> Status
-    ensures other_command { IfNone (words_of_check words.now) (IfNone (words_of_schedule words.now) (IfNone (words_of_negotiate words.now) (IfNone (words_of_serve words.now) (result ≡ Status.WrongWords)))) }
-    ensures wrong_words { IfSome (words_of_check words.now) (λ others. (result ≡ Status.WrongWords) ↔ (length others ≢ 1)) }
+    ensures other_command { IfNone (words_of_check words.now)
+        (IfNone (words_of_schedule words.now) (IfNone (words_of_negotiate words.now)
+        (IfNone (words_of_serve words.now) (result ≡ Status.WrongWords)))) }
+    ensures wrong_words { IfSome (words_of_check words.now)
+        (λ others. (result ≡ Status.WrongWords) ↔ (length others ≢ 1)) }
     ensures wrong_settings { IfSome (words_of_schedule words.now)
         (λ others. length others ≢ 5 → length others ≢ 8 → result ≡ Status.WrongWords) }
     ensures wrong_sides { IfSome (words_of_negotiate words.now)
         (λ others. length others ≢ 4 → result ≡ Status.WrongWords) }
-    ensures wrong_realm { IfSome (words_of_serve words.now) (λ others. (result ≡ Status.WrongWords) ↔ (length others ≢ 1)) }
+    ensures wrong_realm { IfSome (words_of_serve words.now)
+        (λ others. (result ≡ Status.WrongWords) ↔ (length others ≢ 1)) }
     ensures unread { IfSome (words_of_schedule words.now) (λ _. reader.new ≡ reader.old)
         × IfSome (words_of_negotiate words.now) (λ _. reader.new ≡ reader.old) }
-    ensures untouched { result ≡ Status.WrongWords → (reader.new ≡ reader.old) × (writer.new ≡ writer.old) }
-    ensures usage { result ≡ Status.WrongWords → AppendsUnlessFailed (E.contents errors.old) (E.contents errors.new) usage_line }
+    ensures untouched { result ≡ Status.WrongWords → (reader.new ≡ reader.old)
+        × (writer.new ≡ writer.old) }
+    ensures usage { result ≡ Status.WrongWords
+        → AppendsUnlessFailed (E.contents errors.old) (E.contents errors.new) usage_line }
     ensures silent { result ≢ Status.WrongWords → errors.new ≡ errors.old }
     ensures prints { IfSome (words_of_check words.now) (λ others. IfSome (R.remaining reader.old)
         (λ input. Prints others input result (W.contents writer.old) (W.contents writer.new))) }
@@ -84,7 +90,7 @@ fn run<R: CountedRead, W: Write, E: Write>(
     status
 }
 
-/// The words after the program's name, or none where one of them is no text. It fails where memory is wanting.
+/// The words after the program's name, or none where one of them is no text. It fails where an allocation fails.
 fn words_of(rt: &(impl std::rt::Env + AllocGlobal)) -> Result<Vec<String>, Failure> {
     match env::args(rt) {
         Ok(mut words) => {

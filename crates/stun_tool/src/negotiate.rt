@@ -41,7 +41,7 @@ pub struct Side {
 ///
 /// The words are the algorithms of the client, `sha1`, `sha256`, or both in the order of adding and parted by a comma;
 /// whether it names users by a hash, `auto`, `required` or `disabled`; and the same of the server. Other words are wrong;
-/// then nothing is read or printed. Where a write fails or memory is wanting it answers `Failed`, and nothing more is
+/// then nothing is read or printed. Where a write fails or an allocation fails it answers `Failed`, and nothing more is
 /// printed. Nothing is read.
 pub fn negotiate<R: CountedRead, W: Write, A: Allocator + Copy>(
     alloc: A,

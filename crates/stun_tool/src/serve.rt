@@ -27,7 +27,8 @@ pub fn serve<R: CountedRead, W: Write>(
     writer: &mut W,
 ) -> Status
     ensures wrong_words { (result ≡ Status.WrongWords) ↔ (length words.now ≢ 1) }
-    ensures untouched { result ≡ Status.WrongWords → (reader.new ≡ reader.old) × (writer.new ≡ writer.old) }
+    ensures untouched { result ≡ Status.WrongWords → (reader.new ≡ reader.old)
+        × (writer.new ≡ writer.old) }
     ensures asked { R.asked reader.new ≤ R.asked reader.old + most_reads }
 {
     let [realm] = words else {

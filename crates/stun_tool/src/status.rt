@@ -12,7 +12,7 @@ pub enum Status {
     Answered,
     /// The command has answered with a refusal.
     Refused,
-    /// A read or a write failed, or memory was wanting; nothing was printed after that.
+    /// A read or a write failed, or an allocation failed; nothing was printed after that.
     Failed,
     /// The words are not the command's; nothing was read or printed.
     WrongWords,

@@ -26,7 +26,7 @@ const SAMPLE_PASSWORD: &str = "VOkJxbRl1RmTxUk/WvJxBt";
 /// The line for the sample.
 const SAMPLE_LINE: &[u8] = b"valid MESSAGE-INTEGRITY\n";
 
-/// A key that does not stand inline.
+/// A key that is not inline.
 const LONG_PASSWORD: &str = "a password of more bytes than a key has inline";
 
 fn words(alloc: Global, texts: &[&str]) -> Result<Vec<String>, Fail> {
@@ -46,7 +46,7 @@ fn slow_writer(alloc: Global, left: u32, end: WriteEnd) -> SlowWriter {
     }
 }
 
-/// Compares what was printed with the lines: all of them, or a beginning where memory was wanting.
+/// Compares what was printed with the lines: all of them, or a beginning where an allocation failed.
 fn expect_beginning(rt: &impl Abort, answer: Result<(), Failure>, printed: &[u8], lines: &str) {
     match answer {
         Ok(()) => assert_eq!(rt; printed, lines.as_bytes()),

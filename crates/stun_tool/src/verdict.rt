@@ -11,9 +11,9 @@ use stun_types::message::{IntegrityAlgorithm, Message, StunParseError, ValidateE
 /// What `check` says of an input.
 #[derive(Clone, Copy, Debug, PartialEq, Eq)]
 pub enum Verdict {
-    /// The digest of this algorithm stands.
+    /// The digest of this algorithm verifies.
     Valid(IntegrityAlgorithm),
-    /// The digest that decides does not stand.
+    /// The digest that decides does not verify.
     Invalid,
     /// The message has no integrity attribute that counts.
     NoIntegrity,
@@ -65,7 +65,7 @@ fn refusal_line(error: StunParseError) -> &'static str
     }
 }
 
-/// The verdict on a message where no digest stands.
+/// The verdict on a message where no digest verifies.
 fn verdict_without_digest(error: ValidateError) -> Verdict
     ensures { result ≡ verdict_without_digest error }
 {

@@ -71,7 +71,7 @@ walk_up_to-extended (suc most) place bytes longer tail same filled =
 pub length-spelled_attribute : (attribute : TypedValue) → length (spelled_attribute attribute) ≡ attribute_length (length attribute.value)
 length-spelled_attribute attribute = simp (length-append, length-replicate) (omega arith)
 
--- an attribute that was written last stands at its place, and nothing behind it
+-- an attribute that was written last is at its place, and nothing after it
 walk_from-added : (attribute : TypedValue) (place : ℕ) (longer : List ℕ) → attribute.kind < 2 ^ 16 → length attribute.value < 2 ^ 16
     → drop place longer ≡ spelled_attribute attribute → walk_from place longer ≡ (place, attribute) ∷ []
 walk_from-added attribute place longer kind_fits value_fits stands =
@@ -178,7 +178,7 @@ has_kind-before kind place (m ∷ members) none =
       | false ↦ rest
     ]
 
--- none of these attributes hides those behind it
+-- none of these attributes hides those after it
 pub record HideNone (members : List Member) : Type 0 where
   pub integrity : has_kind MESSAGE_INTEGRITY members ≡ false
   pub integrity_sha256 : has_kind MESSAGE_INTEGRITY_SHA256 members ≡ false
@@ -200,7 +200,7 @@ HideNone-before place members none = record {
   fingerprint = has_kind-before FINGERPRINT place members none.fingerprint;
 }
 
--- one more attribute does not hide what stands at its place or before
+-- one more attribute does not hide what is at its place or before
 counts-added : (members : List Member) (last m : Member) → HideNone members → m.0 ≤ last.0 → counts (members ++ last ∷ []) m ≡ true
 counts-added members last m none earlier =
     let later : nat_lt last.0 m.0 ≡ false = grind arith in

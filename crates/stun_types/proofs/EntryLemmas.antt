@@ -1,4 +1,4 @@
--- The entries of password algorithms: how many there are, which one stands at an index, and the steps of reading and writing.
+-- The entries of password algorithms: how many there are, which one is at an index, and the steps of reading and writing.
 use Rattle.std.proofs.Common.{◌≡◌, ℕ, zero, suc, ◌+◌, ◌*◌, ◌<◌, ◌≤◌, List, [], ◌∷◌, ◌++◌, length, take, drop, get_or, true, false, ◌&&◌, refl, ap, sym, ◌∙◌, arith}
 use Rattle.std.specs.Prelude.{Option, Some, None, ◌^◌, ◌==◌, if◌then◌else◌}
 use Rattle.std.specs.Option.{is_some, unwrap_or}
@@ -28,7 +28,7 @@ not_past [] i within past = omega arith
 not_past (x ∷ list) zero within past = cc
 not_past (x ∷ list) (suc i) within past = not_past list i (omega arith) past
 
--- one entry more, behind a front
+-- one entry more, after a front
 pub entries_more : (front : List ℕ) (list : List PasswordAlgorithmValue) (i : ℕ) (algorithm : PasswordAlgorithmValue) → slice_get list i ≡ Some algorithm
     → front ++ spelled_entries (take (i + 1) list) ≡ (front ++ spelled_entries (take i list)) ++ spelled_entry algorithm
 entries_more front list i algorithm at =

@@ -41,7 +41,7 @@ parts n p xs h =
 abbrev pub first_padding : List ℕ → List ℕ
 first_padding bytes = take (padded_length (value_length_field bytes) - value_length_field bytes) (drop (value_length_field bytes) (drop 4 bytes))
 
--- the front is the attribute that stands there, its padding, and the others
+-- the front is the attribute that is there, its padding, and the others
 pub front-spelled : (bytes : List ℕ) → AreBytes bytes → has_attribute bytes ≡ true →
     bytes ≡ unpadded (first_attribute bytes) ++ first_padding bytes ++ drop (attribute_length (length (first_attribute bytes).value)) bytes
 front-spelled [] fits whole = cc
@@ -69,7 +69,7 @@ length-first_padding : (bytes : List ℕ) → has_attribute bytes ≡ true → l
 length-first_padding bytes whole =
     rw (length-first_value bytes whole) (grind (arith, common_steps, length-drop 4 bytes, length-drop (value_length_field bytes) (drop 4 bytes)))
 
--- the attribute at a place, its padding and the bytes behind it
+-- the attribute at a place, its padding and the bytes after it
 begins_with : (place : ℕ) (bytes : List ℕ) → AreBytes bytes → has_attribute (drop place bytes) ≡ true →
     BeginsWith (first_attribute (drop place bytes)) (first_padding (drop place bytes)) (drop (next_place place bytes) bytes) (drop place bytes)
 begins_with place bytes fits whole =

@@ -1,4 +1,4 @@
--- Where the deciding attribute stands.
+-- Where the deciding attribute is.
 use Rattle.std.proofs.Common.{◌≡◌, ℕ, zero, suc, ◌+◌, ◌-◌, ◌≤◌, Bool, true, false, cond, List, [], ◌∷◌, length, take, drop, Some, None, refl, sym, subst, arith, append_assoc}
 use Rattle.std.specs.Prelude.{find, IfSome, IsTrue, Option, nat_eq, ◌==◌, ◌↔◌}
 use Rattle.std.specs.Cmp.Lexicographic.{other_text, pointwise, same_text}
@@ -23,11 +23,11 @@ IfSome-find P test [] all = tt
 IfSome-find P test (x ∷ xs) all =
     elim (test x) as (λ found. IfSome (cond found (Some x) (find test xs)) P) [ true ↦ all.0 | false ↦ IfSome-find P test xs all.1 ]
 
--- the attribute at a place stands within
+-- the attribute at a place is within
 first_within : (place : ℕ) (bytes : List ℕ) → HEADER_LENGTH ≤ place → has_attribute (drop place bytes) ≡ true → IsWithin bytes (place, first_attribute (drop place bytes))
 first_within place bytes behind whole = record { behind_header = behind; whole = omega (arith, whole_within place bytes whole) }
 
--- each attribute of a walk stands within
+-- each attribute of a walk is within
 pub walk_up_to-within : (most place : ℕ) (bytes : List ℕ) → HEADER_LENGTH ≤ place → AllByRecursion (IsWithin bytes) (walk_up_to most place bytes)
 unfolding walk_up_to
 walk_up_to-within zero place bytes behind = tt
@@ -40,13 +40,13 @@ walk_up_to-within (suc most) place bytes behind =
       | false ↦ λ within. tt
     ] first
 
--- each attribute that counts stands within
+-- each attribute that counts is within
 pub visible-within : (bytes : List ℕ) → AllByRecursion (IsWithin bytes) (visible bytes)
 unfolding visible
 visible-within bytes =
     recursion_from_All (IsWithin bytes) _ (All-filter (counts (walk bytes)) (IsWithin bytes) (walk bytes) (All-from_recursion (IsWithin bytes) _ (walk_up_to-within (length bytes) HEADER_LENGTH bytes (omega arith))))
 
--- the first attribute of a type stands within
+-- the first attribute of a type is within
 pub first_of-within : (kind : ℕ) (bytes : List ℕ) → IfSome (first_of kind (visible bytes)) (IsWithin bytes)
 first_of-within kind bytes = IfSome-find (IsWithin bytes) (λ m. m.1.kind == kind) (visible bytes) (visible-within bytes)
 
@@ -55,13 +55,13 @@ IfSome-option_or : {X : Type 0} (P : X → Type 0) (one other : Option X) → If
 IfSome-option_or P (Some x) other holds others = holds
 IfSome-option_or P None other holds others = others
 
--- the attribute that decides stands within
+-- the attribute that decides is within
 pub deciding_within : (bytes : List ℕ) (found : Option Member) → deciding bytes ≡ found → IfSome found (IsWithin bytes)
 deciding_within bytes found decides =
     subst (λ found. IfSome found (IsWithin bytes)) decides (IfSome-option_or (IsWithin bytes) (first_of MESSAGE_INTEGRITY_SHA256 (visible bytes)) (first_of MESSAGE_INTEGRITY (visible bytes))
     (first_of-within MESSAGE_INTEGRITY_SHA256 bytes) (first_of-within MESSAGE_INTEGRITY bytes))
 
--- the bytes before the length field stand in each longer piece
+-- the bytes before the length field are in each longer piece
 take-header : (place : ℕ) (bytes : List ℕ) → 20 ≤ place → take 2 (take place bytes) ≡ take 2 bytes
 take-header zero bytes h = absurd (omega arith)
 take-header (suc zero) bytes h = absurd (omega arith)

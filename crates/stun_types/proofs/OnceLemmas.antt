@@ -1,4 +1,4 @@
--- Of each type that hides what stands behind it, at most one attribute counts.
+-- Of each type that hides what comes after it, at most one attribute counts.
 use Rattle.std.proofs.Common.{◌≡◌, ℕ, zero, suc, ◌+◌, ◌≤◌, Bool, true, false, cond, List, ◌∷◌, length, drop, refl, sym, ◌∙◌, ap, subst, arith}
 use Rattle.std.specs.Prelude.{◌||◌, ◌==◌}
 use Rattle.stun_base.specs.Attributes.{MESSAGE_INTEGRITY, MESSAGE_INTEGRITY_SHA256, FINGERPRINT}
@@ -10,7 +10,7 @@ use Rattle.stun_types.specs.Walk.{Member, next_place, walk}
 use Rattle.stun_types.proofs.VisibleLemmas.{HasPassed-none, HasPassed-step, has_kind-append, visible_from-end, visible_from-header, visible_from-step}
 use Rattle.stun_types.proofs.WalkLemmas.{before-step, has_attribute-past_end}
 
--- one more member of a type, where none may stand behind another
+-- one more member of a type, where none may be after another
 bound : (shown same seen : Bool) (m : Member) (others : List Member) → length others ≤ cond (seen || same) 0 1
     → (shown ≡ true → same ≡ true → seen ≡ false) → length (cond shown (cond same (m ∷ others) others) others) ≤ cond seen 0 1
 bound false false false m others few first = few
@@ -22,11 +22,11 @@ bound true false true m others few first = few
 bound true true false m others few first = omega (arith, few)
 bound true true true m others few first = let no : true ≡ false = first refl refl in cc
 
--- a member of this type counts only where none of the type stands before it
+-- a member of this type counts only where none of the type is before it
 abbrev pub CountsFirst : ℕ → List ℕ → Type 0
 CountsFirst kind bytes = (m : Member) → counts (walk bytes) m ≡ true → (m.1.kind == kind) ≡ true → has_kind kind (before m.0 (walk bytes)) ≡ false
 
--- from a place on, at most one of such a type counts, and none where one stands before
+-- from a place on, at most one of such a type counts, and none where one is before
 once_from : (kind most place : ℕ) (bytes : List ℕ) {integrity integrity_sha256 fingerprint : Bool} → CountsFirst kind bytes
     → HasPassed place integrity integrity_sha256 fingerprint bytes → length bytes ≤ place + most
     → length (of_kind kind (visible_from place bytes)) ≤ cond (has_kind kind (before place (walk bytes))) 0 1

@@ -1,4 +1,4 @@
--- What is signed stands: the digest that was written is the one that reading compares.
+-- What is signed verifies: the digest that was written is the one that reading compares.
 use Rattle.std.proofs.Common.{◌≡◌, ℕ, ◌+◌, ◌-◌, ◌≤◌, Bool, true, false, List, [], ◌∷◌, ◌++◌, length, take, refl, sym, ◌∙◌, ap, arith}
 use Rattle.std.specs.Prelude.{Some, None, find, nat_eq, ◌==◌}
 use Rattle.std.specs.List.{list_any}
@@ -49,7 +49,7 @@ find_none test (x ∷ xs) none =
     let parts = or_none (test x) (list_any test xs) none in
     rw (parts.0, find_none test xs parts.1) refl
 
--- what the attribute at the end covers is the same once it stands there
+-- what the attribute at the end covers is the same once it is there
 covered-again : (message tail : List ℕ) (raised count : ℕ) → 20 ≤ length message
     → covered (with_length message raised ++ tail) (length message) count ≡ covered message (length message) count
 covered-again message tail raised count long =
@@ -101,7 +101,7 @@ covers-signed message algorithm key long =
     ap (covered message (length message)) (sym count)
     ∙ sym (covered-again message (spelled_attribute attribute) (length_with message (length attribute.value)) (length attribute.value) long)
 
--- the digest that was written stands
+-- the digest that was written verifies
 standing-signed : (message : List ℕ) (algorithm : IntegrityAlgorithm) (keys : IntegrityAlgorithm → List ℕ) → 20 ≤ length message
     → standing keys (with_integrity message algorithm (keys algorithm)) (length message, integrity_attribute message algorithm (keys algorithm)) ≡ Some algorithm
 standing-signed message Sha1 keys long =
@@ -115,7 +115,7 @@ standing-signed message Sha256 keys long =
     (length-digest Sha256 key (covered_at_end message Sha256)) (ap (digest Sha256 key) (covers-signed message Sha256 key long)) in
     rw digests refl
 
--- what is signed stands
+-- what is signed verifies
 pub stands_by-signed : (message : List ℕ) (algorithm : IntegrityAlgorithm) (keys : IntegrityAlgorithm → List ℕ) → IsOpen message
     → length_with message (digest_length algorithm) ≤ max_length → stands_by keys (with_integrity message algorithm (keys algorithm)) ≡ Some algorithm
 stands_by-signed message algorithm keys is_open short =

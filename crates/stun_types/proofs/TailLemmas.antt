@@ -1,4 +1,4 @@
--- What stands behind the deciding attribute does not count.
+-- What is after the deciding attribute does not count.
 use Rattle.std.proofs.Common.{◌≡◌, ℕ, ◌+◌, ◌-◌, ◌≤◌, List, length, take, refl, sym, ◌∙◌, ap, subst, arith}
 use Rattle.std.specs.Prelude.{Some, None, IfSome}
 use Rattle.std.specs.Option.{option_or, option_and_then}
@@ -13,7 +13,7 @@ use Rattle.stun_types.specs.code.Walk.{IsWithin}
 use Rattle.stun_types.proofs.IntegrityLemmas.{first_of-within}
 use Rattle.stun_types.proofs.SigningLemmas.{with_length-again}
 
--- the deciding attribute stands behind the header and within the bytes
+-- the deciding attribute is after the header and within the bytes
 deciding-within : (bytes : List ℕ) → IfSome (deciding bytes) (IsWithin bytes)
 deciding-within bytes =
     elim (first_of MESSAGE_INTEGRITY_SHA256 (visible bytes)) as (λ found. IfSome found (IsWithin bytes) → IfSome (option_or found (first_of MESSAGE_INTEGRITY (visible bytes))) (IsWithin bytes)) [
@@ -35,7 +35,7 @@ covered-same bytes others m count long other_long same =
     let n = m.0 + 4 + count - 20 in
     sym (with_length-again (take m.0 bytes) 0 n long) ∙ (ap (λ xs. with_length xs n) same ∙ with_length-again (take m.0 others) 0 n other_long)
 
--- so the same digest stands
+-- so the same digest verifies
 pub stands_by-tail : (keys : IntegrityAlgorithm → List ℕ) (bytes others : List ℕ) (m : Member) → deciding bytes ≡ Some m → deciding others ≡ Some m
     → with_length (take m.0 bytes) 0 ≡ with_length (take m.0 others) 0 → stands_by keys bytes ≡ stands_by keys others
 stands_by-tail keys bytes others m decides other_decides same =

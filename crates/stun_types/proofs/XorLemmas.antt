@@ -49,7 +49,7 @@ same_ipv4 one other octets = λ i. record { octets = octets i }
 same_ipv6 : (one other : Ipv6Addr) → ipv6_segments one ≡ ipv6_segments other → one ≡ other
 same_ipv6 one other segments = λ i. record { segments = segments i }
 
--- the address that stands hidden under the id under which it was hidden
+-- the address that is hidden under the id under which it was hidden
 pub hidden_ip : (ip other : IpAddr) (port id : ℕ) → HasOctets ip → IsHidden id (xored ip port id) other → other ≡ ip
 hidden_ip (V4 ip) (V4 other) port id whole hidden =
     let octets : ipv4_octets other ≡ ipv4_octets ip =

@@ -37,7 +37,7 @@ pub record IsError (error : CodeAndReason) : Type 0 where
 abbrev pub error_value : CodeAndReason → List ℕ
 error_value error = 0 ∷ 0 ∷ (error.code / 100) ∷ (error.code % 100) ∷ error.reason
 
--- the hundreds digit: the three bits behind the 21 reserved ones
+-- the hundreds digit: the three bits after the 21 reserved ones
 abbrev pub class_field : List ℕ → ℕ
 class_field value = slice_index value 2 % 8
 

@@ -1,4 +1,4 @@
--- Whether the keyed digest of a message stands (RFC 8489, sections 14.5, 14.6 and 9.2.4).
+-- Whether the keyed digest of a message verifies (RFC 8489, sections 14.5, 14.6 and 9.2.4).
 use Rattle.std.specs.Prelude.{ℕ, ◌+◌, ◌-◌, ◌%◌, Bool, List, length, take, find, nat_eq, nat_le, ◌==◌, ◌&&◌, Option, Some, None, if◌then◌else◌}
 use Rattle.std.specs.Option.{option_or, option_and_then}
 use Rattle.std.specs.Cmp.Lexicographic.{pointwise}
@@ -24,7 +24,7 @@ abbrev pub deciding : List ℕ → Option Member
 deciding bytes = option_or (first_of MESSAGE_INTEGRITY_SHA256 (visible bytes)) (first_of MESSAGE_INTEGRITY (visible bytes))
 
 -- what an integrity attribute at a place with a value of so many bytes covers: the bytes before it, with the length
--- field of a message that ends behind it (sections 14.5 and 14.6)
+-- field of a message that ends after it (sections 14.5 and 14.6)
 abbrev pub covered : List ℕ → ℕ → ℕ → List ℕ
 covered bytes place count = with_length (take place bytes) (place + 4 + count - HEADER_LENGTH)
 
@@ -42,11 +42,11 @@ is_digest bytes key m =
 abbrev pub standing : (IntegrityAlgorithm → List ℕ) → List ℕ → Member → Option IntegrityAlgorithm
 standing keys bytes m = if is_digest bytes (keys (algorithm_of m.1)) m then Some (algorithm_of m.1) else None
 
--- the algorithm whose digest stands, if one does, where each algorithm has a key of its own (section 9.2.2)
+-- the algorithm whose digest verifies, if one does, where each algorithm has a key of its own (section 9.2.2)
 abbrev pub stands_by : (IntegrityAlgorithm → List ℕ) → List ℕ → Option IntegrityAlgorithm
 stands_by keys bytes = option_and_then (standing keys bytes) (deciding bytes)
 
--- the algorithm whose digest stands under one key for both, if one does (section 9.1)
+-- the algorithm whose digest verifies under one key for both, if one does (section 9.1)
 abbrev pub stands : List ℕ → List ℕ → Option IntegrityAlgorithm
 stands bytes key = stands_by (λ _. key) bytes
 
@@ -57,11 +57,11 @@ is_well_formed attribute =
     nat_le 16 (length attribute.value) && nat_le (length attribute.value) 32 && (length attribute.value % 4 == 0)
     else length attribute.value == 20
 
--- why no digest stands, of the deciding member
+-- why no digest verifies, of the deciding member
 abbrev pub refusal_of : Option Member → ValidateError
 refusal_of None = Parse (MissingAttribute (record { 0 = MESSAGE_INTEGRITY }))
 refusal_of (Some m) = if is_well_formed m.1 then IntegrityFailed else Parse InvalidAttributeData
 
--- why no digest of a message stands
+-- why no digest of a message verifies
 abbrev pub integrity_refusal : List ℕ → ValidateError
 integrity_refusal bytes = refusal_of (deciding bytes)

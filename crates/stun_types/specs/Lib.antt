@@ -12,7 +12,7 @@ pub mod Visible
 pub mod Grammar
 -- the algorithm whose digest verifies (sections 14.5, 14.6 and 9.2.4)
 pub mod Integrity
--- an attribute as it stands in a message: type, length, value, padding (section 14)
+-- an attribute as it is in a message: type, length, value, padding (section 14)
 pub mod Attribute
 -- what attributes read as
 pub mod Reading

@@ -17,7 +17,7 @@ pub record IsMessage (bytes : List ℕ) : Type 0 where
   pub stated : HEADER_LENGTH + length_field bytes ≡ length bytes
   pub filled : HEADER_LENGTH + taken (walk bytes) ≡ length bytes
 
--- why bytes behind a right header are no message
+-- why bytes after a right header are no message
 abbrev pub data_refusal : List ℕ → Option StunParseError
 data_refusal bytes =
     if nat_lt (length bytes) (HEADER_LENGTH + length_field bytes) then Some Truncated

@@ -34,7 +34,7 @@ password_algorithm_of Sha256 = SHA256
 abbrev pub spelled_entry : PasswordAlgorithmValue → List ℕ
 spelled_entry algorithm = big_bytes 2 (algorithm_number algorithm) ++ big_bytes 2 0
 
--- the entries of a list, one behind the other
+-- the entries of a list, one after the other
 abbrev pub spelled_entries : List PasswordAlgorithmValue → List ℕ
 spelled_entries list = flat_map spelled_entry list
 

@@ -1,5 +1,5 @@
 -- Which attributes of a message are visible (RFC 8489, sections 14.5 to 14.7): an integrity attribute covers what
--- stands before it, so of what stands behind it only the stronger integrity attribute and FINGERPRINT are visible.
+-- is before it, so of what comes after it only the stronger integrity attribute and FINGERPRINT are visible.
 use Rattle.std.specs.Prelude.{ℕ, Bool, List, filter, nat_lt, ◌==◌, ◌&&◌, ◌||◌, not}
 use Rattle.std.specs.List.{list_any}
 use Rattle.stun_base.specs.Attributes.{MESSAGE_INTEGRITY, MESSAGE_INTEGRITY_SHA256, FINGERPRINT}
@@ -13,18 +13,18 @@ has_kind kind members = list_any (λ m. m.1.kind == kind) members
 abbrev pub of_kind : ℕ → List Member → List Member
 of_kind kind members = filter (λ m. m.1.kind == kind) members
 
--- those that stand before a place
+-- those that are before a place
 abbrev pub before : ℕ → List Member → List Member
 before place members = filter (λ m. nat_lt m.0 place) members
 
--- whether an attribute of a type is visible behind attributes among which the three types are
+-- whether an attribute of a type is visible after attributes among which the three types are
 abbrev pub counts_behind : Bool → Bool → Bool → ℕ → Bool
 counts_behind integrity integrity_sha256 fingerprint kind =
     not fingerprint
     && (not integrity_sha256 || (kind == FINGERPRINT))
     && (not integrity || (kind == MESSAGE_INTEGRITY_SHA256) || (kind == FINGERPRINT))
 
--- whether a member is visible behind the members that stand before it
+-- whether a member is visible after the members before it
 abbrev pub counts : List Member → Member → Bool
 counts members m =
     counts_behind (has_kind MESSAGE_INTEGRITY (before m.0 members)) (has_kind MESSAGE_INTEGRITY_SHA256 (before m.0 members))

@@ -53,13 +53,13 @@ is_set_apart kind = (kind == MESSAGE_INTEGRITY) || (kind == MESSAGE_INTEGRITY_SH
 abbrev pub has_integrity : List ℕ → Bool
 has_integrity message = has_kind MESSAGE_INTEGRITY (walk message) || has_kind MESSAGE_INTEGRITY_SHA256 (walk message)
 
--- a message that an attribute or an integrity attribute can be added to: none of its attributes hides those behind it
+-- a message that an attribute or an integrity attribute can be added to: none of its attributes hides those after it
 pub record IsOpen (message : List ℕ) : Type 0 where
   pub is_message : IsMessage message
   pub no_integrity : has_integrity message ≡ false
   pub no_fingerprint : has_kind FINGERPRINT (walk message) ≡ false
 
--- a message with one attribute more behind all that it had, which is visible with them
+-- a message with one attribute more after all that it had, which is visible with them
 pub record HasOneMore (before after : List ℕ) (attribute : TypedValue) : Type 0 where
   pub is_message : IsMessage after
   pub type_is : type_field after ≡ type_field before
@@ -67,7 +67,7 @@ pub record HasOneMore (before after : List ℕ) (attribute : TypedValue) : Type 
   pub walk_is : walk after ≡ walk before ++ (length before, attribute) ∷ []
   pub visible_is : visible after ≡ visible before ++ (length before, attribute) ∷ []
 
--- an attribute whose type has 16 bits, and whose value fits a message of the greatest length behind what is there
+-- an attribute whose type has 16 bits, and whose value fits a message of the greatest length after what is there
 pub record IsAddable (message : List ℕ) (attribute : TypedValue) : Type 0 where
   pub kind : attribute.kind < 2 ^ 16
   pub value : length_with message (length attribute.value) ≤ max_length

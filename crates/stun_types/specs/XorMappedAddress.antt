@@ -9,7 +9,7 @@ use Rattle.stun_base.specs.Attributes.{XOR_MAPPED_ADDRESS}
 use Rattle.stun_base.specs.Header.{MAGIC_COOKIE}
 use Rattle.stun_types.specs.Attribute.{TypedValue}
 
--- an address as it stands in a message: its family, and its port and octets hidden by the key
+-- an address as it is in a message: its family, and its port and octets hidden by the key
 pub record XoredAddress : Type 0 where
   pub family : ℕ
   pub port : ℕ
@@ -34,7 +34,7 @@ abbrev pub xored : IpAddr → ℕ → ℕ → XoredAddress
 xored (V4 ip) port id = record { family = 1; port = xor_port port; octets = xor_bytes (ipv4_octets ip) (xor_key id) }
 xored (V6 ip) port id = record { family = 2; port = xor_port port; octets = xor_bytes (ipv6_octets ip) (xor_key id) }
 
--- the address that stands hidden under an id
+-- the address that is hidden under an id
 abbrev pub IsHidden : ℕ → XoredAddress → IpAddr → Type 0
 IsHidden id hidden (V4 ip) = (hidden.family ≡ 1) × (ipv4_octets ip ≡ xor_bytes hidden.octets (xor_key id))
 IsHidden id hidden (V6 ip) = (hidden.family ≡ 2) × (ipv6_segments ip ≡ segments_of (xor_bytes hidden.octets (xor_key id)))

@@ -76,7 +76,7 @@ pub(crate) fn is_well_formed(attribute: &RawAttribute<'_>) -> bool
     }
 }
 
-/// The attribute whose digest is to be compared, with its place, or why no digest can stand.
+/// The attribute whose digest is to be compared, with its place, or why no digest can verify.
 fn claimed_digest<'a>(message: &Message<'a>) -> Result<(usize, RawAttribute<'a>), ValidateError>
     ensures deciding { IfOk result (λ m. deciding message.now ≡ Some m) }
     ensures whole { IfOk result (λ m. length m.1.value ≡ digest_length (algorithm_of m.1)) }
@@ -130,7 +130,8 @@ impl RawAttribute<'_> {
     /// Whether it is a MESSAGE-INTEGRITY or MESSAGE-INTEGRITY-SHA256 whose value has a length that its type may have
     /// (RFC 8489, sections 14.5 and 14.6).
     pub fn is_integrity(&self) -> bool
-        ensures { result ≡ (((self.now.kind == MESSAGE_INTEGRITY) || (self.now.kind == MESSAGE_INTEGRITY_SHA256)) && is_well_formed self.now) }
+        ensures { result ≡ (((self.now.kind == MESSAGE_INTEGRITY) ||
+            (self.now.kind == MESSAGE_INTEGRITY_SHA256)) && is_well_formed self.now) }
     {
         let kind = self.get_type();
         (kind == AttributeType::MESSAGE_INTEGRITY

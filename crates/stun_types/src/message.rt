@@ -142,7 +142,8 @@ impl<'a> Message<'a> {
         writer: W,
     ) -> Result<W, StunWriteError>
         requires { W.bytes writer ≡ [] }
-        ensures bytes { IfOk result (λ built. W.bytes built ≡ begun MessageClass.Request method id) }
+        ensures bytes { IfOk result (λ built. W.bytes built
+            ≡ begun MessageClass.Request method id) }
         ensures open { IfOk result (λ built. IsOpen (W.bytes built)) }
         ensures empty { IfOk result (λ built. walk (W.bytes built) ≡ []) }
         ensures room { IfOk result (λ built. W.room built + header_length ≡ W.room writer) }
@@ -166,7 +167,8 @@ impl<'a> Message<'a> {
         writer: W,
     ) -> Result<W, StunWriteError>
         requires { W.bytes writer ≡ [] }
-        ensures bytes { IfOk result (λ built. W.bytes built ≡ begun MessageClass.Indication method id) }
+        ensures bytes { IfOk result (λ built. W.bytes built
+            ≡ begun MessageClass.Indication method id) }
         ensures open { IfOk result (λ built. IsOpen (W.bytes built)) }
         ensures empty { IfOk result (λ built. walk (W.bytes built) ≡ []) }
         ensures room { IfOk result (λ built. W.room built + header_length ≡ W.room writer) }
@@ -189,7 +191,8 @@ impl<'a> Message<'a> {
         writer: W,
     ) -> Result<W, StunWriteError>
         requires { W.bytes writer ≡ [] }
-        ensures bytes { IfOk result (λ built. W.bytes built ≡ begun_answer MessageClass.Success message.now) }
+        ensures bytes { IfOk result (λ built. W.bytes built
+            ≡ begun_answer MessageClass.Success message.now) }
         ensures open { IfOk result (λ built. IsOpen (W.bytes built)) }
         ensures empty { IfOk result (λ built. walk (W.bytes built) ≡ []) }
         ensures room { IfOk result (λ built. W.room built + header_length ≡ W.room writer) }
@@ -213,7 +216,8 @@ impl<'a> Message<'a> {
         writer: W,
     ) -> Result<W, StunWriteError>
         requires { W.bytes writer ≡ [] }
-        ensures bytes { IfOk result (λ built. W.bytes built ≡ begun_answer MessageClass.Error message.now) }
+        ensures bytes { IfOk result (λ built. W.bytes built
+            ≡ begun_answer MessageClass.Error message.now) }
         ensures open { IfOk result (λ built. IsOpen (W.bytes built)) }
         ensures empty { IfOk result (λ built. walk (W.bytes built) ≡ []) }
         ensures room { IfOk result (λ built. W.room built + header_length ≡ W.room writer) }

@@ -149,7 +149,8 @@ pub trait MessageWriteExt: MessageWrite {
     where
         Self: Sized,
         requires { 20 ≤ length (Self.bytes self.old) }
-        ensures refused { RefusedBy (signing_refusal (Self.bytes self.old) (Self.room self.old) algorithm) result }
+        ensures refused { RefusedBy (signing_refusal (Self.bytes self.old)
+            (Self.room self.old) algorithm) result }
         ensures succeeds { signing_refusal (Self.bytes self.old) (Self.room self.old) algorithm ≡ None
             → attribute_length (digest_length algorithm) ≤ Self.reserved self.old → IsOk result }
         ensures bytes { OnOk result (Self.bytes self.new
@@ -180,7 +181,8 @@ pub trait MessageWriteExt: MessageWrite {
     where
         Self: Sized,
         requires { 20 ≤ length (Self.bytes self.old) }
-        ensures refused { RefusedBy (signing_refusal (Self.bytes self.old) (Self.room self.old) algorithm) result }
+        ensures refused { RefusedBy (signing_refusal (Self.bytes self.old)
+            (Self.room self.old) algorithm) result }
         ensures succeeds { signing_refusal (Self.bytes self.old) (Self.room self.old) algorithm ≡ None
             → attribute_length (digest_length algorithm) ≤ Self.reserved self.old → IsOk result }
         ensures bytes { OnOk result (Self.bytes self.new
@@ -207,7 +209,8 @@ pub trait MessageWriteExt: MessageWrite {
     where
         Self: Sized,
         requires { 20 ≤ length (Self.bytes self.old) }
-        ensures refused { RefusedBy (signing_refusal (Self.bytes self.old) (Self.room self.old) algorithm) result }
+        ensures refused { RefusedBy (signing_refusal (Self.bytes self.old)
+            (Self.room self.old) algorithm) result }
         ensures succeeds { signing_refusal (Self.bytes self.old) (Self.room self.old) algorithm ≡ None
             → attribute_length (digest_length algorithm) ≤ Self.reserved self.old → IsOk result }
         ensures bytes { OnOk result (Self.bytes self.new
@@ -241,7 +244,8 @@ pub trait MessageWriteExt: MessageWrite {
         requires unsigned { has_integrity (Self.bytes self.old) ≡ false }
         requires short { length_with (Self.bytes self.old) (digest_length algorithm) ≤ max_length }
         requires room { attribute_length (digest_length algorithm) ≤ Self.room self.old }
-        ensures succeeds { attribute_length (digest_length algorithm) ≤ Self.reserved self.old → IsOk result }
+        ensures succeeds { attribute_length (digest_length algorithm) ≤ Self.reserved self.old
+            → IsOk result }
         ensures bytes { OnOk result (Self.bytes self.new
             ≡ with_integrity (Self.bytes self.old) algorithm key.now) }
         ensures added { OnOk result (GainsIntegrity (Self.bytes self.old) (Self.bytes self.new)
@@ -299,7 +303,8 @@ fn add_integrity<W: MessageWrite>(
     algorithm: IntegrityAlgorithm,
 ) -> Result<(), StunWriteError>
     requires { 20 ≤ length (W.bytes writer.old) }
-    ensures refused { RefusedBy (signing_refusal (W.bytes writer.old) (W.room writer.old) algorithm) result }
+    ensures refused { RefusedBy (signing_refusal (W.bytes writer.old)
+        (W.room writer.old) algorithm) result }
     ensures succeeds { signing_refusal (W.bytes writer.old) (W.room writer.old) algorithm ≡ None
         → attribute_length (digest_length algorithm) ≤ W.reserved writer.old → IsOk result }
     ensures bytes { OnOk result (W.bytes writer.new
@@ -337,7 +342,8 @@ fn sign<W: MessageWrite>(
     requires header { 20 ≤ length (W.bytes writer.old) }
     requires short { length_with (W.bytes writer.old) (digest_length algorithm) ≤ max_length }
     requires room { attribute_length (digest_length algorithm) ≤ W.room writer.old }
-    ensures succeeds { attribute_length (digest_length algorithm) ≤ W.reserved writer.old → IsOk result }
+    ensures succeeds { attribute_length (digest_length algorithm) ≤ W.reserved writer.old
+        → IsOk result }
     ensures bytes { OnOk result (W.bytes writer.new
         ≡ with_integrity (W.bytes writer.old) algorithm key.now) }
     ensures added { OnOk result (GainsIntegrity (W.bytes writer.old) (W.bytes writer.new)
@@ -368,7 +374,8 @@ fn append_integrity<W: MessageWrite>(writer: &mut W, key: &[u8], algorithm: Inte
           kind = integrity_kind algorithm;
           value = digest algorithm key.now (W.bytes writer.old);
         }) }
-    ensures room { W.room writer.new + attribute_length (digest_length algorithm) ≡ W.room writer.old }
+    ensures room { W.room writer.new + attribute_length (digest_length algorithm)
+        ≡ W.room writer.old }
 {
     match algorithm {
         IntegrityAlgorithm::Sha1 => {

@@ -70,7 +70,7 @@ pub fn begin<W: MessageWrite>(class: MessageClass, writer: W) -> Result<W, StunW
     Message::builder(MessageType::from_class_method(class, BINDING), id, writer)
 }
 
-/// Adds an attribute behind a header.
+/// Adds an attribute after a header.
 fn add<W: MessageWrite, A: Attribute>(writer: &mut W, attribute: &A) -> Result<(), StunWriteError> {
     if writer.data().len() < 20 {
         return Err(StunWriteError::NotAllowed);
@@ -78,7 +78,7 @@ fn add<W: MessageWrite, A: Attribute>(writer: &mut W, attribute: &A) -> Result<(
     writer.add_attribute(attribute)
 }
 
-/// Adds an integrity attribute behind a header.
+/// Adds an integrity attribute after a header.
 fn sign<W: MessageWrite>(
     writer: &mut W,
     key: &[u8],

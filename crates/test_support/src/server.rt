@@ -162,7 +162,7 @@ pub fn signed_challenge<A: Allocator + Copy>(
     signed_bytes(alloc, server, MessageClass::Error, &[Part::Code(401)])
 }
 
-/// A server with HMAC-SHA1 and plain names, whose nonce stands for the first address.
+/// A server with HMAC-SHA1 and plain names, whose nonce is current for the first address.
 pub fn plain_server<A: Allocator + Copy>(
     alloc: Global,
     heap: A,
@@ -172,7 +172,7 @@ pub fn plain_server<A: Allocator + Copy>(
     Ok(server)
 }
 
-/// A server with both algorithms and hashed names, whose nonce stands for the first address and whose list was offered to it.
+/// A server with both algorithms and hashed names, whose nonce is current for the first address and whose list was offered to it.
 pub fn offering_server<A: Allocator + Copy>(
     alloc: Global,
     heap: A,

@@ -7,7 +7,7 @@ use rand_core::utils::NextWord;
 use rand_core::{Rng, utils};
 use std::marker::Model;
 
-/// Sixteen words as a source of random words: they come in their order, and zeros behind them.
+/// Sixteen words as a source of random words: they come in their order, and zeros after them.
 #[derive(Debug, Drop)]
 pub struct Words {
     words: [u32; 16],

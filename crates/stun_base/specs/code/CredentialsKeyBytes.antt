@@ -3,7 +3,7 @@ use Rattle.std.specs.Prelude.{ℕ, List}
 use Rattle.stun_base.specs.declared.credentials.CredentialsKeyBytes.{CredentialsKeyBytes}
 use Rattle.stun_base.specs.declared.credentials.CredentialsKeyBytes.TheVariants.{Password, Made}
 
--- the bytes, wherever they stand
+-- the bytes, wherever they are
 abbrev pub credentials_key_bytes : {A : Type 0} → CredentialsKeyBytes A → List ℕ
 credentials_key_bytes (Password bytes) = bytes.now
 credentials_key_bytes (Made key) = key

@@ -4,22 +4,22 @@ use Rattle.std.specs.Cmp.Lexicographic.{pointwise}
 use Rattle.std.specs.declared.string.String.{String}
 use Rattle.std.specs.declared.alloc.Global.{Global}
 
--- the words behind `check`, if the first word is that
+-- the words after `check`, if the first word is that
 abbrev pub words_of_check : List (String Global) → Option (List (String Global))
 words_of_check [] = None
 words_of_check (command ∷ others) = if pointwise nat_eq (string_bytes command) (codes "check") then Some others else None
 
--- the words behind `schedule`, if the first word is that
+-- the words after `schedule`, if the first word is that
 abbrev pub words_of_schedule : List (String Global) → Option (List (String Global))
 words_of_schedule [] = None
 words_of_schedule (command ∷ others) = if pointwise nat_eq (string_bytes command) (codes "schedule") then Some others else None
 
--- the words behind `negotiate`, if the first word is that
+-- the words after `negotiate`, if the first word is that
 abbrev pub words_of_negotiate : List (String Global) → Option (List (String Global))
 words_of_negotiate [] = None
 words_of_negotiate (command ∷ others) = if pointwise nat_eq (string_bytes command) (codes "negotiate") then Some others else None
 
--- the words behind `serve`, if the first word is that
+-- the words after `serve`, if the first word is that
 abbrev pub words_of_serve : List (String Global) → Option (List (String Global))
 words_of_serve [] = None
 words_of_serve (command ∷ others) = if pointwise nat_eq (string_bytes command) (codes "serve") then Some others else None

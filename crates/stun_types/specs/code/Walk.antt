@@ -3,7 +3,7 @@ use Rattle.std.specs.Prelude.{◌≤◌, ℕ, ◌+◌, List, length}
 use Rattle.stun_base.specs.Header.{HEADER_LENGTH}
 use Rattle.stun_types.specs.Walk.{Member}
 
--- an attribute stands behind the header and within the bytes
+-- an attribute is after the header and within the bytes
 pub record IsWithin (bytes : List ℕ) (m : Member) : Type 0 where
   pub behind_header : HEADER_LENGTH ≤ m.0
   pub whole : m.0 + 4 + length m.1.value ≤ length bytes

@@ -66,7 +66,8 @@ impl<'a> Nonce<'a> {
     pub fn new(text: &'a str) -> Result<Self, StunWriteError>
         ensures ok { IfOk result (λ nonce. nonce ≡ text.now) }
         ensures only_too_large { IsOkUnless result StunWriteError.TooLarge }
-        ensures too_large { IsErrOf result StunWriteError.TooLarge ↔ (TEXT_LIMIT < length text.now) }
+        ensures too_large { IsErrOf result StunWriteError.TooLarge
+            ↔ (TEXT_LIMIT < length text.now) }
     {
         let text = within_limit(text, TEXT_LIMIT)?;
         Ok(Nonce { text })

@@ -17,7 +17,7 @@ use std::alloc::AllocError;
 use std::marker::Model;
 use stun_base::error::StunParseError;
 
-/// Where the algorithms stand.
+/// Where the algorithms are.
 #[derive(Clone, Copy, Debug)]
 enum Source<'a> {
     /// A program's own list.

@@ -66,7 +66,8 @@ impl<'a> Realm<'a> {
     pub fn new(text: &'a str) -> Result<Self, StunWriteError>
         ensures ok { IfOk result (λ realm. realm ≡ text.now) }
         ensures only_too_large { IsOkUnless result StunWriteError.TooLarge }
-        ensures too_large { IsErrOf result StunWriteError.TooLarge ↔ (TEXT_LIMIT < length text.now) }
+        ensures too_large { IsErrOf result StunWriteError.TooLarge
+            ↔ (TEXT_LIMIT < length text.now) }
     {
         let text = within_limit(text, TEXT_LIMIT)?;
         Ok(Realm { text })

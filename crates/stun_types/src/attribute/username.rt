@@ -66,7 +66,8 @@ impl<'a> Username<'a> {
     pub fn new(text: &'a str) -> Result<Self, StunWriteError>
         ensures ok { IfOk result (λ username. username ≡ text.now) }
         ensures only_too_large { IsOkUnless result StunWriteError.TooLarge }
-        ensures too_large { IsErrOf result StunWriteError.TooLarge ↔ (USERNAME_LIMIT < length text.now) }
+        ensures too_large { IsErrOf result StunWriteError.TooLarge
+            ↔ (USERNAME_LIMIT < length text.now) }
     {
         let text = within_limit(text, USERNAME_LIMIT)?;
         Ok(Username { text })

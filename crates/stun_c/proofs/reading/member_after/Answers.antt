@@ -1,4 +1,4 @@
--- The search over the visible attributes is the definition's, and each of them stands within.
+-- The search over the visible attributes is the definition's, and each of them is within.
 use Rattle.std.proofs.Common.{rules, sym, subst, ◌∙◌, ◌≤◌, length}
 use Rattle.std.specs.Prelude.{nat_lt, IfSome}
 use Rattle.std.proofs.lemmas.Iterator.Adapters.{option_map_id}

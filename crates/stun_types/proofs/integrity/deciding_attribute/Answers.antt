@@ -1,4 +1,4 @@
--- What is answered decides, and so stands within.
+-- What is answered decides, and so is within.
 use Rattle.std.proofs.Common.{◌≡◌, rules, Some}
 use Rattle.stun_types.specs.Integrity.{deciding}
 use Rattle.stun_types.proofs.IntegrityLemmas.{deciding_within}

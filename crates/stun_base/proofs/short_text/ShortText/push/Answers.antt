@@ -1,4 +1,4 @@
--- What lies behind the piece is what lay there before: zeros.
+-- What lies after the piece is what lay there before: zeros.
 use Rattle.std.proofs.Common.{◌≡◌, ◌≤◌, ◌+◌, ◌-◌, length, drop, replicate, arith, rules, sym, ap, ◌∙◌}
 use Rattle.std.proofs.lemmas.List.{drop-drop, drop-replicate}
 use Rattle.std.proofs.lemmas.Slice.{drop-put_mid}

@@ -1,4 +1,4 @@
--- The entry of the index is written behind those before it, and takes four bytes.
+-- The entry of the index is written after those before it, and takes four bytes.
 use Rattle.std.proofs.Common.{◌≡◌, length, ap, sym, ◌∙◌, arith}
 use Rattle.std.specs.Prelude.{Some}
 use Rattle.std.specs.List.{slice_get}

@@ -133,6 +133,7 @@ fn polls_do_not_allocate(rt: HostRuntime) -> Result<(), Fail> {
     }
     let allocations = heap.allocations();
     heap.refuse(1);
+    assert!(rt; agent.next_transmit(at(500)).is_some());
     assert!(rt; agent.poll_transmit(at(500)).is_some());
     assert_eq!(rt; agent.next_awaited(), Some(at(500)));
     agent

@@ -1,10 +1,10 @@
 //! What is to be sent, and the texts of it and of the agent's errors.
 use std::test::Fail;
-use stun_agent::agent::{StunError, Transmit};
+use stun_agent::agent::{StunAgent, StunError, Transmit};
 use stun_base::data::{Data, OwnedBytes};
 use stun_base::error::{StunParseError, StunWriteError};
 use stun_base::transport::TransportType;
-use test_support::datagrams::{local, peer};
+use test_support::datagrams::{REQUEST, at, id, local, message, peer};
 
 struct Wrapped([u8; 8]);
 
@@ -39,6 +39,29 @@ fn a_transmit_keeps_its_addresses(rt: HostRuntime) -> Result<(), Fail> {
         from: _,
         to: _,
     } = wrapped;
+    Ok(())
+}
+
+#[test]
+fn what_is_lent_next_is_told_before(rt: HostRuntime) -> Result<(), Fail> {
+    let mut agent = StunAgent::builder(rt.alloc(), TransportType::Udp, local()).build();
+    for number in [1, 2] {
+        let _sent = agent.send_request(message(REQUEST, number), peer(), at(0))?;
+    }
+    let mut silent = agent
+        .mut_request_transaction(id(1)?)
+        .ok_or("it is outstanding")?;
+    silent.cancel_retransmissions();
+    assert!(rt; agent.next_transmit(at(499)).is_none());
+    let next = agent.next_transmit(at(500)).ok_or("the second is due")?;
+    assert_eq!(rt; next.data, message(REQUEST, 2).as_slice());
+    assert_eq!(rt;
+        (next.transport, next.from, next.to),
+        (TransportType::Udp, local(), peer())
+    );
+    let lent = agent.poll_transmit(at(500)).ok_or("it is still due")?;
+    assert_eq!(rt; lent.data, message(REQUEST, 2).as_slice());
+    assert!(rt; agent.next_transmit(at(500)).is_none());
     Ok(())
 }
 

@@ -20,7 +20,7 @@ use Rattle.stun_agent.proofs.LookupLemmas.{lookup-map, found_passes}
 use Rattle.stun_agent.proofs.RenewLemmas.{other_key}
 use Rattle.stun_agent.proofs.SlotLemmas.{tail_key, tail_at, head_at}
 
-clash : {b : Bool} → b ≡ true → b ≡ false → ⊥
+pub clash : {b : Bool} → b ≡ true → b ≡ false → ⊥
 clash t f = let no_way : true ≡ false = sym t ∙ f in cc
 
 -- ---- maps that are changed entry by entry
@@ -54,7 +54,7 @@ set-map g h id w (e ∷ es) s own other =
         λ i. (e.0, sym here i) ∷ rest i
 
 -- ---- searches
-find-is : (p : ℕ × Transaction → Bool) (all : Transactions) (k : ℕ) (t : Transaction) → IsAscending all → at k all ≡ Some t → p (k, t) ≡ true
+pub find-is : (p : ℕ × Transaction → Bool) (all : Transactions) (k : ℕ) (t : Transaction) → IsAscending all → at k all ≡ Some t → p (k, t) ≡ true
     → ((n : ℕ) (u : Transaction) → at n all ≡ Some u → n < k → p (n, u) ≡ false) → find p all ≡ Some (k, t)
 find-is p all k t s there passes before = by (find p all) refl
   where
@@ -73,7 +73,7 @@ find-is p all k t s there passes before = by (find p all) refl
               ap Some (λ i. (key i, value i))
         ]
 
-find-not : (p : ℕ × Transaction → Bool) (all : Transactions) → IsAscending all → ((n : ℕ) (u : Transaction) → at n all ≡ Some u → p (n, u) ≡ false) → find p all ≡ None
+pub find-not : (p : ℕ × Transaction → Bool) (all : Transactions) → IsAscending all → ((n : ℕ) (u : Transaction) → at n all ≡ Some u → p (n, u) ≡ false) → find p all ≡ None
 find-not p all s none = by (find p all) refl
   where
     by : (f : Option (ℕ × Transaction)) → find p all ≡ f → f ≡ None
@@ -81,7 +81,7 @@ find-not p all s none = by (find p all) refl
     by (Some (j, w)) is = absurd (clash (found_passes p all (j, w) is) (none j w (lookup_found p all j w s is)))
 
 -- ---- what the index tells
-abbrev is_next : TransportType → ℕ → Option ℕ → ℕ × Transaction → Bool
+abbrev pub is_next : TransportType → ℕ → Option ℕ → ℕ × Transaction → Bool
 is_next transport now last e = not (is_passed last e.0) && is_due transport now e.1
 
 abbrev test : ℕ → Option ℕ → Deadline → Bool
@@ -107,11 +107,11 @@ module _ (transport : TransportType) (now : ℕ) (last : Option ℕ) (all : Tran
       by (inr (d, h, passes, key)) =
           let e = entry_of transport now all ds index d n h key in (e.0, e.1, sym (test_due transport now last (n, e.0)) ∙ ap (test now last) e.2 ∙ passes)
 
-  due_least : (n k : ℕ) (t : Transaction) → least_due now last ds ≡ Some n → at k all ≡ Some t → is_next transport now last (k, t) ≡ true → n ≤ k
+  pub due_least : (n k : ℕ) (t : Transaction) → least_due now last ds ≡ Some n → at k all ≡ Some t → is_next transport now last (k, t) ≡ true → n ≤ k
   due_least n k t f there passes =
       least-le (test now last) ds None (deadline_of transport (k, t)) n (entry_at transport now all ds index k t there) (test_due transport now last (k, t) ∙ passes) f
 
-  due_none : (k : ℕ) (t : Transaction) → least_due now last ds ≡ None → at k all ≡ Some t → is_next transport now last (k, t) ≡ false
+  pub due_none : (k : ℕ) (t : Transaction) → least_due now last ds ≡ None → at k all ≡ Some t → is_next transport now last (k, t) ≡ false
   due_none k t f there = by (is_next transport now last (k, t)) refl
     where
       by : (b : Bool) → is_next transport now last (k, t) ≡ b → b ≡ false

@@ -8,6 +8,7 @@ pub mod DueLemmas
 pub mod EntryLemmas
 pub mod IndexedLemmas
 pub mod LastLemmas
+pub mod LentLemmas
 pub mod LookupLemmas
 pub mod NamedLemmas
 pub mod OnceLemmas

@@ -143,6 +143,21 @@ impl<A: Allocator + Copy> Outstanding<A> {
         transactions::pass_slots(&mut self.requests, &mut self.deadlines, self.transport, now)
     }
 
+    /// The request that `pass_due_slots` would send again.
+    pub(crate) fn next_sent(&self, now: Instant) -> Option<&Transaction<A>>
+        ensures { option_copied result ≡ option_map (λ e. e.1) (next_sent self.now.transport now self.now.requests) }
+    {
+        let mut last = None;
+        while let Some(id) = self.deadlines.least_due(now, &last) {
+            let request = self.requests.get(&id)?;
+            if request.sending().repeats() {
+                return Some(request);
+            }
+            last = Some(id);
+        }
+        None
+    }
+
     /// Stops the retransmissions of a request, where it is there.
     pub(crate) fn cancel_retransmissions(&mut self, id: TransactionId)
         ensures { self.new ≡ record self.old { requests = changed silenced id self.old.requests } }

@@ -98,6 +98,20 @@ impl<A: Allocator + Copy> StunAgent<A> {
         })
     }
 
+    /// What `poll_transmit` would lend at this moment, with the agent left as it is: for a caller that has to know the
+    /// length before it takes the bytes, as for a buffer of its own. Takes no memory and copies nothing.
+    pub fn next_transmit(&self, now: Instant) -> Option<Transmit<&[u8]>>
+        ensures sent { option_map lent_datagram result ≡ option_map (λ e. datagram_of self.now e.1) (sent_by_poll now self.now) }
+    {
+        let request = self.outstanding.next_sent(now)?;
+        Some(Transmit {
+            data: request.bytes(),
+            transport: self.outstanding.transport(),
+            from: self.local_addr,
+            to: request.to(),
+        })
+    }
+
     // Passes the slots that are due, counts the request that is to be sent again, and tells its id.
     fn pass_and_count(&mut self, now: Instant) -> Option<TransactionId>
         ensures sent { result ≡ option_map (λ e. e.0) (sent_by_poll now self.old) }

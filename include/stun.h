@@ -39,7 +39,7 @@
  * many threads at once, each with its own output. None is made in constant time.
  *
  * A call that refuses answers one of the numbers below zero, by the first reason in the order that its comment gives,
- * and leaves its output as it was. A call that writes leaves what stands after the bytes that it wrote. */
+ * and leaves its output as it was. A call that writes leaves what comes after the bytes that it wrote. */
 #ifndef STUN_H
 #define STUN_H
 
@@ -91,7 +91,7 @@ enum {
 enum {
     STUN_TRUNCATED = -1,           /* bytes are missing at the end: of the header, the message or an attribute */
     STUN_NOT_STUN = -2,            /* no header: its top two bits, its cookie, or a length that is no multiple of 4 */
-    STUN_TOO_LARGE = -3,           /* bytes stand after the end of the message */
+    STUN_TOO_LARGE = -3,           /* bytes come after the end of the message */
     STUN_NO_INTEGRITY = -4,        /* no integrity attribute is visible */
     STUN_MALFORMED_INTEGRITY = -5, /* the integrity attribute that decides has a length that its type cannot have */
     STUN_INTEGRITY_FAILED = -6,    /* its value is not the whole digest of what it covers under the key */
@@ -124,7 +124,7 @@ static inline const char *stun_strerror(int64_t answer) {
         "no error",
         "bytes are missing at the end",
         "the bytes are not a STUN message",
-        "bytes stand after the message",
+        "bytes come after the message",
         "the message has no integrity attribute",
         "the integrity attribute is malformed",
         "the digest is not that of the message",
@@ -187,11 +187,11 @@ int64_t stun_class(const uint8_t *message, size_t length);
 int64_t stun_method(const uint8_t *message, size_t length);
 int64_t stun_id(const uint8_t *message, size_t length, uint8_t *out, size_t out_length);
 
-/* The first visible attribute that stands after a place in a message: call it with 0, and then with the answer before.
+/* The first visible attribute that comes after a place in a message: call it with 0, and then with the answer before.
  * After MESSAGE-INTEGRITY only MESSAGE-INTEGRITY-SHA256 and FINGERPRINT are visible, after MESSAGE-INTEGRITY-SHA256 only
  * FINGERPRINT, and after FINGERPRINT nothing (sections 14.5 to 14.7).
  *
- * Answers its place, 20 or more, and writes its type and the length of its value, which stands at `message + place + 4`;
+ * Answers its place, 20 or more, and writes its type and the length of its value, which begins at `message + place + 4`;
  * or answers 0 where there is none, or refuses as stun_parse does, and leaves both. Each call reads the message from its
  * start, so a walk takes time that grows by the square of the number of attributes, of which a message can have 16383:
  * whoever takes messages from strangers bounds either. */

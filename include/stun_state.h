@@ -56,7 +56,7 @@ typedef struct {
 
 enum { STUN_UDP = 0, STUN_TCP = 1 };
 
-/* What an authenticator does with a user's name: STUN_AUTO hides it behind USERHASH where the peer can do so too,
+/* What an authenticator does with a user's name: STUN_AUTO sends USERHASH in its place where the peer can do so too,
  * STUN_REQUIRED refuses a server that cannot, STUN_DISABLED never hides it (section 9.2). */
 enum { STUN_AUTO = 0, STUN_REQUIRED = 1, STUN_DISABLED = 2 };
 

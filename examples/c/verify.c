@@ -1,4 +1,4 @@
-/* Says which digest of the message on standard input stands under a password: verify PASSWORD < MESSAGE */
+/* Says which digest of the message on standard input verifies under a password: verify PASSWORD < MESSAGE */
 #include "stun.h"
 #include <stdio.h>
 #include <string.h>

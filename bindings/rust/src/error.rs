@@ -9,7 +9,7 @@ pub enum Refusal {
     Truncated,
     /// The first 20 bytes are no header of STUN.
     NotStun,
-    /// Bytes stand after the end of the message.
+    /// Bytes come after the end of the message.
     TooLarge,
     /// No integrity attribute is visible.
     NoIntegrity,
@@ -59,7 +59,7 @@ const ALL: [Refusal; 16] = [
 ];
 
 impl Refusal {
-    /// An answer of the archive: its number, or the refusal that a number below zero stands for.
+    /// An answer of the archive: its number, or the refusal that a number below zero means.
     pub(crate) fn of(answer: i64) -> Result<usize, Refusal> {
         match usize::try_from(answer) {
             Ok(number) => Ok(number),
@@ -73,7 +73,7 @@ impl fmt::Display for Refusal {
         f.write_str(match self {
             Refusal::Truncated => "bytes are missing at the end",
             Refusal::NotStun => "the bytes are not a STUN message",
-            Refusal::TooLarge => "bytes stand after the message",
+            Refusal::TooLarge => "bytes come after the message",
             Refusal::NoIntegrity => "the message has no integrity attribute",
             Refusal::MalformedIntegrity => "the integrity attribute is malformed",
             Refusal::IntegrityFailed => "the digest is not that of the message",

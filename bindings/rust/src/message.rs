@@ -93,7 +93,7 @@ pub fn userhash(username: &str, realm: &str) -> [u8; 32] {
     hash
 }
 
-/// An attribute as it stands in a message.
+/// An attribute as it is in a message.
 #[derive(Debug, Clone, Copy, PartialEq, Eq)]
 pub struct RawAttribute<'a> {
     kind: AttributeType,

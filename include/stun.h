@@ -14,9 +14,12 @@
  *         bool understood = true;
  *         uint16_t type;
  *         size_t value_length;
- *         for (int64_t at = 0; (at = stun_next(request, length, (size_t)at, &type, &value_length)) > 0;)
+ *         int seen = 0;
+ *         for (int64_t at = 0; (at = stun_next(request, length, (size_t)at, &type, &value_length)) > 0;) {
+ *             if (++seen > 64) return 0;                                          // no honest request has as many
  *             if (type < 0x8000 && type != STUN_USERNAME && type != STUN_MESSAGE_INTEGRITY
  *                 && type != STUN_MESSAGE_INTEGRITY_SHA256) understood = false;   // the value: request + at + 4
+ *         }
  *         int64_t written;
  *         if (understood) {
  *             written = stun_begin(STUN_SUCCESS, STUN_BINDING, id, sizeof id, out, room);

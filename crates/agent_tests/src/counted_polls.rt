@@ -1,12 +1,12 @@
 //! A poll that counts what it reads answers as one that does not.
-ghost use Rattle.std.specs.Prelude.{◌≡◌, ◌<◌};
+ghost use Rattle.stun_agent.specs.Deadlines.{IsUnused};
 
 use crate::answers::wait;
 use std::alloc::Allocator;
 use std::marker::Brand;
 use std::sync::ledger::{Blank, Ledger};
 use std::test::Fail;
-use stun_agent::agent::{Reads, StunAgent, StunAgentPollRet};
+use stun_agent::agent::{StunAgent, StunAgentPollRet};
 use stun_base::instant::Instant;
 use stun_base::transport::TransportType;
 use test_support::datagrams::{REQUEST, at, id, local, message, peer};
@@ -17,12 +17,10 @@ fn counted<L: Ledger, A: Allocator + Copy>(
     now: Instant,
     blank: Blank,
 ) -> StunAgentPollRet
-    requires name { blank.name ≡ L.name }
-    requires parts { blank.parts ≡ L.parts }
-    requires some { 0 < blank.parts }
+    requires { IsUnused blank.name blank.parts L.name L.parts }
 {
-    let mut reads = Reads::<L>::new(blank);
-    agent.poll_counted(now, &mut reads)
+    let (answer, _reads) = agent.poll_counted::<L>(now, blank);
+    answer
 }
 
 #[test]

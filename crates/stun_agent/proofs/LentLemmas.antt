@@ -1,12 +1,14 @@
 -- The request that is sent again is found where nothing passes.
-use Rattle.std.proofs.Common.{ℕ, ◌≡◌, ◌<◌, ◌≤◌, inl, inr, arith, Bool, true, false, not, ◌&&◌, List, ap, subst, sym, refl, ◌∙◌}
+use Rattle.std.proofs.Common.{ℕ, ◌≡◌, ◌<◌, ◌≤◌, inl, inr, arith, Bool, true, false, not, ◌&&◌, List, [], ◌∷◌, ap, subst, sym, refl, ◌∙◌}
 use Rattle.std.specs.Prelude.{Option, Some, None}
-use Rattle.std.proofs.lemmas.Bool.{cases_lt, leb-true}
+use Rattle.std.specs.List.Sorted.{IsNonDecreasingBy}
+use Rattle.std.proofs.lemmas.Bool.{cases_lt, leb-true, leb-false}
 use Rattle.stun_base.specs.declared.transport.TransportType.{TransportType}
 use Rattle.stun_agent.specs.declared.deadlines.Deadline.{Deadline}
-use Rattle.stun_agent.specs.Transactions.{Transaction, Transactions, IsAscending, at, is_due, repeats, next_sent}
-use Rattle.stun_agent.specs.code.Deadlines.{is_passed, least_due, IsIndexOf}
-use Rattle.stun_agent.proofs.DueLemmas.{clash, find-is, find-not, is_next, due_there, due_least, due_none}
+use Rattle.stun_agent.specs.Transactions.{Transaction, Transactions, IsAscending, at, is_due, repeats, next_sent, after_slots}
+use Rattle.stun_agent.specs.code.Deadlines.{is_passed, is_slot_after, least_due, has_come, IsIndexOf}
+use Rattle.stun_agent.proofs.DeadlineLemmas.{least-stops}
+use Rattle.stun_agent.proofs.DueLemmas.{clash, find-is, find-not, is_next, due_there, due_least, due_none, passed_start, sends_none, none_after}
 
 -- of the due ones up to `last` none is sent
 abbrev pub AreSilentTo : TransportType → ℕ → Option ℕ → Transactions → Type 0
@@ -77,3 +79,15 @@ module _ (transport : TransportType) (now : ℕ) (last : Option ℕ) (all : Tran
       by k t there p false is due = refl
       by k t there false true is due =
           absurd (clash due (ap (λ b. not b && is_due transport now t) (sym is) ∙ due_none transport now last all ds index k t none there))
+
+-- ---- the first moment has not come
+none_come : (now : ℕ) (ds : List Deadline) → IsNonDecreasingBy (λ d. d.moment) ds → has_come now ds ≡ false → least_due now None ds ≡ None
+none_come now [] rises h = refl
+none_come now (d ∷ ds) rises h = least-stops (is_slot_after None) now (d ∷ ds) 0 d None rises refl (leb-false d.moment now h)
+
+module _ (transport : TransportType) (now : ℕ) (all : Transactions) (ds : List Deadline) (ascends : IsAscending all) (index : IsIndexOf transport all ds) (late : has_come now ds ≡ false) where
+  pub none_next : next_sent transport now all ≡ None
+  none_next = sends_none transport now None all all ds ascends index (passed_start transport now all) (none_come now ds index.rises late)
+
+  pub none_passes : all ≡ after_slots transport now None all
+  none_passes = none_after transport now None all all ds ascends index (passed_start transport now all) (none_come now ds index.rises late)

@@ -1,9 +1,8 @@
--- What outstanding requests await, in the order of the moments.
-use Rattle.std.specs.Prelude.{ℕ, Bool, ◌||◌, nat_le, count_by}
+-- The work of a poll: which deadlines it reads, and how they are counted.
+use Rattle.std.specs.Prelude.{ℕ, ◌≡◌, ◌<◌, Bool, ◌||◌, nat_le, count_by}
 use Rattle.stun_base.specs.declared.transport.TransportType.{TransportType}
 use Rattle.stun_agent.specs.Transactions.{Transaction, Transactions, awaited, is_cancelled}
 
--- ---- the work of a poll
 -- a transaction that is cancelled, or awaits at most this moment
 abbrev pub is_early : TransportType → ℕ → Transaction → Bool
 is_early transport now t = is_cancelled t.sending || nat_le (awaited transport t) now
@@ -11,3 +10,9 @@ is_early transport now t = is_cancelled t.sending || nat_le (awaited transport t
 -- how many of them there are
 abbrev pub early_requests : TransportType → ℕ → Transactions → ℕ
 early_requests transport now all = count_by (λ e. is_early transport now e.1) all
+
+-- a blank of a ledger that nobody has used, and that has parts to count with
+pub record IsUnused (name parts ledger_name ledger_parts : ℕ) : Type 0 where
+  pub same_name : name ≡ ledger_name
+  pub same_parts : parts ≡ ledger_parts
+  pub some : 0 < parts

@@ -1,51 +1,16 @@
 //! What outstanding requests await, in the order of the moments.
-ghost use Rattle.std.specs.Prelude.{◌≡◌, [], ◌+◌, ◌<◌, length, slice_get, Some, OnOk, OnErr, if◌then◌else◌};
+ghost use Rattle.std.specs.Prelude.{◌≡◌, [], ◌+◌, ◌<◌, ◌≤◌, length, slice_get, Some, OnOk, OnErr};
 ghost use Rattle.std.specs.List.Sorted.{IsNonDecreasingBy};
-ghost use Rattle.stun_agent.specs.code.Deadlines.{earliest, is_slot, is_slot_after, is_passed, least_due, without_entry, is_before, is_cancellation, first_awaited, IsInOrder, HasEntry, IsPlace, IsPlaced, IsReplaced};
-ghost use Rattle.stun_agent.specs.Transactions.{sooner};
+ghost use Rattle.stun_agent.specs.Deadlines.{IsUnused};
+ghost use Rattle.stun_agent.specs.code.Deadlines.{earliest, has_come, early, is_slot, least_due, least_ended, without_entry, is_before, is_cancellation, first_awaited, IsInOrder, HasEntry, IsPlace, IsPlaced, IsReplaced};
 
+use crate::{ending, retransmission};
 use std::alloc::{AllocError, Allocator, Global};
 use std::collections::VecDeque;
-use std::marker::Model;
+use std::marker::{Brand, Model};
 use std::sync::ledger::{Blank, Book, Ledger, Share};
 use stun_base::instant::Instant;
 use stun_base::transaction_id::TransactionId;
-
-/// How many entries of an index were read. It takes no bytes, and only `DeadlineIndex::entry` changes it.
-#[derive(Drop)]
-pub struct Reads<L: Ledger> {
-    book: Book<L>,
-    share: Share<L>,
-}
-
-impl<L: Ledger> Model for Reads<L> {
-    ghost use Rattle.std.specs.Prelude.{ℕ, ◌<◌};
-
-    ghost Value = { ℕ };
-
-    ghost view = { λ s. s.book.total };
-
-    ghost invariant = { λ s. 0 < s.share.parts };
-}
-
-impl<L: Ledger> Reads<L> {
-    /// A count of a ledger that nobody has used.
-    pub fn new(blank: Blank) -> Self
-        requires name { blank.name ≡ L.name }
-        requires parts { blank.parts ≡ L.parts }
-        requires some { 0 < blank.parts }
-        ensures { result ≡ 0 }
-    {
-        let (book, share) = blank.open();
-        Reads { book, share }
-    }
-
-    fn tick(&mut self)
-        ensures { self.new ≡ self.old + 1 }
-    {
-        self.book.add(&mut self.share, 1);
-    }
-}
 
 /// What a request awaits.
 #[derive(Clone, Copy, Debug, PartialEq, Eq)]
@@ -59,7 +24,7 @@ pub(crate) enum DeadlineKind {
 }
 
 impl DeadlineKind {
-    fn is_slot(self) -> bool
+    pub(crate) fn is_slot(self) -> bool
         ensures { result ≡ is_slot self }
     {
         matches!(self, DeadlineKind::Slot)
@@ -120,16 +85,6 @@ impl<A: Allocator> DeadlineIndex<A> {
         self.entries.len()
     }
 
-    /// The only way to an entry from outside, and it is counted.
-    pub(crate) fn entry<L: Ledger>(&self, i: usize, reads: &mut Reads<L>) -> Deadline
-        requires { i < length self.now }
-        ensures value { slice_get self.now i ≡ Some result }
-        ensures count { reads.new ≡ reads.old + 1 }
-    {
-        reads.tick();
-        self.get(i)
-    }
-
     fn get(&self, i: usize) -> Deadline
         requires { i < length self.now }
         ensures { slice_get self.now i ≡ Some result }
@@ -179,8 +134,33 @@ impl<A: Allocator> DeadlineIndex<A> {
         replace(&mut self.entries, moment, deadline);
     }
 
-    /// The least id, after `last`, of a request whose slot is due. Entries are read from the front, up to the first
-    /// that is later.
+    /// Whether the first moment has come. It is not counted.
+    pub(crate) fn has_come(&self, now: Instant) -> bool
+        ensures { result ≡ has_come now self.now }
+    {
+        match self.earliest() {
+            Some(first) => first <= now,
+            None => false,
+        }
+    }
+
+    /// The least id among those whose end has come, and how many entries were read to tell.
+    pub(crate) fn least_ended<L: Ledger>(
+        &self,
+        now: Instant,
+        blank: Blank,
+    ) -> (Option<TransactionId>, Reads<L>)
+        requires rises { IsNonDecreasingBy (λ d. d.moment) self.now }
+        requires unused { IsUnused blank.name blank.parts L.name L.parts }
+        ensures answer { result.0 ≡ least_ended now self.now }
+        ensures work { result.1 ≤ early now self.now + 1 }
+    {
+        let mut reader = DeadlineReader::<A, L>::new(self, blank);
+        let ended = ending::least_ended(&mut reader, now);
+        (ended, reader.into_reads())
+    }
+
+    /// The least id, after `last`, of a request whose slot is due.
     pub(crate) fn least_due(
         &self,
         now: Instant,
@@ -189,15 +169,22 @@ impl<A: Allocator> DeadlineIndex<A> {
         requires { IsNonDecreasingBy (λ d. d.moment) self.now }
         ensures { result ≡ least_due now last.now self.now }
     {
-        let mut least = None;
-        for i in 0..self.len() {
-            let deadline = self.get(i);
-            if deadline.moment.as_nanos() > now.as_nanos() {
-                break;
-            }
-            least = with_slot(least, *last, deadline);
-        }
-        least
+        self.least_due_from::<Brand>(now, last, Blank::new(1))
+    }
+
+    // As `least_due`, with a count of its own.
+    fn least_due_from<L: Ledger>(
+        &self,
+        now: Instant,
+        last: &Option<TransactionId>,
+        blank: Blank,
+    ) -> Option<TransactionId>
+        requires rises { IsNonDecreasingBy (λ d. d.moment) self.now }
+        requires unused { IsUnused blank.name blank.parts L.name L.parts }
+        ensures { result ≡ least_due now last.now self.now }
+    {
+        let mut reader = DeadlineReader::<A, L>::new(self, blank);
+        retransmission::least_due(&mut reader, now, last)
     }
 
     /// The first moment of a request that is not cancelled.
@@ -214,30 +201,88 @@ impl<A: Allocator> DeadlineIndex<A> {
     }
 }
 
-// The lesser id, where the deadline is that of a slot, of an id after `last`.
-fn with_slot(
-    least: Option<TransactionId>,
-    last: Option<TransactionId>,
-    deadline: Deadline,
-) -> Option<TransactionId>
-    ensures { result ≡ (if is_slot_after last deadline then sooner least deadline.id else least) }
-{
-    if !deadline.kind.is_slot() || is_passed(last, deadline.id) {
-        return least;
+/// How many entries of an index were read. It takes no bytes, and only `DeadlineReader::entry` raises it.
+#[derive(Drop)]
+pub struct Reads<L: Ledger> {
+    book: Book<L>,
+    share: Share<L>,
+}
+
+impl<L: Ledger> Model for Reads<L> {
+    ghost use Rattle.std.specs.Prelude.{ℕ, ◌<◌};
+
+    ghost Value = { ℕ };
+
+    ghost view = { λ s. s.book.total };
+
+    ghost invariant = { λ s. 0 < s.share.parts };
+}
+
+impl<L: Ledger> Reads<L> {
+    // A count of a ledger that nobody has used.
+    fn new(blank: Blank) -> Self
+        requires { IsUnused blank.name blank.parts L.name L.parts }
+        ensures { result ≡ 0 }
+    {
+        let (book, share) = blank.open();
+        Reads { book, share }
     }
-    match least {
-        Some(before) => Some(before.min(deadline.id)),
-        None => Some(deadline.id),
+
+    fn tick(&mut self)
+        ensures { self.new ≡ self.old + 1 }
+    {
+        self.book.add(&mut self.share, 1);
     }
 }
 
-// Whether an id is at most the last one whose slot has passed.
-fn is_passed(last: Option<TransactionId>, id: TransactionId) -> bool
-    ensures { result ≡ is_passed last id }
-{
-    match last {
-        Some(last) => id <= last,
-        None => false,
+/// An index that is read, one entry at a time, and how many entries were read. What decides by deadlines is handed
+/// this alone, and makes none: it sees neither the index nor a way to count anew.
+#[derive(Drop)]
+pub(crate) struct DeadlineReader<'a, A: Allocator, L: Ledger> {
+    index: &'a DeadlineIndex<A>,
+    reads: Reads<L>,
+}
+
+impl<'a, A: Allocator, L: Ledger> Model for DeadlineReader<'a, A, L> {
+    ghost use Rattle.stun_agent.specs.code.Deadlines.{Reading};
+
+    ghost Value = { Reading };
+
+    ghost view = { λ reader. record { deadlines = reader.index.now; reads = reader.reads } };
+}
+
+impl<'a, A: Allocator, L: Ledger> DeadlineReader<'a, A, L> {
+    fn new(index: &'a DeadlineIndex<A>, blank: Blank) -> Self
+        requires { IsUnused blank.name blank.parts L.name L.parts }
+        ensures { result ≡ record { deadlines = index.now; reads = 0 } }
+    {
+        DeadlineReader {
+            index,
+            reads: Reads::new(blank),
+        }
+    }
+
+    pub(crate) fn len(&self) -> usize
+        ensures { result ≡ length self.now.deadlines }
+    {
+        self.index.len()
+    }
+
+    /// The only way to an entry, and it is counted.
+    pub(crate) fn entry(&mut self, i: usize) -> Deadline
+        requires { i < length self.old.deadlines }
+        ensures value { slice_get self.old.deadlines i ≡ Some result }
+        ensures count { self.new ≡ record self.old { reads = self.old.reads + 1 } }
+    {
+        self.reads.tick();
+        self.index.get(i)
+    }
+
+    fn into_reads(self) -> Reads<L>
+        ensures { result ≡ self.entry.reads }
+    {
+        let DeadlineReader { index: _, reads } = self;
+        reads
     }
 }
 

@@ -1,10 +1,10 @@
-//! Which request a poll ends, by the index of deadlines and the moment alone.
+//! Which request a poll ends, by the deadlines and the moment alone.
 ghost use Rattle.std.specs.Prelude.{◌≡◌, ◌+◌, ◌≤◌, if◌then◌else◌};
 ghost use Rattle.std.specs.List.Sorted.{IsNonDecreasingBy};
 ghost use Rattle.stun_agent.specs.code.Deadlines.{is_end, least_ended, early};
 ghost use Rattle.stun_agent.specs.Transactions.{sooner};
 
-use crate::deadlines::{Deadline, DeadlineIndex, DeadlineKind, Reads};
+use crate::deadlines::{Deadline, DeadlineKind, DeadlineReader};
 use std::alloc::Allocator;
 use std::sync::ledger::Ledger;
 use stun_base::instant::Instant;
@@ -12,17 +12,16 @@ use stun_base::transaction_id::TransactionId;
 
 /// The least id among those whose end has come. Entries are read from the front, up to the first that is later.
 pub(crate) fn least_ended<A: Allocator, L: Ledger>(
-    index: &DeadlineIndex<A>,
+    reader: &mut DeadlineReader<'_, A, L>,
     now: Instant,
-    reads: &mut Reads<L>,
 ) -> Option<TransactionId>
-    requires { IsNonDecreasingBy (λ d. d.moment) index.now }
-    ensures answer { result ≡ least_ended now index.now }
-    ensures work { reads.new ≤ reads.old + early now index.now + 1 }
+    requires { IsNonDecreasingBy (λ d. d.moment) reader.old.deadlines }
+    ensures answer { result ≡ least_ended now reader.old.deadlines }
+    ensures work { reader.new.reads ≤ reader.old.reads + early now reader.old.deadlines + 1 }
 {
     let mut least = None;
-    for i in 0..index.len() {
-        let deadline = index.entry(i, reads);
+    for i in 0..reader.len() {
+        let deadline = reader.entry(i);
         if deadline.moment.as_nanos() > now.as_nanos() {
             break;
         }

@@ -14,6 +14,7 @@ mod outstanding;
 mod poll;
 mod receive;
 mod request;
+mod retransmission;
 mod rto;
 mod send;
 pub mod stats;

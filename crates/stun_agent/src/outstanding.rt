@@ -1,20 +1,19 @@
 //! The requests that wait for their responses.
 ghost use Rattle.std.specs.Prelude.{◌≡◌, ◌+◌, ◌≤◌, [], length, Some, None, IfSome, OnOk, OnErr};
 ghost use Rattle.std.specs.Option.{option_map, option_copied, is_some};
-ghost use Rattle.stun_agent.specs.Deadlines.{early_requests};
+ghost use Rattle.stun_agent.specs.Deadlines.{early_requests, IsUnused};
 ghost use Rattle.stun_agent.specs.Timing.{settings_of};
 ghost use Rattle.stun_agent.specs.Transactions.{repeats, AreKept, at, with, without, changed, silenced, cancelled, configured, first_over, wake_up, next_awaited, next_sent, after_slots, IsNamed};
-ghost use Rattle.stun_agent.specs.code.Transactions.{contents};
+ghost use Rattle.stun_agent.specs.code.Transactions.{contents, told_of_end};
 
 use crate::deadlines::{DeadlineIndex, Reads};
-use crate::ending;
 use crate::rto::RequestRto;
 use crate::transaction::Transaction;
 use crate::transactions::{self, Transactions};
 use std::alloc::{AllocError, Allocator, Global};
 use std::collections::BTreeMap;
 use std::marker::Model;
-use std::sync::ledger::Ledger;
+use std::sync::ledger::{Blank, Ledger};
 use std::time::Duration;
 use stun_base::instant::Instant;
 use stun_base::transaction_id::TransactionId;
@@ -102,18 +101,19 @@ impl<A: Allocator + Copy> Outstanding<A> {
         Some(request)
     }
 
-    /// The id of the request that is to end, and whether it was still sent again. The deadlines alone decide, and
-    /// those that are read are counted.
+    /// The id of the request that is to end, and whether it was still sent again; and how many deadlines were read to
+    /// tell, which alone decide.
     pub(crate) fn first_over<L: Ledger>(
         &self,
         now: Instant,
-        reads: &mut Reads<L>,
-    ) -> Option<(TransactionId, bool)>
-        ensures answer { result ≡ option_map (λ e. (e.0, repeats e.1.sending)) (first_over self.now.transport now self.now.requests) }
-        ensures work { reads.new ≤ reads.old + early_requests self.now.transport now self.now.requests + 1 }
+        blank: Blank,
+    ) -> (Option<(TransactionId, bool)>, Reads<L>)
+        requires { IsUnused blank.name blank.parts L.name L.parts }
+        ensures answer { result.0 ≡ option_map told_of_end (first_over self.now.transport now self.now.requests) }
+        ensures work { result.1 ≤ early_requests self.now.transport now self.now.requests + 1 }
     {
-        let ended = ending::least_ended(&self.deadlines, now, reads);
-        transactions::with_repeats(&self.requests, ended)
+        let (ended, reads) = self.deadlines.least_ended::<L>(now, blank);
+        (transactions::with_repeats(&self.requests, ended), reads)
     }
 
     /// When to poll again, where nothing is over.
@@ -140,6 +140,9 @@ impl<A: Allocator + Copy> Outstanding<A> {
         ensures request { IfSome (next_sent self.old.transport now self.old.requests) IsNamed }
         ensures kept { IfSome result (λ s. option_map contents (at s.0 self.new.requests) ≡ option_map (λ e. contents e.1) (next_sent self.old.transport now self.old.requests)) }
     {
+        if !self.deadlines.has_come(now) {
+            return None;
+        }
         transactions::pass_slots(&mut self.requests, &mut self.deadlines, self.transport, now)
     }
 
@@ -147,6 +150,9 @@ impl<A: Allocator + Copy> Outstanding<A> {
     pub(crate) fn next_sent(&self, now: Instant) -> Option<&Transaction<A>>
         ensures { option_copied result ≡ option_map (λ e. e.1) (next_sent self.now.transport now self.now.requests) }
     {
+        if !self.deadlines.has_come(now) {
+            return None;
+        }
         let mut last = None;
         while let Some(id) = self.deadlines.least_due(now, &last) {
             let request = self.requests.get(&id)?;

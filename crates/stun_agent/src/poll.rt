@@ -2,11 +2,11 @@
 ghost use Rattle.std.specs.Prelude.{◌≡◌, ◌+◌, ◌≤◌, ◌<◌, IfSome};
 ghost use Rattle.std.specs.Borrow.{sem};
 ghost use Rattle.std.specs.Option.{option_map};
-ghost use Rattle.stun_agent.specs.Agent.{poll_answer, after_poll, sent_by_poll, after_poll_transmit, datagram_of};
+ghost use Rattle.stun_agent.specs.Agent.{poll_answer, after_poll, ended_by_poll, sent_by_poll, after_poll_transmit, datagram_of};
 ghost use Rattle.stun_agent.specs.Datagrams.{lent_datagram};
-ghost use Rattle.stun_agent.specs.Deadlines.{early_requests};
+ghost use Rattle.stun_agent.specs.Deadlines.{early_requests, IsUnused};
 ghost use Rattle.stun_agent.specs.Transactions.{IsNamed, AreKept, next_awaited, at};
-ghost use Rattle.stun_agent.specs.code.Transactions.{contents};
+ghost use Rattle.stun_agent.specs.code.Transactions.{contents, told_of_end};
 
 use crate::agent::{StunAgent, StunAgentPollRet};
 use crate::counting;
@@ -31,41 +31,49 @@ impl<A: Allocator + Copy> StunAgent<A> {
         self.poll_from::<Brand>(now, Blank::new(1))
     }
 
-    /// As `poll`, and counts the deadlines that are read to find what ends: at most one more than there are requests
-    /// that are cancelled or await at most `now`. The count takes no bytes, and contracts alone see it.
+    // As `poll_counted`, with a count of its own.
+    fn poll_from<L: Ledger>(&mut self, now: Instant, blank: Blank) -> StunAgentPollRet
+        requires { IsUnused blank.name blank.parts L.name L.parts }
+        ensures answer { result ≡ poll_answer now self.old }
+        ensures after { self.new ≡ after_poll now self.old }
+    {
+        let (answer, _reads) = self.poll_counted::<L>(now, blank);
+        answer
+    }
+
+    /// As `poll`, which is this call with a blank of its own, and how many deadlines were read to find what ends: at
+    /// most one more than there are requests that are cancelled or await at most `now`. The count takes no bytes, and
+    /// contracts alone see it.
     pub fn poll_counted<L: Ledger>(
         &mut self,
         now: Instant,
-        reads: &mut Reads<L>,
-    ) -> StunAgentPollRet
-        ensures answer { result ≡ poll_answer now self.old }
+        blank: Blank,
+    ) -> (StunAgentPollRet, Reads<L>)
+        requires { IsUnused blank.name blank.parts L.name L.parts }
+        ensures answer { result.0 ≡ poll_answer now self.old }
         ensures after { self.new ≡ after_poll now self.old }
-        ensures work { reads.new ≤ reads.old + early_requests self.old.transport now self.old.transactions + 1 }
+        ensures work { result.1 ≤ early_requests self.old.transport now self.old.transactions + 1 }
     {
-        match self.outstanding.first_over(now, reads) {
-            Some((id, repeats)) => {
-                let _ended = self.outstanding.remove(id);
-                counting::count_end(&mut self.stats, repeats);
-                if repeats {
-                    StunAgentPollRet::TransactionTimedOut(id)
-                } else {
-                    StunAgentPollRet::TransactionCancelled(id)
-                }
-            }
-            None => StunAgentPollRet::WaitUntil(self.outstanding.wake_up(now)),
-        }
+        let (ended, reads) = self.outstanding.first_over::<L>(now, blank);
+        (self.end(now, ended), reads)
     }
 
-    // As `poll_counted`, with a count of its own.
-    fn poll_from<L: Ledger>(&mut self, now: Instant, blank: Blank) -> StunAgentPollRet
-        requires name { blank.name ≡ L.name }
-        requires parts { blank.parts ≡ L.parts }
-        requires some { 0 < blank.parts }
+    // Ends the request that was found to be over, and else says until when to wait.
+    fn end(&mut self, now: Instant, ended: Option<(TransactionId, bool)>) -> StunAgentPollRet
+        requires { ended ≡ option_map told_of_end (ended_by_poll now self.old) }
         ensures answer { result ≡ poll_answer now self.old }
         ensures after { self.new ≡ after_poll now self.old }
     {
-        let mut reads = Reads::<L>::new(blank);
-        self.poll_counted(now, &mut reads)
+        let Some((id, repeats)) = ended else {
+            return StunAgentPollRet::WaitUntil(self.outstanding.wake_up(now));
+        };
+        let _ended = self.outstanding.remove(id);
+        counting::count_end(&mut self.stats, repeats);
+        if repeats {
+            StunAgentPollRet::TransactionTimedOut(id)
+        } else {
+            StunAgentPollRet::TransactionCancelled(id)
+        }
     }
 
     /// The least moment that a request which is not cancelled awaits, to be sent again or to end, if there is any.

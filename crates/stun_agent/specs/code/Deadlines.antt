@@ -119,3 +119,13 @@ first_awaited ds = option_map (λ d. d.moment) (find (λ d. not (is_cancellation
 -- the first moment, if there is any
 abbrev pub earliest : List Deadline → Option ℕ
 earliest ds = option_map (λ d. d.moment) (slice_get ds 0)
+
+-- it has come
+abbrev pub has_come : ℕ → List Deadline → Bool
+has_come now ds = option_map_or (λ m. nat_le m now) (earliest ds) false
+
+-- ---- reading
+-- deadlines that are read, and how many were read
+pub record Reading : Type 0 where
+  pub deadlines : List Deadline
+  pub reads : ℕ

@@ -7,6 +7,7 @@ use Rattle.stun_agent.proofs.ending.least_ended.Given as goal
 -- `least` is the least so far, and each entry that was read awaits at most `now`
 abbrev pub invariant-loop-i : goal.invariant-loop-i
 invariant-loop-i g l = record {
-  answer : least_ended l.now l.index ≡ fold sooner l.least (map (λ d. d.id) (filter (has_ended l.now) (drop l.i l.index)));
-  work : l.reads + early l.now (drop l.i l.index) ≤ l.initial.reads + early l.now l.index;
+  same : l.reader.deadlines ≡ l.initial.reader.deadlines;
+  answer : least_ended l.now l.initial.reader.deadlines ≡ fold sooner l.least (map (λ d. d.id) (filter (has_ended l.now) (drop l.i l.initial.reader.deadlines)));
+  work : l.reader.reads + early l.now (drop l.i l.initial.reader.deadlines) ≤ l.initial.reader.reads + early l.now l.initial.reader.deadlines;
 }

@@ -1,8 +1,8 @@
 -- The index answers as the map does.
-use Rattle.std.proofs.Common.{ℕ, ◌≡◌, ◌∙◌, ap, arith}
+use Rattle.std.proofs.Common.{◌≡◌, ◌∙◌, ap, arith}
 use Rattle.std.specs.Option.{option_map}
-use Rattle.stun_agent.specs.Transactions.{Transaction, first_over, repeats}
-use Rattle.stun_agent.specs.code.Transactions.{Outstanding}
+use Rattle.stun_agent.specs.Transactions.{first_over}
+use Rattle.stun_agent.specs.code.Transactions.{Outstanding, told_of_end}
 use Rattle.stun_agent.specs.Deadlines.{early_requests}
 use Rattle.stun_agent.specs.code.Deadlines.{early}
 use Rattle.stun_agent.proofs.DeadlineLemmas.{index_answers}
@@ -15,8 +15,8 @@ returns-clause-answer g c =
     let inside = c.self.inside in
     let ordered = c.self.invariant.ascending in
     let told = c.least_ended-ended.ensures.answer ∙ index_answers inside.transport c.args.now inside.requests.entries inside.deadlines c.self.invariant.index ordered in
-    over_whole inside.transport c.args.now inside.requests.entries c.least_ended-ended.result c.with_repeats.result ordered told c.with_repeats.ensures
-    ∙ ap (λ (o : Outstanding). option_map (λ (e : ℕ × Transaction). (e.0, repeats e.1.sending)) (first_over o.transport c.args.now o.requests)) c.self.view_is
+    over_whole inside.transport c.args.now inside.requests.entries c.least_ended-ended.result.0 c.with_repeats.result ordered told c.with_repeats.ensures
+    ∙ ap (λ (o : Outstanding). option_map told_of_end (first_over o.transport c.args.now o.requests)) c.self.view_is
 
 pub returns-clause-work : goal.returns-clause-work
 returns-clause-work g c =

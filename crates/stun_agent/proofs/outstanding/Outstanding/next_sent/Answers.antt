@@ -1,12 +1,12 @@
 -- The index tells the due ones by ascending ids, and the first that repeats is sent.
-use Rattle.std.proofs.Common.{◌≡◌, ◌<◌, ◌∙◌, ap, sym, subst, rules, ℕ}
+use Rattle.std.proofs.Common.{◌≡◌, ◌<◌, ◌∙◌, ap, sym, subst, rules, ℕ, false}
 use Rattle.std.specs.Prelude.{Some, None, ◌^◌}
 use Rattle.std.specs.Option.{option_map}
 use Rattle.stun_agent.specs.Transactions.{Transaction, at}
-use Rattle.stun_agent.specs.code.Deadlines.{least_due, AreIndexed}
+use Rattle.stun_agent.specs.code.Deadlines.{least_due, has_come, AreIndexed}
 use Rattle.stun_agent.specs.code.Transactions.{Outstanding}
 use Rattle.stun_agent.proofs.DueLemmas.{ids_end}
-use Rattle.stun_agent.proofs.LentLemmas.{found_there, silent_more, lent_is, lent_none}
+use Rattle.stun_agent.proofs.LentLemmas.{found_there, silent_more, lent_is, lent_none, none_next}
 use Rattle.stun_agent.proofs.outstanding.Outstanding.next_sent.Goals as goal
 
 pub returns-in_err-request : goal.returns-in_err-request
@@ -44,3 +44,9 @@ returns g c =
     let kept = subst (λ (o : Outstanding). AreIndexed o.transport o.requests c.self.inside.deadlines) c.self.view_is c.self.invariant in
     let found : least_due c.args.now c.loop-id.last c.self.inside.deadlines ≡ None = sym c.least_due.ensures ∙ c.in_default.is in
     sym (ap (option_map (λ (e : ℕ × Transaction). e.1)) (lent_none _ _ _ _ _ kept.ascending kept.index c.loop-id.invariant found))
+
+pub returns-then-not-has_come : goal.returns-then-not-has_come
+returns-then-not-has_come g c =
+    let kept = subst (λ (o : Outstanding). AreIndexed o.transport o.requests c.self.inside.deadlines) c.self.view_is c.self.invariant in
+    let late : has_come c.args.now c.self.inside.deadlines ≡ false = search rules in
+    sym (ap (option_map (λ (e : ℕ × Transaction). e.1)) (none_next _ c.args.now _ _ kept.ascending kept.index late))

@@ -1,4 +1,11 @@
--- The requests keep their names and their index.
+-- The requests keep their names and their index, and before the first moment nothing passes.
+use Rattle.std.proofs.Common.{ℕ, ◌≡◌, ap, sym, subst, false, rules}
+use Rattle.std.specs.Prelude.{length}
+use Rattle.std.specs.Option.{option_map}
+use Rattle.stun_agent.specs.Transactions.{Transaction}
+use Rattle.stun_agent.specs.code.Deadlines.{AreIndexed, has_come}
+use Rattle.stun_agent.specs.code.Transactions.{Outstanding}
+use Rattle.stun_agent.proofs.LentLemmas.{none_next, none_passes}
 use Rattle.stun_agent.proofs.IndexedLemmas.{indexed_slots}
 use Rattle.stun_agent.proofs.NamedLemmas.{named-found}
 use Rattle.stun_agent.proofs.outstanding.Outstanding.pass_due_slots.Goals as goal
@@ -8,3 +15,21 @@ invariant_of-self g c = indexed_slots _ _ _ _ _ c.self.invariant c.args.now _ c.
 
 pub returns-clause-request : goal.returns-clause-request
 returns-clause-request g c = rw (← c.self.view_is) (named-found _ c.self.inside.requests.entries c.self.invariant.named)
+
+pub returns-then-not-has_come-clause-sent : goal.returns-then-not-has_come-clause-sent
+returns-then-not-has_come-clause-sent g c =
+    let kept = subst (λ (o : Outstanding). AreIndexed o.transport o.requests c.self.inside.deadlines) c.self.view_is c.self.invariant in
+    let late : has_come c.args.now c.self.inside.deadlines ≡ false = search rules in
+    sym (ap (option_map (λ (e : ℕ × Transaction). (e.0, length e.1.bytes))) (none_next _ c.args.now _ _ kept.ascending kept.index late))
+
+pub returns-then-not-has_come-clause-after : goal.returns-then-not-has_come-clause-after
+returns-then-not-has_come-clause-after g c =
+    let kept = subst (λ (o : Outstanding). AreIndexed o.transport o.requests c.self.inside.deadlines) c.self.view_is c.self.invariant in
+    let late : has_come c.args.now c.self.inside.deadlines ≡ false = search rules in
+    let passes = none_passes _ c.args.now _ _ kept.ascending kept.index late in
+    ap (λ all. record { transport = c.args.self.now.transport; requests = all }) passes
+
+pub returns-then-not-has_come-clause-request : goal.returns-then-not-has_come-clause-request
+returns-then-not-has_come-clause-request g c =
+    let kept = subst (λ (o : Outstanding). AreIndexed o.transport o.requests c.self.inside.deadlines) c.self.view_is c.self.invariant in
+    named-found _ c.args.self.now.requests kept.named

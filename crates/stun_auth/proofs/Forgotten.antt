@@ -1,5 +1,5 @@
 -- What is kept of the places of all addresses, address by address.
-use Rattle.std.proofs.Common.{◌≡◌, ◌≤◌, ℕ, Bool, true, false, List, Option, Some, None, refl, sym, ◌∙◌, ap, subst, arith, ◌⊎◌, inl, inr}
+use Rattle.std.proofs.Common.{◌≡◌, ◌≤◌, ℕ, Bool, true, false, List, Option, Some, None, refl, sym, ◌∙◌, ap, subst, ◌⊎◌, inl, inr}
 use Rattle.std.specs.Prelude.{cond, nat_lt, not, ◌&&◌}
 use Rattle.std.specs.Option.{is_none, is_some, option_map, IsSome}
 use Rattle.std.specs.Cmp.{eq_by_cmp_equiv}
@@ -11,8 +11,6 @@ use Rattle.std.specs.List.Sorted.{IsStrictlySortedBy}
 use Rattle.std.proofs.lemmas.Bool.{ltb-false, le-ltb}
 use Rattle.std.proofs.lemmas.Map.Entries.{lookup-filter-values, option_filter}
 use Rattle.std.proofs.lemmas.Map.Keys.{IsDistinct-from_sorted}
-use Rattle.std.proofs.lemmas.Map.Made.{filter_same_pairs}
-use Rattle.std.specs.Map.Calls.{RetainsPairs}
 use Rattle.std.specs.declared.net.socket_addr.SocketAddr.{SocketAddr}
 use Rattle.stun_base.specs.Address.{address_cmp}
 use Rattle.stun_auth.specs.declared.places.Place.{Place}

@@ -1,10 +1,11 @@
 -- The last member of a type, step by step, and what is there where a test holds.
-use Rattle.std.proofs.Common.{◌≡◌, ℕ, List, [], ◌∷◌, Bool, true, false, Option, Some, None, refl, sym, ◌∙◌, ap}
+use Rattle.std.proofs.Common.{◌≡◌, ℕ, List, ◌∷◌, Bool, true, false, Option, Some, None, refl}
 use Rattle.std.specs.Prelude.{cond, ◌==◌, ◌||◌}
 use Rattle.std.specs.List.{find}
 use Rattle.std.specs.Option.{is_some, option_and_then, option_map, option_or}
-use Rattle.stun_base.specs.Attributes.{ERROR_CODE, NONCE, PASSWORD_ALGORITHM, PASSWORD_ALGORITHMS, REALM, USERHASH, USERNAME}
+use Rattle.stun_base.specs.Attributes.{ERROR_CODE, MESSAGE_INTEGRITY, MESSAGE_INTEGRITY_SHA256, NONCE, PASSWORD_ALGORITHM, PASSWORD_ALGORITHMS, REALM, USERHASH, USERNAME}
 use Rattle.stun_types.specs.Attribute.{TypedValue}
+use Rattle.stun_types.specs.Integrity.{first_of}
 use Rattle.stun_types.specs.Walk.{Member}
 use Rattle.stun_auth.specs.Reading.{is_integrity, last_of}
 use Rattle.stun_auth.specs.declared.reading.LastAttributes.{LastAttributes}
@@ -27,6 +28,13 @@ found-passed true m (Some other) before = refl
 found-passed false m None before = refl
 found-passed false m (Some other) before = refl
 
+-- the first of a type that was found stays it
+first-passed : (matches : Bool) (m : Member) (rest found : Option Member)
+    → option_or found (cond matches (Some m) rest) ≡ option_or (option_or found (cond matches (Some m) None)) rest
+first-passed true m rest None = refl
+first-passed false m rest None = refl
+first-passed matches m rest (Some other) = refl
+
 -- what was noted, with the members that are left: the last of each type is among them, or else was noted before
 abbrev pub noted_from : LastAttributes → List Member → LastAttributes
 noted_from last members = record {
@@ -37,6 +45,8 @@ noted_from last members = record {
   userhash = option_or (option_map (λ m. m.1) (last_of USERHASH members)) last.userhash;
   password_algorithms = option_or (option_map (λ m. m.1) (last_of PASSWORD_ALGORITHMS members)) last.password_algorithms;
   password_algorithm = option_or (option_map (λ m. m.1) (last_of PASSWORD_ALGORITHM members)) last.password_algorithm;
+  integrity = option_or last.integrity (first_of MESSAGE_INTEGRITY members);
+  integrity_sha256 = option_or last.integrity_sha256 (first_of MESSAGE_INTEGRITY_SHA256 members);
   has_integrity = is_some (find (λ m. is_integrity m.1) members) || last.has_integrity;
 }
 
@@ -44,7 +54,7 @@ passed : (kind : ℕ) (m : Member) (members : List Member) (found : Option Typed
     → option_or (option_map (λ x. x.1) (last_of kind (m ∷ members))) found ≡ option_or (option_map (λ x. x.1) (last_of kind members)) (cond (m.1.kind == kind) (Some m.1) found)
 passed kind m members found = last_of-passed (m.1.kind == kind) m (last_of kind members) found
 
-pub noted-passed : (last : LastAttributes) (m : Member) (members : List Member) → noted_from last (m ∷ members) ≡ noted_from (with_attribute last m.1) members
+pub noted-passed : (last : LastAttributes) (m : Member) (members : List Member) → noted_from last (m ∷ members) ≡ noted_from (with_attribute last m) members
 noted-passed last m members = λ i. record {
   error_code = passed ERROR_CODE m members last.error_code i;
   realm = passed REALM m members last.realm i;
@@ -53,6 +63,8 @@ noted-passed last m members = λ i. record {
   userhash = passed USERHASH m members last.userhash i;
   password_algorithms = passed PASSWORD_ALGORITHMS m members last.password_algorithms i;
   password_algorithm = passed PASSWORD_ALGORITHM m members last.password_algorithm i;
+  integrity = first-passed (m.1.kind == MESSAGE_INTEGRITY) m (first_of MESSAGE_INTEGRITY members) last.integrity i;
+  integrity_sha256 = first-passed (m.1.kind == MESSAGE_INTEGRITY_SHA256) m (first_of MESSAGE_INTEGRITY_SHA256 members) last.integrity_sha256 i;
   has_integrity = found-passed (is_integrity m.1) m (find (λ x. is_integrity x.1) members) last.has_integrity i;
 }
 
@@ -73,6 +85,8 @@ nothing_noted = record {
   userhash = None;
   password_algorithms = None;
   password_algorithm = None;
+  integrity = None;
+  integrity_sha256 = None;
   has_integrity = false;
 }
 
@@ -86,6 +100,8 @@ noted-first members = λ i. record {
   userhash = or_none (option_map (λ m. m.1) (last_of USERHASH members)) i;
   password_algorithms = or_none (option_map (λ m. m.1) (last_of PASSWORD_ALGORITHMS members)) i;
   password_algorithm = or_none (option_map (λ m. m.1) (last_of PASSWORD_ALGORITHM members)) i;
+  integrity = first_of MESSAGE_INTEGRITY members;
+  integrity_sha256 = first_of MESSAGE_INTEGRITY_SHA256 members;
   has_integrity = or_false (is_some (find (λ m. is_integrity m.1) members)) i;
 }
 

@@ -6,6 +6,7 @@ ghost use Rattle.std.specs.Prelude.{◌≡◌, Option, map};
 ghost use Rattle.std.specs.Option.{is_some, option_and_then, option_copied, option_map};
 ghost use Rattle.stun_base.specs.Attributes.{NONCE, REALM, USERNAME};
 ghost use Rattle.stun_types.specs.ErrorCode.{CodeAndReason, error_of};
+ghost use Rattle.stun_types.specs.Integrity.{stands};
 ghost use Rattle.stun_types.specs.PasswordAlgorithms.{algorithm_of, algorithms_of, integrity_of};
 ghost use Rattle.stun_types.specs.Text.{text_of};
 ghost use Rattle.stun_types.specs.Userhash.{hash_of};
@@ -16,6 +17,7 @@ ghost use Rattle.stun_auth.specs.code.LastAttributes.{last_attributes, with_attr
 ghost use Rattle.stun_auth.specs.code.ReadingSeen.{error_in, reading_seen};
 
 use std::alloc::Allocator;
+use std::marker::Model;
 use stun_base::algorithm::IntegrityAlgorithm;
 use stun_base::key::IntegrityKey;
 use stun_types::attribute::{
@@ -25,7 +27,7 @@ use stun_types::attribute::{
 use stun_types::message::{Message, MessageClass};
 use stun_types::prelude::AttributeFromRaw;
 
-/// The last visible attribute of each type that is read, and whether a well-formed integrity attribute is visible.
+/// The last visible attribute of each type that is read, and the integrity attributes, with their places.
 #[derive(Drop)]
 struct LastAttributes<'a> {
     error_code: Option<RawAttribute<'a>>,
@@ -35,6 +37,9 @@ struct LastAttributes<'a> {
     userhash: Option<RawAttribute<'a>>,
     password_algorithms: Option<RawAttribute<'a>>,
     password_algorithm: Option<RawAttribute<'a>>,
+    integrity: Option<(usize, RawAttribute<'a>)>,
+    integrity_sha256: Option<(usize, RawAttribute<'a>)>,
+    /// Whether one of these two is well formed.
     has_integrity: bool,
 }
 
@@ -51,17 +56,19 @@ impl<'a> LastAttributes<'a> {
             userhash: None,
             password_algorithms: None,
             password_algorithm: None,
+            integrity: None,
+            integrity_sha256: None,
             has_integrity: false,
         };
-        for (_, attribute) in message.iter_attributes() {
-            last.note(attribute);
+        for (place, attribute) in message.iter_attributes() {
+            last.note(place, attribute);
         }
         last
     }
 
     /// Takes one attribute more, which is then the last of its type.
-    fn note(&mut self, attribute: RawAttribute<'a>)
-        ensures { self.new ≡ with_attribute self.old attribute.entry }
+    fn note(&mut self, place: usize, attribute: RawAttribute<'a>)
+        ensures { self.new ≡ with_attribute self.old (place, attribute.entry) }
     {
         let kind = attribute.get_type();
         if kind == AttributeType::USERNAME {
@@ -78,8 +85,50 @@ impl<'a> LastAttributes<'a> {
             self.password_algorithms = Some(attribute);
         } else if kind == AttributeType::ERROR_CODE {
             self.error_code = Some(attribute);
-        } else if attribute.is_integrity() {
-            self.has_integrity = true;
+        } else if kind == AttributeType::MESSAGE_INTEGRITY {
+            self.has_integrity = self.has_integrity || attribute.is_integrity();
+            if self.integrity.is_none() {
+                self.integrity = Some((place, attribute));
+            }
+        } else if kind == AttributeType::MESSAGE_INTEGRITY_SHA256 {
+            self.has_integrity = self.has_integrity || attribute.is_integrity();
+            if self.integrity_sha256.is_none() {
+                self.integrity_sha256 = Some((place, attribute));
+            }
+        }
+    }
+}
+
+/// A message with the attribute whose digest decides, which was found as the message was read. Contracts see the message.
+#[derive(Drop)]
+struct Signature<'a, 'm> {
+    message: &'m Message<'a>,
+    decides: Option<(usize, RawAttribute<'a>)>,
+}
+
+impl<'a, 'm> Model for Signature<'a, 'm> {
+    ghost use Rattle.std.specs.Prelude.{◌≡◌, ℕ, List};
+    ghost use Rattle.stun_types.specs.Integrity.{deciding};
+
+    ghost Value = { List ℕ };
+
+    ghost view = { λ signature. signature.message.now };
+
+    ghost invariant = { λ signature. deciding signature.message.now ≡ signature.decides };
+}
+
+impl Signature<'_, '_> {
+    /// The algorithm whose digest verifies under a key.
+    fn verifies_under<A: Allocator>(&self, key: &IntegrityKey<A>) -> Option<IntegrityAlgorithm>
+        ensures { result ≡ stands self.now key.now }
+    {
+        match &self.decides {
+            Some((place, attribute)) => {
+                self.message
+                    .validate_integrity_at(*place, attribute, key)
+                    .ok()
+            }
+            None => None,
         }
     }
 }
@@ -161,7 +210,7 @@ fn algorithm(attribute: Option<RawAttribute<'_>>) -> Option<IntegrityAlgorithm>
 /// formed. It borrows the message.
 #[derive(Drop)]
 pub(crate) struct Reading<'a, 'm> {
-    message: &'m Message<'a>,
+    signature: Signature<'a, 'm>,
     class: MessageClass,
     /// The code of an error response.
     pub(crate) error: Option<u16>,
@@ -186,7 +235,10 @@ impl<'a, 'm> Reading<'a, 'm> {
         let last = LastAttributes::of(message);
         let class = message.class();
         Reading {
-            message,
+            signature: Signature {
+                message,
+                decides: last.integrity_sha256.or(last.integrity),
+            },
             class,
             error: error(class, last.error_code),
             realm: realm(last.realm),
@@ -239,6 +291,6 @@ impl<'a, 'm> Reading<'a, 'm> {
         if !self.has_integrity {
             return None;
         }
-        self.message.validate_integrity_with_key(key).ok()
+        self.signature.verifies_under(key)
     }
 }

@@ -1,5 +1,5 @@
 //! The check of a message's integrity (RFC 8489, sections 14.5, 14.6 and 9.2.4).
-ghost use Rattle.std.specs.Prelude.{◌≡◌, ◌+◌, ◌-◌, ◌^◌, ◌<◌, ◌≤◌, List, ℕ, length, IfOk, OnOk, IfErr, IfSome, Some, None, ◌==◌, ◌||◌, ◌&&◌};
+ghost use Rattle.std.specs.Prelude.{◌≡◌, ◌+◌, ◌-◌, ◌^◌, ◌<◌, ◌≤◌, List, ℕ, length, IfOk, OnOk, IfErr, OnErr, IfSome, Some, None, true, false, ◌==◌, ◌||◌, ◌&&◌, if◌then◌else◌};
 ghost use Rattle.stun_base.specs.Algorithm.{digest_length};
 ghost use Rattle.stun_base.specs.Attributes.{MESSAGE_INTEGRITY, MESSAGE_INTEGRITY_SHA256};
 ghost use Rattle.stun_base.specs.Header.{HEADER_LENGTH as header_length};
@@ -91,13 +91,26 @@ fn claimed_digest<'a>(message: &Message<'a>) -> Result<(usize, RawAttribute<'a>)
             AttributeType::MESSAGE_INTEGRITY,
         )));
     };
-    if !is_well_formed(&attribute) {
+    check_whole(&attribute)?;
+    Ok((place, attribute))
+}
+
+/// Refuses the value of an integrity attribute that is no whole digest.
+fn check_whole(attribute: &RawAttribute<'_>) -> Result<(), ValidateError>
+    ensures whole { OnOk result (length attribute.now.value ≡ digest_length (algorithm_of attribute.now)) }
+    ensures well_formed { OnOk result (is_well_formed attribute.now ≡ true) }
+    ensures not_whole { OnErr result
+        ((length attribute.now.value == digest_length (algorithm_of attribute.now)) ≡ false) }
+    ensures refused { IfErr result (λ error. error ≡ (if is_well_formed attribute.now then ValidateError.IntegrityFailed
+        else ValidateError.Parse StunParseError.InvalidAttributeData)) }
+{
+    if !is_well_formed(attribute) {
         return Err(ValidateError::Parse(StunParseError::InvalidAttributeData));
     }
-    if attribute.length() != algorithm_of(&attribute).digest_length() {
+    if attribute.length() != algorithm_of(attribute).digest_length() {
         return Err(ValidateError::IntegrityFailed);
     }
-    Ok((place, attribute))
+    Ok(())
 }
 
 /// What the length field is to hold for the digest of an attribute at this place: the message ends after it.
@@ -194,5 +207,25 @@ impl Message<'_> {
             return Err(ValidateError::IntegrityFailed);
         }
         Ok(algorithm_of(&attribute))
+    }
+
+    /// The same as `validate_integrity_with_key`, where the caller has found the attribute that decides and its place already:
+    /// no attribute is walked. It does not allocate.
+    pub fn validate_integrity_at<A: Allocator>(
+        &self,
+        place: usize,
+        attribute: &RawAttribute<'_>,
+        key: &IntegrityKey<A>,
+    ) -> Result<IntegrityAlgorithm, ValidateError>
+        requires { deciding self.now ≡ Some (place, attribute.now) }
+        ensures ok { IfOk result (λ algorithm. stands self.now key.now ≡ Some algorithm) }
+        ensures refused { IfErr result (λ error.
+            (stands self.now key.now ≡ None) × (error ≡ integrity_refusal self.now)) }
+    {
+        check_whole(attribute)?;
+        if !is_digest(self.as_bytes(), key.as_bytes(), place, attribute) {
+            return Err(ValidateError::IntegrityFailed);
+        }
+        Ok(algorithm_of(attribute))
     }
 }

@@ -1,9 +1,9 @@
 -- The last attribute of each type that is read of a message.
-use Rattle.std.specs.Prelude.{◌==◌, ◌||◌, if◌then◌else◌, List, Option, Some}
+use Rattle.std.specs.Prelude.{◌==◌, ◌||◌, if◌then◌else◌, List, Some, None}
 use Rattle.std.specs.List.{find}
-use Rattle.std.specs.Option.{is_some, option_map}
-use Rattle.stun_base.specs.Attributes.{ERROR_CODE, NONCE, PASSWORD_ALGORITHM, PASSWORD_ALGORITHMS, REALM, USERHASH, USERNAME}
-use Rattle.stun_types.specs.Attribute.{TypedValue}
+use Rattle.std.specs.Option.{is_some, option_map, option_or}
+use Rattle.stun_base.specs.Attributes.{ERROR_CODE, MESSAGE_INTEGRITY, MESSAGE_INTEGRITY_SHA256, NONCE, PASSWORD_ALGORITHM, PASSWORD_ALGORITHMS, REALM, USERHASH, USERNAME}
+use Rattle.stun_types.specs.Integrity.{first_of}
 use Rattle.stun_types.specs.Walk.{Member}
 use Rattle.stun_auth.specs.Reading.{is_integrity, last_of}
 use Rattle.stun_auth.specs.declared.reading.LastAttributes.{LastAttributes}
@@ -18,18 +18,22 @@ last_attributes members = record {
   userhash = option_map (λ m. m.1) (last_of USERHASH members);
   password_algorithms = option_map (λ m. m.1) (last_of PASSWORD_ALGORITHMS members);
   password_algorithm = option_map (λ m. m.1) (last_of PASSWORD_ALGORITHM members);
+  integrity = first_of MESSAGE_INTEGRITY members;
+  integrity_sha256 = first_of MESSAGE_INTEGRITY_SHA256 members;
   has_integrity = is_some (find (λ m. is_integrity m.1) members);
 }
 
--- with one attribute more, which is the last of its type
-abbrev pub with_attribute : LastAttributes → TypedValue → LastAttributes
-with_attribute last a = record {
-  error_code = if a.kind == ERROR_CODE then Some a else last.error_code;
-  realm = if a.kind == REALM then Some a else last.realm;
-  nonce = if a.kind == NONCE then Some a else last.nonce;
-  username = if a.kind == USERNAME then Some a else last.username;
-  userhash = if a.kind == USERHASH then Some a else last.userhash;
-  password_algorithms = if a.kind == PASSWORD_ALGORITHMS then Some a else last.password_algorithms;
-  password_algorithm = if a.kind == PASSWORD_ALGORITHM then Some a else last.password_algorithm;
-  has_integrity = is_integrity a || last.has_integrity;
+-- with one attribute more, which is the last of its type; of the integrity attributes the first of its type is kept
+abbrev pub with_attribute : LastAttributes → Member → LastAttributes
+with_attribute last m = record {
+  error_code = if m.1.kind == ERROR_CODE then Some m.1 else last.error_code;
+  realm = if m.1.kind == REALM then Some m.1 else last.realm;
+  nonce = if m.1.kind == NONCE then Some m.1 else last.nonce;
+  username = if m.1.kind == USERNAME then Some m.1 else last.username;
+  userhash = if m.1.kind == USERHASH then Some m.1 else last.userhash;
+  password_algorithms = if m.1.kind == PASSWORD_ALGORITHMS then Some m.1 else last.password_algorithms;
+  password_algorithm = if m.1.kind == PASSWORD_ALGORITHM then Some m.1 else last.password_algorithm;
+  integrity = option_or last.integrity (if m.1.kind == MESSAGE_INTEGRITY then Some m else None);
+  integrity_sha256 = option_or last.integrity_sha256 (if m.1.kind == MESSAGE_INTEGRITY_SHA256 then Some m else None);
+  has_integrity = is_integrity m.1 || last.has_integrity;
 }

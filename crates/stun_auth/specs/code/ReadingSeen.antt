@@ -20,7 +20,7 @@ reading_seen r = record {
   userhash = r.userhash;
   algorithms = option_map (map integrity_of) r.algorithms;
   algorithm = r.algorithm;
-  integrity = if r.has_integrity then Some (stands r.message.now) else None;
+  integrity = if r.has_integrity then Some (stands r.signature) else None;
 }
 
 -- the code that the last ERROR-CODE of a message of a class tells

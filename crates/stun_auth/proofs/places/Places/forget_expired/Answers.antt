@@ -1,5 +1,5 @@
 -- What `retain` leaves are the entries that are not forgotten.
-use Rattle.std.proofs.Common.{List, ◌∙◌, ap, rules, refl}
+use Rattle.std.proofs.Common.{List, ◌∙◌, ap, rules}
 use Rattle.std.specs.Prelude.{not}
 use Rattle.std.specs.declared.net.socket_addr.SocketAddr.{SocketAddr}
 use Rattle.std.proofs.lemmas.Map.Made.{filter_same_pairs}

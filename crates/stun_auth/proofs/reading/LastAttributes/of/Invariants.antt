@@ -5,5 +5,5 @@ use Rattle.stun_auth.specs.code.LastAttributes.{last_attributes}
 use Rattle.stun_auth.proofs.ReadingLemmas.{noted_from}
 use Rattle.stun_auth.proofs.reading.LastAttributes.of.Given as goal
 
-abbrev pub invariant-loop-attribute : goal.invariant-loop-attribute
-invariant-loop-attribute l = noted_from l.last l.attribute-iterator ≡ last_attributes (visible l.message)
+abbrev pub invariant-loop-place : goal.invariant-loop-place
+invariant-loop-place l = noted_from l.last l.place-iterator ≡ last_attributes (visible l.message)

@@ -1,5 +1,5 @@
 -- Each field is what the last attribute of its type reads as.
-use Rattle.std.proofs.Common.{◌≡◌, ℕ, Option, Some, None, map, sym, ◌∙◌, ap}
+use Rattle.std.proofs.Common.{ℕ, Option, Some, None, map, ◌∙◌, ap}
 use Rattle.std.specs.Prelude.{cond}
 use Rattle.std.specs.Option.{option_and_then, option_map}
 use Rattle.stun_base.specs.Attributes.{ERROR_CODE, NONCE, PASSWORD_ALGORITHM, PASSWORD_ALGORITHMS, REALM, USERHASH, USERNAME}

@@ -302,31 +302,7 @@ fn requests_among_other_calls(rt: HostRuntime) -> Result<(), Fail> {
     Ok(())
 }
 
-/// The steps that come after a moment.
-fn after<A: Allocator + Copy>(
-    steps: &[AgentStep<A>],
-    moment: Instant,
-) -> Result<&[AgentStep<A>], Fail> {
-    for (place, step) in steps.iter().enumerate() {
-        if moment < moment_of(step) {
-            return Ok(steps.get(place..).ok_or("a place among them")?);
-        }
-    }
-    Ok(&[])
-}
-
-fn moment_of<A: Allocator + Copy>(step: &AgentStep<A>) -> Instant {
-    match step {
-        AgentStep::Transmitted { at, .. } => *at,
-        AgentStep::Sent { at, .. } => *at,
-        AgentStep::Received { at, .. } => *at,
-        AgentStep::Refused { at, .. } => *at,
-        AgentStep::TimedOut { at, .. } => *at,
-        AgentStep::Cancelled { at, .. } => *at,
-    }
-}
-
-/// After want of memory the run goes on from the first event that is not complete: the steps past its moment are those of the whole run.
+/// After a failed allocation the rest of the events makes the rest of the run: its steps are the last of the whole run.
 fn expect_rest<A: Allocator + Copy>(
     rt: &impl Abort,
     alloc: A,
@@ -336,9 +312,10 @@ fn expect_rest<A: Allocator + Copy>(
     whole: &[AgentStep<A>],
 ) -> Result<(), Fail> {
     let rest = events.get(stopped.done..).ok_or("no more than all")?;
-    let (moment, _) = rest.first().ok_or("the last event takes the last turns")?;
     let steps = driven(alloc, agent, rest, at(MIXED_END))?;
-    assert!(rt; after(steps.as_slice(), *moment)? == after(whole, *moment)?);
+    let lost = whole.len().saturating_sub(steps.len());
+    let last = whole.get(lost..).ok_or("a place among them")?;
+    assert!(rt; steps.as_slice() == last);
     assert!(rt; agent.next_awaited().is_none());
     Ok(())
 }
@@ -357,6 +334,7 @@ fn refuse_one<A: Allocator + Copy>(
     let first = run(heap, &mut agent, events, at(MIXED_END))?;
     let met_none = heap.met_none();
     expect_run(rt, heap, &mut agent, events, first, whole.as_slice())?;
+    assert_eq!(rt; agent.stats(), other.stats());
     Ok(met_none)
 }
 
@@ -376,7 +354,7 @@ fn expect_run<A: Allocator + Copy>(
 }
 
 #[test]
-fn a_run_goes_on_after_want_of_memory(rt: HostRuntime) -> Result<(), Fail> {
+fn a_run_goes_on_after_a_failed_allocation(rt: HostRuntime) -> Result<(), Fail> {
     let events = mixed_events(rt.alloc())?;
     let heap = RefusingAllocator::new(rt.alloc());
     heap.each_refusal(|nth| refuse_one(&rt, &heap, nth, events.as_slice()))

@@ -38,8 +38,8 @@ pub mod Run
 pub mod Examples
 -- what holds of all runs: each list of events has one and no other, and each request keeps its plan
 pub mod RunLaws
--- a run that is broken off
-pub mod Begun
+-- a run that stops because an allocation failed
+pub mod Stopped
 -- a call of a server as a value: what its equality compares, and what is shown of it
 pub mod CallValues
 -- words that are handed in, as a source of random words

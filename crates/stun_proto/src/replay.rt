@@ -8,6 +8,7 @@ mod judging;
 mod negotiation;
 mod serving;
 mod signing;
+mod step_log;
 mod turn;
 mod words;
 

@@ -1,61 +1,63 @@
 -- One call of a turn, with the step that it adds.
-use Rattle.std.specs.Prelude.{ℕ, ◌≡◌, ◌+◌, ◌≤◌, Bool, true, false, List, [], ◌∷◌, ◌++◌, Option, Some, None, ◌<◌, ◌⊎◌}
+use Rattle.std.specs.Prelude.{ℕ, ◌≡◌, ◌+◌, ◌≤◌, Bool, true, false, if◌then◌else◌, List, [], ◌∷◌, ◌++◌, length, Option, Some, None, ◌<◌, ◌⊎◌}
 use Rattle.stun_agent.specs.Agent.{Agent, sent_by_poll, after_poll_transmit, ended_by_poll, after_poll}
 use Rattle.stun_agent.specs.Transactions.{Transaction, wake_up}
 use Rattle.stun_proto.specs.code.Work.{work, IsIdle}
 use Rattle.stun_base.specs.Moments.{last_moment}
 use Rattle.stun_proto.specs.declared.replay.event.AgentEvent.{AgentEvent}
-use Rattle.stun_proto.specs.Steps.{Step}
-use Rattle.stun_proto.specs.Begun.{TurnBegins, TurnsBegin, RunBegins}
+use Rattle.stun_proto.specs.declared.replay.step_log.StepLog.{StepLog}
+use Rattle.stun_proto.specs.Steps.{Step, steps_of}
 use Rattle.stun_proto.specs.Run.{transmitted, ended, Phase, sending, ending, Turn, Turns, Run, IsAwaited, after_event, steps_of_event}
 
+-- the steps of a log, unless they are lost
+abbrev pub kept : {A : Type 0} → StepLog A → Option (List Step)
+kept log = if log.is_lost then None else Some (steps_of log.steps.items)
+
+-- the steps before and these: all of them, or they are lost
+abbrev pub Keeps : Option (List Step) → List Step → Option (List Step) → Type 0
+Keeps before steps None = Unit {0}
+Keeps None steps (Some after) = ⊥
+Keeps (Some before) steps (Some after) = after ≡ before ++ steps
+
 -- a transmission, if one is due
-abbrev pub SendsOne : ℕ → Agent → Agent → List Step → List Step → Bool → Type 0
+abbrev pub SendsOne : ℕ → Agent → Agent → Option (List Step) → Option (List Step) → Bool → Type 0
 SendsOne now old new before after true =
-    (e : ℕ × Transaction) × (sent_by_poll now old ≡ Some e) × (new ≡ after_poll_transmit now old) × (after ≡ before ++ transmitted now e ∷ [])
+    (e : ℕ × Transaction) × (sent_by_poll now old ≡ Some e) × (new ≡ after_poll_transmit now old) × Keeps before (transmitted now e ∷ []) after
 SendsOne now old new before after false = (sent_by_poll now old ≡ None) × (new ≡ after_poll_transmit now old) × (after ≡ before)
 
 -- an end, if one is due, and else the moment to wait until
-abbrev pub EndsOne : ℕ → Agent → Agent → List Step → List Step → Option ℕ → Type 0
+abbrev pub EndsOne : ℕ → Agent → Agent → Option (List Step) → Option (List Step) → Option ℕ → Type 0
 EndsOne now old new before after None =
-    (e : ℕ × Transaction) × (ended_by_poll now old ≡ Some e) × (new ≡ after_poll now old) × (after ≡ before ++ ended now e ∷ [])
+    (e : ℕ × Transaction) × (ended_by_poll now old ≡ Some e) × (new ≡ after_poll now old) × Keeps before (ended now e ∷ []) after
 EndsOne now old new before after (Some moment) =
     (ended_by_poll now old ≡ None) × (moment ≡ wake_up old.transport now old.transactions) × (new ≡ old) × (after ≡ before)
 
--- what the agent is after a call whose step was not kept
-abbrev pub HasSent : ℕ → Agent → Agent → Type 0
-HasSent now old new = (e : ℕ × Transaction) × (sent_by_poll now old ≡ Some e) × (new ≡ after_poll_transmit now old)
-
-abbrev pub HasEnded : ℕ → Agent → Agent → Type 0
-HasEnded now old new = (e : ℕ × Transaction) × (ended_by_poll now old ≡ Some e) × (new ≡ after_poll now old)
-
 -- some calls of a turn were made, and added their steps: the turn goes on from `new` in phase q
-pub record Leads (now : ℕ) (p q : Phase) (old new : Agent) (before after : List Step) : Type 0 where
+pub record Leads (now : ℕ) (p q : Phase) (old new : Agent) (before after : Option (List Step)) : Type 0 where
   pub steps : List Step
-  pub added : after ≡ before ++ steps
+  pub added : Keeps before steps after
   pub goes_on : (more : List Step) (b : Agent) → Turn now q new more b → Turn now p old (steps ++ more) b
-  pub reaches : (b : Agent) → TurnBegins now q new b → TurnBegins now p old b
 
 -- less is left to do
 abbrev pub HasWorked : Agent → Agent → Type 0
 HasWorked old new = work new.transport new.transactions < work old.transport old.transactions
 
 -- all transmissions of a moment
-pub record SendsAll (now : ℕ) (old new : Agent) (before after : List Step) : Type 0 where
+pub record SendsAll (now : ℕ) (old new : Agent) (before after : Option (List Step)) : Type 0 where
   pub leads : Leads now sending ending old new before after
   pub progress : HasWorked old new ⊎ ((new ≡ old) × IsIdle new.transport now new.transactions)
 
 -- all ends of a moment, and the moment to wait until
-pub record EndsAll (now : ℕ) (old new : Agent) (before after : List Step) (wait : ℕ) : Type 0 where
+pub record EndsAll (now : ℕ) (old new : Agent) (before after : Option (List Step)) (wait : ℕ) : Type 0 where
   pub leads : Leads now ending ending old new before after
   pub progress : HasWorked old new ⊎ (new ≡ old)
   pub settled : ended_by_poll now new ≡ None
   pub waits : wait ≡ wake_up new.transport now new.transactions
 
 -- a whole turn
-pub record TakesTurn (now : ℕ) (old new : Agent) (before after : List Step) : Type 0 where
+pub record TakesTurn (now : ℕ) (old new : Agent) (before after : Option (List Step)) : Type 0 where
   pub steps : List Step
-  pub added : after ≡ before ++ steps
+  pub added : Keeps before steps after
   pub turned : Turn now sending old steps new
 
 -- no moment below this one is awaited any more, or it is past the last moment
@@ -63,35 +65,38 @@ abbrev pub HasPassed : ℕ → Agent → Type 0
 HasPassed from a = (last_moment < from) ⊎ ((moment : ℕ) → IsAwaited a moment → from ≤ moment)
 
 -- the turns at awaited moments
-pub record TakesTurns (bound from : ℕ) (old new : Agent) (before after : List Step) : Type 0 where
+pub record TakesTurns (bound from : ℕ) (old new : Agent) (before after : Option (List Step)) : Type 0 where
   pub steps : List Step
-  pub added : after ≡ before ++ steps
+  pub added : Keeps before steps after
   pub turned : Turns bound from old steps new
 
 -- some of these turns were taken, and added their steps
-pub record TurnsLead (bound from at : ℕ) (old new : Agent) (before after : List Step) : Type 0 where
+pub record TurnsLead (bound from at : ℕ) (old new : Agent) (before after : Option (List Step)) : Type 0 where
   pub steps : List Step
-  pub added : after ≡ before ++ steps
+  pub added : Keeps before steps after
   pub goes_on : (more : List Step) (b : Agent) → Turns bound at new more b → Turns bound from old (steps ++ more) b
-  pub reaches : (b : Agent) → TurnsBegin bound at new b → TurnsBegin bound from old b
   pub passed : HasPassed at new
 
 -- an event
-pub record TakesEvent (moment : ℕ) (event : AgentEvent) (old new : Agent) (before after : List Step) : Type 0 where
+pub record TakesEvent (moment : ℕ) (event : AgentEvent) (old new : Agent) (before after : Option (List Step)) : Type 0 where
   pub changed : new ≡ after_event moment event old
-  pub added : after ≡ before ++ steps_of_event moment event old
+  pub added : Keeps before (steps_of_event moment event old) after
 
 -- the turns before an event, the event, and the turn at its moment
-pub record TakesWhole (from moment : ℕ) (event : AgentEvent) (old new : Agent) (before after : List Step) : Type 0 where
+pub record TakesWhole (from moment : ℕ) (event : AgentEvent) (old new : Agent) (before after : Option (List Step)) : Type 0 where
   pub between : Agent
   pub earlier : List Step
   pub later : List Step
-  pub added : after ≡ before ++ (earlier ++ (steps_of_event moment event between ++ later))
+  pub added : Keeps before (earlier ++ (steps_of_event moment event between ++ later)) after
   pub turned : Turns moment from old earlier between
   pub turned_then : Turn moment sending (after_event moment event between) later new
 
--- the first `done` events of a run were taken, with these steps, and the others are left
-pub record RunLeads (bound : ℕ) (old : Agent) (events : List (ℕ × AgentEvent)) (done from : ℕ) (new : Agent) (left : List (ℕ × AgentEvent)) (steps : List Step) : Type 0 where
-  pub goes_on : (more : List Step) (b : Agent) → Run bound from new left more b → Run bound 0 old events (steps ++ more) b
-  pub reaches : (count : ℕ) (b : Agent) → RunBegins bound count from new left b → RunBegins bound (done + count) 0 old events b
+-- the first `done` events of a run were taken, and the others are left
+pub record RunLeads (old : Agent) (events : List (ℕ × AgentEvent)) (done from : ℕ) (new : Agent) (left : List (ℕ × AgentEvent)) (after : Option (List Step)) : Type 0 where
+  pub complete : List (ℕ × AgentEvent)
+  pub steps : List Step
+  pub divided : events ≡ complete ++ left
+  pub counted : length complete ≡ done
+  pub added : Keeps (Some []) steps after
+  pub goes_on : (bound : ℕ) (later : List (ℕ × AgentEvent)) (more : List Step) (b : Agent) → Run bound from new later more b → Run bound 0 old (complete ++ later) (steps ++ more) b
   pub passed : HasPassed from new

@@ -1,15 +1,16 @@
 //! Driven runs: the events at their moments, and a turn at each moment that a request awaits.
-ghost use Rattle.std.specs.Prelude.{◌≡◌, ◌+◌, IfOk, IfErr, OnOk, OnErr};
-ghost use Rattle.stun_proto.specs.Begun.{TurnsBegin, EventBegins, HasBegun};
-ghost use Rattle.stun_proto.specs.code.Calls.{HasPassed, TakesTurns, TakesWhole};
+ghost use Rattle.std.specs.Prelude.{ℕ, ◌≡◌, ◌+◌, List, IfOk, IfErr, OnOk, OnErr};
+ghost use Rattle.stun_proto.specs.code.Calls.{kept, HasPassed, TakesTurns, TakesWhole};
 ghost use Rattle.stun_proto.specs.Headline.{SendsByPlan};
-ghost use Rattle.stun_proto.specs.Run.{IsDriven};
+ghost use Rattle.stun_proto.specs.Run.{IsDriven, Turns};
 ghost use Rattle.stun_proto.specs.RunLaws.{KeepPlans};
 ghost use Rattle.stun_proto.specs.Schedule.{AreInOrder};
-ghost use Rattle.stun_proto.specs.Steps.{steps_of};
+ghost use Rattle.stun_proto.specs.Steps.{Step, steps_of};
+ghost use Rattle.stun_proto.specs.Stopped.{HasStopped};
 
 use crate::replay::apply::apply;
 use crate::replay::event::{AgentEvent, AgentStep, Stopped};
+use crate::replay::step_log::StepLog;
 use crate::replay::turn::turn;
 use std::alloc::{AllocError, Allocator};
 use stun_agent::agent::StunAgent;
@@ -31,10 +32,10 @@ use stun_base::instant::Instant;
 /// out once (RFC 8489, section 6.2.1), whatever responses other addresses send. The clause `headline` says so, and
 /// the clause `plans` says it for ids that come again.
 ///
-/// Where an allocation fails the answer is `Stopped`, and the steps are lost. The agent then stands after some calls
-/// of the run: at least the first `done` events are complete with their turns, and event `done` may have happened
-/// too, with none, some or all of its turn. So whoever goes on from there first looks whether event `done` is still
-/// to come.
+/// Where an allocation fails the answer is `Stopped`, and the steps are lost. The agent is then exactly the one after
+/// the first `done` events, with the turns at their moments and before the next one (where none is left, up to
+/// `until`). Event `done` has not come. So `drive` with the events from `done` on makes the rest of the run: no
+/// event comes twice, and none is left out.
 pub fn drive<A: Allocator + Copy>(
     alloc: A,
     agent: &mut StunAgent<A>,
@@ -45,18 +46,18 @@ pub fn drive<A: Allocator + Copy>(
     ensures run { IfOk result (λ steps. IsDriven until agent.old events.now (steps_of steps.items) agent.new) }
     ensures headline { IfOk result (λ steps. SendsByPlan until agent.old events.now (steps_of steps.items)) }
     ensures plans { IfOk result (λ steps. KeepPlans until agent.old events.now (steps_of steps.items)) }
-    ensures stopped { IfErr result (λ stopped. HasBegun until stopped.done agent.old events.now agent.new) }
+    ensures stopped { IfErr result (λ stopped. HasStopped until stopped.done agent.old events.now agent.new) }
 {
-    // For the proof: its clause `kept` says that ids ascend, and each request stands under its own.
+    // For the proof: its clause `kept` says that ids ascend, and each request is kept under its own.
     let _awaited = agent.next_awaited();
-    let mut steps = Vec::new(alloc);
+    let mut log = StepLog::new(alloc);
     if events.is_empty() {
-        return Ok(steps);
+        return Ok(log.steps);
     }
     let mut from = 0;
     let mut done = 0;
     for (moment, event) in events {
-        match take_event(alloc, agent, from, *moment, event, &mut steps) {
+        match take_event(alloc, agent, from, *moment, event, &mut log) {
             Ok(()) => {}
             Err(_refused) => return Err(Stopped { done }),
         }
@@ -64,29 +65,33 @@ pub fn drive<A: Allocator + Copy>(
         done += 1;
     }
     let bound = until.as_nanos() as u128 + 1;
-    match turns(alloc, agent, from, bound, &mut steps) {
-        Ok(()) => Ok(steps),
-        Err(_refused) => Err(Stopped { done }),
+    turns(alloc, agent, from, bound, &mut log);
+    if log.is_lost {
+        return Err(Stopped { done });
     }
+    Ok(log.steps)
 }
 
-// The turns before an event, the event, and the turn at its moment.
+// The turns before an event, the event, and the turn at its moment. After an error the event has not come.
 fn take_event<A: Allocator + Copy>(
     alloc: A,
     agent: &mut StunAgent<A>,
     from: u128,
     now: Instant,
     event: &AgentEvent,
-    steps: &mut Vec<AgentStep<A>, A>,
+    log: &mut StepLog<A>,
 ) -> Result<(), AllocError>
     requires { HasPassed from agent.old }
-    ensures whole { OnOk result (TakesWhole from now event.now agent.old agent.new (steps_of steps.old.items) (steps_of steps.new.items)) }
+    ensures whole { OnOk result (TakesWhole from now event.now agent.old agent.new (kept log.old) (kept log.new)) }
     ensures passed { OnOk result (HasPassed (now + 1) agent.new) }
-    ensures broken { OnErr result (EventBegins from now event.now agent.old agent.new) }
+    ensures broken { OnErr result ((lost : List Step) × Turns now from agent.old lost agent.new) }
 {
-    turns(alloc, agent, from, now.as_nanos() as u128, steps)?;
-    apply(alloc, agent, now, event, steps)?;
-    turn(alloc, agent, now, steps)?;
+    turns(alloc, agent, from, now.as_nanos() as u128, log);
+    if log.is_lost {
+        return Err(AllocError);
+    }
+    apply(alloc, agent, now, event, log)?;
+    turn(alloc, agent, now, log);
     Ok(())
 }
 
@@ -96,25 +101,24 @@ fn turns<A: Allocator + Copy>(
     agent: &mut StunAgent<A>,
     from: u128,
     bound: u128,
-    steps: &mut Vec<AgentStep<A>, A>,
-) -> Result<(), AllocError>
+    log: &mut StepLog<A>,
+)
     requires { HasPassed from agent.old }
-    ensures whole { OnOk result (TakesTurns bound from agent.old agent.new (steps_of steps.old.items) (steps_of steps.new.items)) }
-    ensures broken { OnErr result (TurnsBegin bound from agent.old agent.new) }
+    ensures { TakesTurns bound from agent.old agent.new (kept log.old) (kept log.new) }
 {
     let mut from = from;
     loop {
         let Some(moment) = agent.next_awaited() else {
-            return Ok(());
+            return;
         };
         let nanos = moment.as_nanos() as u128;
         if nanos < from {
-            return Ok(());
+            return;
         }
         if bound <= nanos {
-            return Ok(());
+            return;
         }
-        turn(alloc, agent, moment, steps)?;
+        turn(alloc, agent, moment, log);
         from = nanos + 1;
     }
 }

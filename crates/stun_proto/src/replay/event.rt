@@ -113,6 +113,6 @@ pub enum AgentStep<A: Allocator = Global> {
 #[derive(Clone, Copy, PartialEq, Eq, Debug, Error)]
 #[error("out of memory, {done} of them complete")]
 pub struct Stopped {
-    /// How many of the events or calls are complete: of a driven run at least so many, of a served list exactly.
+    /// How many of the events or calls are complete. Whoever goes on begins at this index.
     pub done: usize,
 }

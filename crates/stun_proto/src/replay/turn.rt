@@ -1,12 +1,11 @@
 //! One turn of a run: what is due at a moment is sent, and what is over ends.
-ghost use Rattle.std.specs.Prelude.{◌≡◌, ◌++◌, ◌∷◌, [], IfOk, OnOk, OnErr};
+ghost use Rattle.std.specs.Prelude.{◌≡◌, IfOk};
 ghost use Rattle.stun_base.specs.Header.{BeginsWithHeader, transaction_id_field};
-ghost use Rattle.stun_proto.specs.Begun.{TurnBegins};
-ghost use Rattle.stun_proto.specs.code.Calls.{SendsOne, EndsOne, HasSent, HasEnded, SendsAll, EndsAll, TakesTurn};
-ghost use Rattle.stun_proto.specs.Run.{sending, ending};
-ghost use Rattle.stun_proto.specs.Steps.{Transmitted, step_of, steps_of};
+ghost use Rattle.stun_proto.specs.code.Calls.{kept, SendsOne, EndsOne, SendsAll, EndsAll, TakesTurn};
+ghost use Rattle.stun_proto.specs.Steps.{Transmitted, step_of};
 
 use crate::replay::event::AgentStep;
+use crate::replay::step_log::StepLog;
 use std::alloc::{AllocError, Allocator};
 use std::net::SocketAddr;
 use stun_agent::agent::{StunAgent, StunAgentPollRet};
@@ -14,24 +13,23 @@ use stun_base::header::MessageHeader;
 use stun_base::instant::Instant;
 
 /// One turn at a moment: what is due is sent, what is over ends, and again while the moment to wait until is this
-/// one. At the last moment there is one turn.
+/// one. At the last moment there is one turn. The agent's calls allocate nothing, so a turn is always whole.
 pub(crate) fn turn<A: Allocator + Copy>(
     alloc: A,
     agent: &mut StunAgent<A>,
     now: Instant,
-    steps: &mut Vec<AgentStep<A>, A>,
-) -> Result<(), AllocError>
-    ensures whole { OnOk result (TakesTurn now agent.old agent.new (steps_of steps.old.items) (steps_of steps.new.items)) }
-    ensures broken { OnErr result (TurnBegins now sending agent.old agent.new) }
+    log: &mut StepLog<A>,
+)
+    ensures { TakesTurn now agent.old agent.new (kept log.old) (kept log.new) }
 {
     loop {
-        send_all(alloc, agent, now, steps)?;
-        let wait = end_all(agent, now, steps)?;
+        send_all(alloc, agent, now, log);
+        let wait = end_all(agent, now, log);
         if now.as_nanos() < wait.as_nanos() {
-            return Ok(());
+            return;
         }
         if now.as_nanos() == u64::MAX {
-            return Ok(());
+            return;
         }
     }
 }
@@ -41,14 +39,13 @@ fn send_all<A: Allocator + Copy>(
     alloc: A,
     agent: &mut StunAgent<A>,
     now: Instant,
-    steps: &mut Vec<AgentStep<A>, A>,
-) -> Result<(), AllocError>
-    ensures all { OnOk result (SendsAll now agent.old agent.new (steps_of steps.old.items) (steps_of steps.new.items)) }
-    ensures broken { OnErr result (TurnBegins now sending agent.old agent.new) }
+    log: &mut StepLog<A>,
+)
+    ensures { SendsAll now agent.old agent.new (kept log.old) (kept log.new) }
 {
     loop {
-        if !send_one(alloc, agent, now, steps)? {
-            return Ok(());
+        if !send_one(alloc, agent, now, log) {
+            return;
         }
     }
 }
@@ -57,14 +54,13 @@ fn send_all<A: Allocator + Copy>(
 fn end_all<A: Allocator + Copy>(
     agent: &mut StunAgent<A>,
     now: Instant,
-    steps: &mut Vec<AgentStep<A>, A>,
-) -> Result<Instant, AllocError>
-    ensures all { IfOk result (λ wait. EndsAll now agent.old agent.new (steps_of steps.old.items) (steps_of steps.new.items) wait) }
-    ensures broken { OnErr result (TurnBegins now ending agent.old agent.new) }
+    log: &mut StepLog<A>,
+) -> Instant
+    ensures { EndsAll now agent.old agent.new (kept log.old) (kept log.new) result }
 {
     loop {
-        match end_one(agent, now, steps)? {
-            Some(moment) => return Ok(moment),
+        match end_one(agent, now, log) {
+            Some(moment) => return moment,
             None => {}
         }
     }
@@ -75,38 +71,36 @@ fn send_one<A: Allocator + Copy>(
     alloc: A,
     agent: &mut StunAgent<A>,
     now: Instant,
-    steps: &mut Vec<AgentStep<A>, A>,
-) -> Result<bool, AllocError>
-    ensures one { IfOk result (λ sent. SendsOne now agent.old agent.new (steps_of steps.old.items) (steps_of steps.new.items) sent) }
-    ensures broken { OnErr result (HasSent now agent.old agent.new) }
+    log: &mut StepLog<A>,
+) -> bool
+    ensures { SendsOne now agent.old agent.new (kept log.old) (kept log.new) result }
 {
     let step = match agent.poll_transmit(now) {
-        Some(transmit) => transmitted(alloc, now, transmit.to, transmit.data)?,
-        None => return Ok(false),
+        Some(transmit) => transmitted(alloc, now, transmit.to, transmit.data),
+        None => return false,
     };
-    add(steps, step)?;
-    Ok(true)
+    log.add(step);
+    true
 }
 
 // One call of `poll`, and its step. The answer is the moment to wait until, where nothing ended.
 fn end_one<A: Allocator + Copy>(
     agent: &mut StunAgent<A>,
     now: Instant,
-    steps: &mut Vec<AgentStep<A>, A>,
-) -> Result<Option<Instant>, AllocError>
-    ensures one { IfOk result (λ wait. EndsOne now agent.old agent.new (steps_of steps.old.items) (steps_of steps.new.items) wait) }
-    ensures broken { OnErr result (HasEnded now agent.old agent.new) }
+    log: &mut StepLog<A>,
+) -> Option<Instant>
+    ensures { EndsOne now agent.old agent.new (kept log.old) (kept log.new) result }
 {
     match agent.poll(now) {
         StunAgentPollRet::TransactionTimedOut(id) => {
-            add(steps, AgentStep::TimedOut { at: now, id })?;
-            Ok(None)
+            log.add(Ok(AgentStep::TimedOut { at: now, id }));
+            None
         }
         StunAgentPollRet::TransactionCancelled(id) => {
-            add(steps, AgentStep::Cancelled { at: now, id })?;
-            Ok(None)
+            log.add(Ok(AgentStep::Cancelled { at: now, id }));
+            None
         }
-        StunAgentPollRet::WaitUntil(moment) => Ok(Some(moment)),
+        StunAgentPollRet::WaitUntil(moment) => Some(moment),
     }
 }
 
@@ -128,15 +122,4 @@ pub(crate) fn transmitted<A: Allocator>(
         to,
         bytes,
     })
-}
-
-/// A step more.
-pub(crate) fn add<A: Allocator>(
-    steps: &mut Vec<AgentStep<A>, A>,
-    step: AgentStep<A>,
-) -> Result<(), AllocError>
-    ensures { OnOk result (steps_of steps.new.items ≡ steps_of steps.old.items ++ step_of step ∷ []) }
-{
-    steps.push(step)?;
-    Ok(())
 }

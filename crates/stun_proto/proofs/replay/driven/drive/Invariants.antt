@@ -1,11 +1,10 @@
 use Rattle.std.proofs.Common.{◌≡◌, ◌+◌, drop}
-use Rattle.stun_proto.specs.Steps.{steps_of}
-use Rattle.stun_proto.specs.code.Calls.{RunLeads}
+use Rattle.stun_proto.specs.code.Calls.{RunLeads, kept}
 use Rattle.stun_proto.proofs.replay.driven.drive.Given as goal
 
 -- the run goes on with the events that are left
 abbrev pub invariant-loop-moment : goal.invariant-loop-moment
 invariant-loop-moment g l = record {
   counted : l.done ≡ l.moment-index;
-  leads : RunLeads (l.until + 1) l.initial.agent l.events l.done l.from l.agent (drop l.moment-index l.events) (steps_of l.steps.items);
+  leads : RunLeads l.initial.agent l.events l.done l.from l.agent (drop l.moment-index l.events) (kept l.log);
 }

@@ -1,5 +1,4 @@
-use Rattle.stun_proto.specs.Steps.{steps_of}
-use Rattle.stun_proto.specs.code.Calls.{Leads}
+use Rattle.stun_proto.specs.code.Calls.{Leads, kept}
 use Rattle.stun_proto.specs.Run.{ending}
 use Rattle.stun_proto.specs.code.Work.{work}
 use Rattle.stun_proto.proofs.TurnLemmas.{HasMoved}
@@ -7,7 +6,7 @@ use Rattle.stun_proto.proofs.replay.turn.end_all.Given as goal
 
 -- the turn goes on in its second phase
 abbrev pub invariant-loop-moment : goal.invariant-loop-moment
-invariant-loop-moment g l = record { leads : Leads l.now ending ending l.initial.agent l.agent (steps_of l.initial.steps.items) (steps_of l.steps.items); moved : HasMoved l.initial.agent l.agent }
+invariant-loop-moment g l = record { leads : Leads l.now ending ending l.initial.agent l.agent (kept l.initial.log) (kept l.log); moved : HasMoved l.initial.agent l.agent }
 
 abbrev pub decreases-loop-moment : goal.decreases-loop-moment
 decreases-loop-moment g l = work l.agent.transport l.agent.transactions

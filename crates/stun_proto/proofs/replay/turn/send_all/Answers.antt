@@ -1,43 +1,39 @@
 use Rattle.std.proofs.Common.{subst, refl, inr, true, false}
-use Rattle.stun_proto.specs.code.Calls.{SendsOne}
+use Rattle.stun_proto.specs.code.Calls.{SendsOne, kept}
 use Rattle.stun_proto.specs.Run.{sending}
-use Rattle.stun_proto.specs.Steps.{steps_of}
-use Rattle.stun_proto.proofs.TurnLemmas.{leads_start, leads_sent, moved_sent, sends_all, less_sent, breaks_sent, on_err}
+use Rattle.stun_proto.proofs.TurnLemmas.{leads_start, leads_sent, moved_sent, sends_all, less_sent}
 use Rattle.stun_proto.proofs.replay.turn.send_all.Goals as goal
 
-pub loop-init : goal.loop-init
-loop-init g c = record { leads = leads_start _ sending _ _; moved = inr refl }
+pub loop-alloc-init : goal.loop-alloc-init
+loop-alloc-init g c = record { leads = leads_start _ sending _ _; moved = inr refl }
 
-pub returns-then-not-branch-clause-all : goal.returns-then-not-branch-clause-all
-returns-then-not-branch-clause-all g c =
-    let old = c.loop.agent in
+pub returns-then-not-send_one : goal.returns-then-not-send_one
+returns-then-not-send_one g c =
+    let old = c.loop-alloc.agent in
     let new = c.send_one.new.agent in
-    let before = steps_of c.loop.steps.items in
-    let after = steps_of c.send_one.new.steps.items in
-    let none : SendsOne c.args.now old new before after false = subst (SendsOne c.args.now old new before after) c.if-not-branch.true c.in_ok-send_one.ensures.one in
-    sends_all c.args.now c.args.agent.now old new (steps_of c.args.steps.now.items) before after c.loop.invariant.leads c.loop.invariant.moved none
+    let before = kept c.loop-alloc.log in
+    let after = kept c.send_one.new.log in
+    let none : SendsOne c.args.now old new before after false = subst (SendsOne c.args.now old new before after) c.if-not-send_one.true c.send_one.ensures in
+    sends_all c.args.now c.args.agent.now old new (kept c.args.log.now) before after c.loop-alloc.invariant.leads c.loop-alloc.invariant.moved none
 
-pub loop-smaller : goal.loop-smaller
-loop-smaller g c =
-    let old = c.loop.agent in
+pub loop-alloc-smaller : goal.loop-alloc-smaller
+loop-alloc-smaller g c =
+    let old = c.loop-alloc.agent in
     let new = c.send_one.new.agent in
-    let before = steps_of c.loop.steps.items in
-    let after = steps_of c.send_one.new.steps.items in
-    less_sent c.args.now old new before after (subst (SendsOne c.args.now old new before after) c.if-not-branch.false c.in_ok-send_one.ensures.one)
+    let before = kept c.loop-alloc.log in
+    let after = kept c.send_one.new.log in
+    less_sent c.args.now old new before after (subst (SendsOne c.args.now old new before after) c.if-not-send_one.false c.send_one.ensures)
 
-pub loop-preserved : goal.loop-preserved
-loop-preserved g c =
+pub loop-alloc-preserved : goal.loop-alloc-preserved
+loop-alloc-preserved g c =
     let first = c.args.agent.now in
-    let old = c.loop.agent in
+    let old = c.loop-alloc.agent in
     let new = c.send_one.new.agent in
-    let start = steps_of c.args.steps.now.items in
-    let before = steps_of c.loop.steps.items in
-    let after = steps_of c.send_one.new.steps.items in
-    let sent : SendsOne c.args.now old new before after true = subst (SendsOne c.args.now old new before after) c.if-not-branch.false c.in_ok-send_one.ensures.one in
+    let start = kept c.args.log.now in
+    let before = kept c.loop-alloc.log in
+    let after = kept c.send_one.new.log in
+    let sent : SendsOne c.args.now old new before after true = subst (SendsOne c.args.now old new before after) c.if-not-send_one.false c.send_one.ensures in
     record {
-      leads = leads_sent c.args.now first old new start before after c.loop.invariant.leads sent;
-      moved = moved_sent c.args.now first old new before after c.loop.invariant.moved sent;
+      leads = leads_sent c.args.now first old new start before after c.loop-alloc.invariant.leads sent;
+      moved = moved_sent c.args.now first old new before after c.loop-alloc.invariant.moved sent;
     }
-
-pub returns-in_err-send_one-clause-broken : goal.returns-in_err-send_one-clause-broken
-returns-in_err-send_one-clause-broken g c = on_err _ (breaks_sent _ _ _ _ _ _ c.loop.invariant.leads c.in_err-send_one.ensures.broken)

@@ -1,0 +1,9 @@
+use Rattle.std.proofs.Common.{rules, ◌≡◌}
+use Rattle.stun_agent.specs.Agent.{after_poll_transmit}
+use Rattle.stun_proto.proofs.TurnLemmas.{sends_one}
+use Rattle.stun_proto.proofs.replay.turn.send_one.Goals as goal
+
+pub returns : goal.returns
+returns g c =
+    let passed : c.poll_transmit.follows.lender-at-none ≡ after_poll_transmit c.args.now c.args.agent.now = search rules in
+    sends_one c.args.now c.args.agent.now c.poll_transmit.follows.lender-at-none _ _ _ c.in-Some.ensures.sent c.in-Some.ensures.request passed (c.add.ensures _ c.transmitted-step.ensures)

@@ -1,0 +1,74 @@
+/* The memory of libstun_state.a over malloc. Each block has its length before it, so that the bytes can be counted.
+ *
+ * The counts are changed in one step each, so handles may be used in several threads, each handle in its own. */
+#include "heap.h"
+#include <stdint.h>
+#include <stdlib.h>
+
+/* What is before a block: as long as the widest alignment of malloc, so that the block keeps it. */
+typedef union { size_t length; long double number; void *pointer; } head;
+
+static size_t bound = SIZE_MAX, blocks, bytes, asked, refused;
+
+static const rattle_allocation none = {false, NULL};
+
+/* Counts so many bytes more, or answers false above the bound or at the allocation that is to be refused. */
+static bool take(size_t length) {
+    size_t number = __atomic_add_fetch(&asked, 1, __ATOMIC_SEQ_CST);
+    if (number == __atomic_load_n(&refused, __ATOMIC_SEQ_CST)) return false;
+    size_t most = __atomic_load_n(&bound, __ATOMIC_SEQ_CST);
+    size_t held = __atomic_load_n(&bytes, __ATOMIC_SEQ_CST);
+    do {
+        if (held > most || length > most - held) return false;
+    } while (!__atomic_compare_exchange_n(&bytes, &held, held + length, false, __ATOMIC_SEQ_CST, __ATOMIC_SEQ_CST));
+    return true;
+}
+
+static void give_back(size_t length) { __atomic_sub_fetch(&bytes, length, __ATOMIC_SEQ_CST); }
+
+/* Whether a block of this length and alignment can be had with its head. */
+static bool is_plain(size_t length, size_t alignment) {
+    return alignment <= sizeof(head) && length <= SIZE_MAX / 2;
+}
+
+rattle_allocation rattle_alloc(size_t length, size_t alignment) {
+    if (!is_plain(length, alignment) || !take(length)) return none;
+    head *block = malloc(sizeof(head) + length);
+    if (block == NULL) {
+        give_back(length);
+        return none;
+    }
+    block->length = length;
+    __atomic_add_fetch(&blocks, 1, __ATOMIC_SEQ_CST);
+    return (rattle_allocation){true, block + 1};
+}
+
+/* A refusal leaves the block as it was. */
+rattle_allocation rattle_realloc(void *at, size_t kept, size_t length, size_t alignment) {
+    (void)kept;
+    head *block = (head *)at - 1;
+    size_t before = block->length, more = length > before ? length - before : 0;
+    if (!is_plain(length, alignment) || !take(more)) return none;
+    block = realloc(block, sizeof(head) + length);
+    if (block == NULL) {
+        give_back(more);
+        return none;
+    }
+    block->length = length;
+    if (length < before) give_back(before - length);
+    return (rattle_allocation){true, block + 1};
+}
+
+void rattle_dealloc(void *at) {
+    if (at == NULL) return;
+    head *block = (head *)at - 1;
+    give_back(block->length);
+    __atomic_sub_fetch(&blocks, 1, __ATOMIC_SEQ_CST);
+    free(block);
+}
+
+void heap_bound(size_t most) { __atomic_store_n(&bound, most, __ATOMIC_SEQ_CST); }
+size_t heap_blocks(void) { return __atomic_load_n(&blocks, __ATOMIC_SEQ_CST); }
+size_t heap_bytes(void) { return __atomic_load_n(&bytes, __ATOMIC_SEQ_CST); }
+size_t heap_asked(void) { return __atomic_load_n(&asked, __ATOMIC_SEQ_CST); }
+void heap_refuse(size_t n) { __atomic_store_n(&refused, n == 0 ? 0 : heap_asked() + n, __ATOMIC_SEQ_CST); }

@@ -1,0 +1,27 @@
+/* The memory of libstun_state.a: three functions over malloc, with a bound, and with counts that a program reads. */
+#ifndef STUN_HEAP_H
+#define STUN_HEAP_H
+
+#include <stdbool.h>
+#include <stddef.h>
+
+typedef struct { bool is_ok; void *at; } rattle_allocation;
+
+/* What the archive calls. An allocation is refused where malloc refuses it, above the bound, at an alignment beyond that of
+ * malloc, and where heap_refuse said so; the call of the library then answers STUN_OUT_OF_MEMORY. */
+rattle_allocation rattle_alloc(size_t length, size_t alignment);
+rattle_allocation rattle_realloc(void *at, size_t kept, size_t length, size_t alignment);
+void rattle_dealloc(void *at);
+
+/* From now on no more than so many bytes are held at once. SIZE_MAX at first. */
+void heap_bound(size_t bytes);
+
+/* The blocks and the bytes that are held, without malloc's own, and how many allocations were asked for so far. */
+size_t heap_blocks(void);
+size_t heap_bytes(void);
+size_t heap_asked(void);
+
+/* For tests: the n-th allocation from now on is refused, and no other; 0 for none. */
+void heap_refuse(size_t n);
+
+#endif

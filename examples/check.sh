@@ -88,4 +88,16 @@ if cargo --version >/dev/null 2>&1; then
     fi
     checked="$checked, and the crate of bindings/rust"
 fi
+# The programs on UDP sockets against each other, and those of bindings/rust where they were built.
+if python3 --version >/dev/null 2>&1; then
+    set --
+    for one in server client; do
+        if [ -x "$scratch/target/debug/examples/udp_$one" ]; then set -- "$@" "--$one" "$scratch/target/debug/examples/udp_$one"; fi
+    done
+    if ! python3 udp/check.py "$@" >"$scratch/udp" 2>&1; then
+        cat "$scratch/udp" >&2
+        exit 1
+    fi
+    checked="$checked; $(tail -n 1 "$scratch/udp")"
+fi
 echo "examples: passed in $checked"

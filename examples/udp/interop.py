@@ -1,0 +1,268 @@
+#!/usr/bin/env python3
+"""Tries udp_server and udp_client against other STUN programs over loopback, and prints a Markdown table of what was seen.
+
+    interop.py [--install]
+
+The peers are Debian's packages coturn, libnice-dev, python3-aioice and stun-client. With --install those that are missing are
+installed by apt-get; without it the rows of a missing peer say so. docs/INTEROP.md has the table of a run. Status 0 where each
+row that could be tried came out as it should.
+"""
+import pathlib
+import socket
+import subprocess
+import sys
+import tempfile
+import time
+
+import check
+import stun
+
+REALM, NAME, PASSWORD = check.USER
+SERVER, CLIENT = (check.TOP / "examples/c/out" / name for name in ("udp_server", "udp_client"))
+PYTHON = "/usr/bin/python3"  # Debian's, for which Debian packages aioice
+PACKAGES = ("coturn", "libnice-dev", "python3-aioice", "stun-client")
+ROWS = []
+
+
+def version(package):
+    """The version of an installed package, without Debian's epoch and revision; or None."""
+    asked = subprocess.run(["dpkg-query", "-W", "-f", "${db:Status-Status} ${Version}", package], capture_output=True, text=True)
+    status, _, number = asked.stdout.partition(" ")
+    return number.split(":")[-1].rsplit("-", 1)[0] if status == "installed" else None
+
+
+def run(*words, timeout=40):
+    """What a program printed, on either output, and its status, or None where it was ended after so many seconds."""
+    with subprocess.Popen([str(word) for word in words], stdout=subprocess.PIPE, stderr=subprocess.STDOUT, text=True) as started:
+        try:
+            return started.communicate(timeout=timeout)[0].strip(), started.returncode
+        except subprocess.TimeoutExpired:
+            started.kill()
+            return started.communicate()[0].strip(), None
+
+
+def row(peer, what, judge, algorithm, trial):
+    """Tries, and keeps a row: the peer, what is done, who judged whose signature, by which algorithm, and what came of it."""
+    try:
+        came = trial()
+    except Exception as error:
+        came = f"FAILED: {type(error).__name__}: {error}"
+    ROWS.append((peer, what, judge, algorithm, came))
+
+
+def wants(condition, seen):
+    assert condition, f"saw {seen!r}"
+
+
+def free_port():
+    with socket.socket(socket.AF_INET, socket.SOCK_DGRAM) as one:
+        one.bind(("127.0.0.1", 0))
+        return one.getsockname()[1]
+
+
+class Peer:
+    """A server of another program, which is ended at the end."""
+
+    def __init__(self, *words, port=None):
+        self.out = tempfile.TemporaryFile("w+")
+        self.process = subprocess.Popen([str(word) for word in words], stdout=self.out, stderr=subprocess.STDOUT, text=True)
+        until = time.monotonic() + 15
+        while time.monotonic() < until and not self.is_up(port):
+            time.sleep(0.1)
+        self.port = port or int(self.told().split()[1])
+
+    def told(self):
+        self.out.flush()
+        with open(f"/proc/self/fd/{self.out.fileno()}") as again:
+            return again.read()
+
+    def is_up(self, port):
+        if port is None:
+            return "\n" in self.told()
+        with check.Peer(port) as peer:
+            peer.socket.settimeout(0.2)
+            try:
+                return bool(peer.ask(stun.message(stun.REQUEST)))
+            except OSError:
+                return False
+
+    def __enter__(self):
+        return self
+
+    def __exit__(self, *_):
+        self.process.terminate()
+        self.process.wait(20)
+        self.out.close()
+
+
+def turnserver(*words):
+    port = free_port()
+    folder = tempfile.mkdtemp()
+    return Peer("turnserver", "-n", "--listening-ip=127.0.0.1", "--listening-ip=::1", "--relay-ip=127.0.0.1", "-p", port,
+                "--no-tls", "--no-dtls", "--no-cli", "--log-file=stdout", f"--pidfile={folder}/pid", f"--userdb={folder}/db",
+                *words, port=port)
+
+
+# ---- Their clients against udp_server
+
+
+def stunclient(host, *words):
+    with check.Server(SERVER, "-v") as server:
+        out, _ = run("turnutils_stunclient", "-p", server.port, *words, host, timeout=6)
+        address = next(line for line in server.lines if line.endswith(" 200")).split()[0]
+        wants(address.replace("[", "").replace("]", "") in out, (out, server.lines))
+        if words:
+            wants(any(line.endswith(" 420") for line in server.lines), server.lines)
+            return "prints the address; its CHANGE-REQUEST draws 420"
+        return "prints the address that the server saw"
+
+
+def old_stun():
+    with check.Server(SERVER, "-v") as server:
+        run("stun", f"127.0.0.1:{server.port}", timeout=60)
+        wants(all("dropped: the bytes are not a STUN message" in line for line in server.lines[1:]) and len(server.lines) > 1, server.lines)
+        return "not answered: RFC 3489 has no magic cookie"
+
+
+def asks(words, wanted, line, *offered):
+    """Their client prints what it should, and the server's last line says that it validated the request."""
+    with check.Server(SERVER, *check.USER, "--any-method", "-v", *offered) as server:
+        out, _ = run(*(str(server.port) if word == "PORT" else word for word in words))
+        time.sleep(0.1)
+        wants(wanted in out and server.lines[-1].endswith(line), (out, server.lines))
+        return f"prints `{wanted}`; the server's log has `{line.strip()}`"
+
+
+def refused(words):
+    with check.Server(SERVER, *check.USER, "--any-method", "-v") as server:
+        out, _ = run(*(str(server.port) if word == "PORT" else word for word in words))
+        wants(all(line.endswith(" 401") for line in server.lines[1:]), (out, server.lines))
+        return "401 each time"
+
+
+# ---- udp_client against their servers
+
+
+def client_prints(peer, host, *words):
+    """It prints its own address, which a relay knows."""
+    with check.Relay(peer, host=host) as relay:
+        check.succeeds(check.ask(CLIENT, host, relay.port, *words), relay.address())
+        codes = check.codes(relay)
+        if not words:
+            return f"prints its address; codes {codes}"
+        key = stun.key_of(stun.SHA1, NAME, REALM, PASSWORD)
+        wants(stun.verifies(relay.requests[-1], stun.SHA1, key) and stun.verifies(relay.responses[-1], stun.SHA1, key), codes)
+        return f"prints its address; codes {codes}"
+
+
+def client_is_refused(peer, *words):
+    asked = check.ask(CLIENT, "127.0.0.1", peer.port, *words, within="5")
+    wants(asked.status == 1 and not asked.out, asked)
+    return f"`{asked.err}`"
+
+
+def stale(peer):
+    """The signed request is held back until coturn's nonce is over."""
+
+    def rule(relay, is_request, number, data):
+        if is_request and check.is_signed(data) and number == 2:
+            time.sleep(3.5)
+        return [data]
+
+    with check.Relay(peer, rule) as relay:
+        check.succeeds(check.ask(CLIENT, "127.0.0.1", relay.port, NAME, PASSWORD), relay.address())
+        codes = check.codes(relay)
+        wants(438 in codes and 200 in codes, codes)
+        return f"prints its address; codes {codes}"
+
+
+# ---- All rows
+
+
+def with_coturn(number):
+    peer = f"coturn {number}"
+    for host in ("127.0.0.1", "::1"):
+        kind = "IPv6" if ":" in host else "IPv4"
+        row(peer, f"`turnutils_stunclient` → udp_server, {kind}", "nobody", "none", lambda: stunclient(host))
+    row(peer, "`turnutils_stunclient -f` → udp_server", "nobody", "none", lambda: stunclient("127.0.0.1", "-f"))
+    for offered in ((), ("--sha256",)):
+        words = ("turnutils_uclient", "-p", "PORT", "-u", NAME, "-w", PASSWORD, "-n", "1", "-m", "1", "-y", "127.0.0.1")
+        row(peer, " ".join(("`turnutils_uclient` (Allocate) → udp_server --any-method", *offered)), "udp_server judged coturn",
+            "HMAC-SHA1", lambda: asks(words, "error 420", " 420 SHA1", *offered))
+    wrong = ("turnutils_uclient", "-p", "PORT", "-u", NAME, "-w", "wrong", "-n", "1", "-m", "1", "-y", "127.0.0.1")
+    row(peer, "the same, wrong password", "udp_server judged coturn", "HMAC-SHA1", lambda: refused(wrong))
+    with turnserver("--stun-only") as server:
+        for host in ("127.0.0.1", "::1"):
+            kind = "IPv6" if ":" in host else "IPv4"
+            row(peer, f"udp_client → `turnserver --stun-only`, {kind}", "nobody", "none", lambda: client_prints(server, host))
+    secure = ("--lt-cred-mech", "--secure-stun", "-r", REALM, "-u", f"{NAME}:{PASSWORD}")
+    with turnserver(*secure) as server:
+        for host in ("127.0.0.1", "::1"):
+            for words in ((), ("--sha256",)):
+                kind = "IPv6" if ":" in host else "IPv4"
+                row(peer, " ".join(("udp_client", *words, "→ `turnserver --lt-cred-mech --secure-stun`,", kind)), "each judged the other",
+                    "HMAC-SHA1", lambda: client_prints(server, host, NAME, PASSWORD, *words))
+        row(peer, "the same, wrong password", "coturn judged udp_client", "HMAC-SHA1", lambda: client_is_refused(server, NAME, "wrong"))
+    with turnserver(*secure, "--stale-nonce=1") as server:
+        row(peer, "udp_client → the same with `--stale-nonce=1`, request held back", "each judged the other", "HMAC-SHA1", lambda: stale(server))
+
+
+def with_libnice(number, folder):
+    peer, program = f"libnice {number}", folder / "libnice_peer"
+    flags = run("pkg-config", "--cflags", "--libs", "nice")
+    built = run("cc", "-O1", check.HERE / "libnice_peer.c", "-o", program, *(flags[0].split() if flags[1] == 0 else ["-lnice"]))
+    assert built[1] == 0, built
+    for offered in ((), ("--sha256",)):
+        row(peer, " ".join(("StunAgent → udp_server", *offered)), "each judged the other", "HMAC-SHA1",
+            lambda: asks((program, "client", "127.0.0.1", "PORT", NAME, PASSWORD), "signed", " 200 SHA1", *offered))
+    row(peer, "the same, wrong password", "udp_server judged libnice", "HMAC-SHA1",
+        lambda: refused((program, "client", "127.0.0.1", "PORT", NAME, "wrong")))
+    with Peer(program, "server", *check.USER) as server:
+        for words in ((), ("--sha256",)):
+            row(peer, " ".join(("udp_client", *words, "→ StunAgent")), "each judged the other", "HMAC-SHA1",
+                lambda: client_prints(server, "127.0.0.1", NAME, PASSWORD, *words))
+        row(peer, "the same, wrong password", "libnice judged udp_client", "HMAC-SHA1", lambda: client_is_refused(server, NAME, "wrong"))
+
+
+def with_aioice(number):
+    peer, program = f"aioice {number}", (PYTHON, check.HERE / "aioice_peer.py")
+    for host in ("127.0.0.1", "::1"):
+        kind = "IPv6" if ":" in host else "IPv4"
+        row(peer, f"stun.Message → udp_server, {kind}", "each judged the other", "HMAC-SHA1",
+            lambda: asks((*program, "client", host, "PORT", NAME, PASSWORD), "signed", " 200 SHA1"))
+    row(peer, "its TURN client (Allocate) → udp_server --any-method", "udp_server judged aioice", "HMAC-SHA1",
+        lambda: asks((*program, "turn", "127.0.0.1", "PORT", NAME, PASSWORD), "420 signed", " 420 SHA1"))
+    row(peer, "stun.Message → udp_server, wrong password", "udp_server judged aioice", "HMAC-SHA1",
+        lambda: refused((*program, "client", "127.0.0.1", "PORT", NAME, "wrong")))
+    with Peer(*program, "server", *check.USER) as server:
+        for words in ((), ("--sha256",)):
+            row(peer, " ".join(("udp_client", *words, "→ stun.parse_message")), "each judged the other", "HMAC-SHA1",
+                lambda: client_prints(server, "127.0.0.1", NAME, PASSWORD, *words))
+        row(peer, "the same, wrong password", "aioice judged udp_client", "HMAC-SHA1", lambda: client_is_refused(server, NAME, "wrong"))
+
+
+def main():
+    if "--install" in sys.argv and any(version(package) is None for package in PACKAGES):
+        subprocess.run(["apt-get", "install", "-y", "--no-install-recommends", *PACKAGES], check=True)
+    subprocess.run(["make", "-s", "-C", check.TOP / "examples/c", "udp", f"STATE={check.STATE}"], check=True)
+    versions = {package: version(package) for package in PACKAGES}
+    if versions["coturn"]:
+        with_coturn(versions["coturn"])
+    if versions["libnice-dev"]:
+        with tempfile.TemporaryDirectory() as folder:
+            with_libnice(versions["libnice-dev"], pathlib.Path(folder))
+    if versions["python3-aioice"]:
+        with_aioice(versions["python3-aioice"])
+    if versions["stun-client"]:
+        row(f"stun-client {versions['stun-client']}", "`stun` → udp_server", "nobody", "none", old_stun)
+    print("| Peer | What | Who judged whose signature | Algorithm | Seen |\n|---|---|---|---|---|")
+    for one in ROWS:
+        print("| " + " | ".join(one) + " |")
+    for package in PACKAGES:
+        if versions[package] is None:
+            print(f"\nNot installed, so not tried: {package}")
+    return any("FAILED" in one[-1] for one in ROWS)
+
+
+if __name__ == "__main__":
+    sys.exit(main())

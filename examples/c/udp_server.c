@@ -5,6 +5,7 @@
  *
  * --sha256            offers HMAC-SHA256 beside HMAC-SHA1
  * --expiry SECONDS    how long a nonce lasts: 3600, and 30 at least
+ * --addresses N       for how many addresses each process keeps a nonce: 131072, a multiple of 16
  * --workers N         so many processes on one port
  * --ahead SECONDS     SIGUSR1 moves the clock so far ahead, to see nonces expire (for tests)
  * --any-method        judges requests of other methods too, and answers them 508 (Insufficient Capacity) once validated
@@ -20,14 +21,14 @@
 #include <sys/wait.h>
 #include <unistd.h>
 
-enum { MOST_WORKERS = 64, MOST_ATTRIBUTES = 64, MOST_UNKNOWN = 16, GROUPS = 1 << 13, GROUP = 16 };
+enum { MOST_WORKERS = 64, MOST_ATTRIBUTES = 64, MOST_UNKNOWN = 16, GROUP = 16 };
 static const uint64_t PERIOD = 10 * 1000000000ull; /* nonces that expired are forgotten so often */
 static const size_t MOST_MEMORY = 256u << 20;      /* of one process */
 
 static struct {
-    unsigned long port, workers, expiry, ahead;
+    unsigned long port, workers, expiry, ahead, addresses;
     bool has_users, has_sha256, is_verbose, takes_any_method;
-} settings = {.workers = 1, .expiry = 3600};
+} settings = {.workers = 1, .expiry = 3600, .addresses = 1 << 17};
 
 static stun_server server;
 static volatile sig_atomic_t is_ending, jumps;
@@ -41,7 +42,7 @@ static uint64_t now(void) { return moment() + (uint64_t)jumps * settings.ahead *
 
 /* The addresses for which a nonce may be kept, in groups that a hash finds. A place is free once its address was silent for
  * as long as the server may keep a nonce, so the server keeps no more of them than there are places. */
-static struct place { stun_address at; uint64_t until; } places[GROUPS][GROUP];
+static struct place { stun_address at; uint64_t until; } *places;
 
 static bool has_place(const stun_address *from) {
     static uint64_t seed;
@@ -49,7 +50,7 @@ static bool has_place(const stun_address *from) {
     uint64_t hash = seed, at = now();
     for (size_t i = 0; i < 16; i++) hash = (hash ^ from->octets[i]) * 0x100000001b3;
     hash = (hash ^ from->port) * 0x9e3779b97f4a7c15;
-    struct place *group = places[(hash >> 40) % GROUPS], *found = NULL;
+    struct place *group = places + GROUP * ((hash >> 32) % (settings.addresses / GROUP)), *found = NULL;
     for (size_t i = 0; i < GROUP; i++) {
         if (memcmp(&group[i].at, from, sizeof *from) == 0) {
             found = &group[i];
@@ -256,7 +257,7 @@ static int serve_in_workers(void) {
 
 static int usage(void) {
     fprintf(stderr, "usage: udp_server PORT [REALM NAME PASSWORD [NAME PASSWORD]..] [--sha256] [--expiry SECONDS]"
-                    " [--workers N] [--ahead SECONDS] [--any-method] [-v]\n");
+                    " [--addresses N] [--workers N] [--ahead SECONDS] [--any-method] [-v]\n");
     return 2;
 }
 
@@ -278,6 +279,9 @@ static int read_options(int count, char **words) {
             if (!is_number(words[++i], 1000000, &settings.expiry) || settings.expiry < 30) return -1;
         } else if (strcmp(words[i], "--ahead") == 0) {
             if (!is_number(words[++i], 1000000, &settings.ahead)) return -1;
+        } else if (strcmp(words[i], "--addresses") == 0) {
+            if (!is_number(words[++i], 1 << 24, &settings.addresses) || settings.addresses % GROUP != 0 || settings.addresses == 0)
+                return -1;
         } else if (strcmp(words[i], "--workers") == 0) {
             if (!is_number(words[++i], MOST_WORKERS, &settings.workers) || settings.workers == 0) return -1;
         } else if (words[i][0] == '-') return -1;
@@ -287,6 +291,8 @@ static int read_options(int count, char **words) {
 }
 
 static int64_t start(int count, char **words) {
+    places = calloc(settings.addresses, sizeof *places);
+    if (places == NULL) return STUN_OUT_OF_MEMORY;
     int64_t answer = stun_server_new(&server, (const uint8_t *)words[1], strlen(words[1]));
     if (answer >= 0 && settings.has_sha256) answer = stun_server_set_algorithms(&server, STUN_SHA1 | STUN_SHA256);
     if (answer >= 0) answer = stun_server_set_nonce_expiry(&server, settings.expiry * SECOND);
@@ -316,5 +322,6 @@ int main(int count, char **words) {
     printf("port %lu\n", settings.port);
     int status = serve(fd);
     stun_server_free(&server);
+    free(places);
     return status;
 }

@@ -12,6 +12,7 @@ import argparse
 import collections
 import concurrent.futures
 import hashlib
+import itertools
 import os
 import pathlib
 import random
@@ -172,13 +173,14 @@ def is_signed(data):
 
 
 def codes(relay):
-    return [stun.code_of(one) for one in relay.responses]
+    """The codes of the responses. One that came again, since the machine was slow and a request was sent again, counts once."""
+    return [code for code, _ in itertools.groupby(stun.code_of(one) for one in relay.responses)]
 
 
 def open_server(server, client, host):
     with Server(server) as running, Relay(running, host=host) as relay:
         succeeds(ask(client, host, relay.port), relay.address())
-        assert len(relay.requests) == 1 and not is_signed(relay.responses[0])
+        assert codes(relay) == [200] and not is_signed(relay.responses[0])
 
 
 def long_term(server, client, host, offered, supported):
@@ -188,7 +190,7 @@ def long_term(server, client, host, offered, supported):
     with Server(server, *USER, *offered, "-v") as running, Relay(running, host=host) as relay:
         succeeds(ask(client, host, relay.port, NAME, PASSWORD, *supported), relay.address())
         assert codes(relay) == [401, 200], codes(relay)
-        challenge, success, request = *relay.responses, relay.requests[1]
+        challenge, success, request = relay.responses[0], relay.responses[-1], relay.requests[-1]
         assert not is_signed(challenge) and stun.value_of(challenge, stun.REALM) == REALM.encode()
         assert (stun.value_of(challenge, stun.PASSWORD_ALGORITHMS) is not None) == bool(offered)
         assert stun.verifies(request, algorithm, key) and stun.verifies(success, algorithm, key)
@@ -231,7 +233,7 @@ def two_lost(server, client):
     with Server(server) as running, Relay(running, rule) as relay:
         succeeds(ask(client, "127.0.0.1", relay.port), relay.address())
         waits = [later - relay.times[0] for later in relay.times]
-        assert len(waits) == 3 and 0.4 < waits[1] < 1.2 and 1.4 < waits[2] < 3.0, waits
+        assert 0.4 < waits[1] < 1.3 and 1.4 < waits[2] < 3.0, waits
         assert relay.requests[0] == relay.requests[1] == relay.requests[2]
 
 
@@ -309,8 +311,9 @@ def expired(server, client, words, ahead):
 
     with Server(server, *USER, "--expiry", "30", "--ahead", ahead, *words) as running, Relay(running, rule) as relay:
         succeeds(ask(client, "127.0.0.1", relay.port, NAME, PASSWORD, *words), relay.address())
-        assert [code for code in codes(relay) if code != 401] == [438, 200], codes(relay)
-        assert stun.value_of(relay.responses[0], stun.NONCE) != stun.value_of(relay.responses[-2], stun.NONCE)
+        assert codes(relay) == [401, 438, 200], codes(relay)
+        stale = next(one for one in relay.responses if stun.code_of(one) == 438)
+        assert stun.value_of(relay.responses[0], stun.NONCE) != stun.value_of(stale, stun.NONCE)
 
 
 # ---- A server alone

@@ -66,7 +66,7 @@ static inline uint32_t fingerprint(const uint8_t *bytes, size_t length) {
     return ~sum ^ 0x5354554e;
 }
 
-/* Whether the FINGERPRINT at a place of a message is that of what stands before it. */
+/* Whether the FINGERPRINT at a place of a message is right for the bytes before it. */
 static inline bool has_fingerprint(const uint8_t *message, size_t place) {
     uint32_t wanted;
     memcpy(&wanted, message + place + STUN_ATTRIBUTE_HEADER_LENGTH, 4);

@@ -286,6 +286,19 @@ def another_port(server, client, words):
         assert len(relay.responses) >= 2
 
 
+def dealt_in_turn(server, client):
+    """Two servers that get the datagrams of one address in turn challenge each other's requests, until the client gives up."""
+    with Server(server, *USER) as first, Server(server, *USER) as second:
+
+        def rule(relay, is_request, number, data):
+            relay.target = ("127.0.0.1", (first, second)[number % 2].port) if is_request else relay.target
+            return [data]
+
+        with Relay(first, rule) as relay:
+            asked = ask(client, "127.0.0.1", relay.port, NAME, PASSWORD, within="3")
+            assert asked.status == 1 and asked.out == "" and codes(relay)[:2] == [401, 438] and 200 not in codes(relay), asked
+
+
 def reflected(server, client):
     """A client's own request, sent back to it, is no answer."""
 
@@ -495,7 +508,7 @@ def cases(servers, clients, hosts):
                 yield two(open_server, host)
                 for offered in both:
                     yield from (two(long_term, host, offered, supported) for supported in both)
-            yield from (two(unsigned_answer), two(no_name), two(two_lost), two(reflected), two(another_port, ()), two(another_port, USER))
+            yield from (two(unsigned_answer), two(no_name), two(two_lost), two(reflected), two(dealt_in_turn), two(another_port, ()), two(another_port, USER))
             if server == servers[0]:
                 yield from (two(expired, (), "35"), two(expired, (), "300"), two(expired, ("--sha256",), "35"))
             for words in both:

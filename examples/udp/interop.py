@@ -42,7 +42,7 @@ def run(*words, timeout=40):
 
 
 def row(peer, what, judge, algorithm, trial):
-    """Tries, and keeps a row: the peer, what is done, who judged whose signature, by which algorithm, and what came of it."""
+    """Tries, and keeps a row: the peer, what is done, who validated whose signature, by which algorithm, and what came of it."""
     try:
         came = trial()
     except Exception as error:
@@ -162,7 +162,7 @@ def client_is_refused(peer, *words):
 
 
 def stale(peer):
-    """The signed request is held back until coturn's nonce is over."""
+    """The signed request is held back until coturn's nonce expires."""
 
     def rule(relay, is_request, number, data):
         if is_request and check.is_signed(data) and number == 2:
@@ -187,10 +187,10 @@ def with_coturn(number):
     row(peer, "`turnutils_stunclient -f` → udp_server", "nobody", "none", lambda: stunclient("127.0.0.1", "-f"))
     for offered in ((), ("--sha256",)):
         words = ("turnutils_uclient", "-p", "PORT", "-u", NAME, "-w", PASSWORD, "-n", "1", "-m", "1", "-y", "127.0.0.1")
-        row(peer, " ".join(("`turnutils_uclient` (Allocate) → udp_server --any-method", *offered)), "udp_server judged coturn",
+        row(peer, " ".join(("`turnutils_uclient` (Allocate) → udp_server --any-method", *offered)), "udp_server validated coturn",
             "HMAC-SHA1", lambda: asks(words, "error 420", " 420 SHA1", *offered))
     wrong = ("turnutils_uclient", "-p", "PORT", "-u", NAME, "-w", "wrong", "-n", "1", "-m", "1", "-y", "127.0.0.1")
-    row(peer, "the same, wrong password", "udp_server judged coturn", "HMAC-SHA1", lambda: refused(wrong))
+    row(peer, "the same, wrong password", "udp_server refused coturn", "HMAC-SHA1", lambda: refused(wrong))
     with turnserver("--stun-only") as server:
         for host in ("127.0.0.1", "::1"):
             kind = "IPv6" if ":" in host else "IPv4"
@@ -200,11 +200,11 @@ def with_coturn(number):
         for host in ("127.0.0.1", "::1"):
             for words in ((), ("--sha256",)):
                 kind = "IPv6" if ":" in host else "IPv4"
-                row(peer, " ".join(("udp_client", *words, "→ `turnserver --lt-cred-mech --secure-stun`,", kind)), "each judged the other",
+                row(peer, " ".join(("udp_client", *words, "→ `turnserver --lt-cred-mech --secure-stun`,", kind)), "each validated the other",
                     "HMAC-SHA1", lambda: client_prints(server, host, NAME, PASSWORD, *words))
-        row(peer, "the same, wrong password", "coturn judged udp_client", "HMAC-SHA1", lambda: client_is_refused(server, NAME, "wrong"))
+        row(peer, "the same, wrong password", "coturn refused udp_client", "HMAC-SHA1", lambda: client_is_refused(server, NAME, "wrong"))
     with turnserver(*secure, "--stale-nonce=1") as server:
-        row(peer, "udp_client → the same with `--stale-nonce=1`, request held back", "each judged the other", "HMAC-SHA1", lambda: stale(server))
+        row(peer, "udp_client → the same with `--stale-nonce=1`, request held back", "each validated the other", "HMAC-SHA1", lambda: stale(server))
 
 
 def with_libnice(number, folder):
@@ -213,32 +213,32 @@ def with_libnice(number, folder):
     built = run("cc", "-O1", check.HERE / "libnice_peer.c", "-o", program, *(flags[0].split() if flags[1] == 0 else ["-lnice"]))
     assert built[1] == 0, built
     for offered in ((), ("--sha256",)):
-        row(peer, " ".join(("StunAgent → udp_server", *offered)), "each judged the other", "HMAC-SHA1",
+        row(peer, " ".join(("StunAgent → udp_server", *offered)), "each validated the other", "HMAC-SHA1",
             lambda: asks((program, "client", "127.0.0.1", "PORT", NAME, PASSWORD), "signed", " 200 SHA1", *offered))
-    row(peer, "the same, wrong password", "udp_server judged libnice", "HMAC-SHA1",
+    row(peer, "the same, wrong password", "udp_server refused libnice", "HMAC-SHA1",
         lambda: refused((program, "client", "127.0.0.1", "PORT", NAME, "wrong")))
     with Peer(program, "server", *check.USER) as server:
         for words in ((), ("--sha256",)):
-            row(peer, " ".join(("udp_client", *words, "→ StunAgent")), "each judged the other", "HMAC-SHA1",
+            row(peer, " ".join(("udp_client", *words, "→ StunAgent")), "each validated the other", "HMAC-SHA1",
                 lambda: client_prints(server, "127.0.0.1", NAME, PASSWORD, *words))
-        row(peer, "the same, wrong password", "libnice judged udp_client", "HMAC-SHA1", lambda: client_is_refused(server, NAME, "wrong"))
+        row(peer, "the same, wrong password", "libnice refused udp_client", "HMAC-SHA1", lambda: client_is_refused(server, NAME, "wrong"))
 
 
 def with_aioice(number):
     peer, program = f"aioice {number}", (PYTHON, check.HERE / "aioice_peer.py")
     for host in ("127.0.0.1", "::1"):
         kind = "IPv6" if ":" in host else "IPv4"
-        row(peer, f"stun.Message → udp_server, {kind}", "each judged the other", "HMAC-SHA1",
+        row(peer, f"stun.Message → udp_server, {kind}", "each validated the other", "HMAC-SHA1",
             lambda: asks((*program, "client", host, "PORT", NAME, PASSWORD), "signed", " 200 SHA1"))
-    row(peer, "its TURN client (Allocate) → udp_server --any-method", "udp_server judged aioice", "HMAC-SHA1",
+    row(peer, "its TURN client (Allocate) → udp_server --any-method", "udp_server validated aioice", "HMAC-SHA1",
         lambda: asks((*program, "turn", "127.0.0.1", "PORT", NAME, PASSWORD), "420 signed", " 420 SHA1"))
-    row(peer, "stun.Message → udp_server, wrong password", "udp_server judged aioice", "HMAC-SHA1",
+    row(peer, "stun.Message → udp_server, wrong password", "udp_server refused aioice", "HMAC-SHA1",
         lambda: refused((*program, "client", "127.0.0.1", "PORT", NAME, "wrong")))
     with Peer(*program, "server", *check.USER) as server:
         for words in ((), ("--sha256",)):
-            row(peer, " ".join(("udp_client", *words, "→ stun.parse_message")), "each judged the other", "HMAC-SHA1",
+            row(peer, " ".join(("udp_client", *words, "→ stun.parse_message")), "each validated the other", "HMAC-SHA1",
                 lambda: client_prints(server, "127.0.0.1", NAME, PASSWORD, *words))
-        row(peer, "the same, wrong password", "aioice judged udp_client", "HMAC-SHA1", lambda: client_is_refused(server, NAME, "wrong"))
+        row(peer, "the same, wrong password", "aioice refused udp_client", "HMAC-SHA1", lambda: client_is_refused(server, NAME, "wrong"))
 
 
 def main():
@@ -255,7 +255,7 @@ def main():
         with_aioice(versions["python3-aioice"])
     if versions["stun-client"]:
         row(f"stun-client {versions['stun-client']}", "`stun` → udp_server", "nobody", "none", old_stun)
-    print("| Peer | What | Who judged whose signature | Algorithm | Seen |\n|---|---|---|---|---|")
+    print("| Peer | What | Who validated whose digest | Algorithm | Seen |\n|---|---|---|---|---|")
     for one in ROWS:
         print("| " + " | ".join(one) + " |")
     for package in PACKAGES:

@@ -37,9 +37,27 @@ pub enum Refusal {
     MissingAttribute,
     /// The first visible attribute of the type that is read is malformed.
     MalformedAttribute,
+    /// An allocation failed.
+    OutOfMemory,
+    /// A handle is empty. No call of this crate answers it, since no handle of it is ever empty.
+    EmptyHandle,
+    /// A handle is full already. No call of this crate answers it.
+    FullHandle,
+    /// A request of this id is outstanding.
+    AlreadyInProgress,
+    /// The message or its address is none that the call takes.
+    ProtocolViolation,
+    /// The message is not sufficiently authenticated (401).
+    Unauthorized,
+    /// The request is not well-formed (400).
+    BadRequest,
+    /// The nonce is not the current one (438).
+    StaleNonce,
+    /// The server lacks an algorithm or a feature that is required.
+    UnsupportedFeature,
 }
 
-const ALL: [Refusal; 16] = [
+const ALL: [Refusal; 25] = [
     Refusal::Truncated,
     Refusal::NotStun,
     Refusal::TooLarge,
@@ -56,6 +74,15 @@ const ALL: [Refusal; 16] = [
     Refusal::MessageTooLong,
     Refusal::MissingAttribute,
     Refusal::MalformedAttribute,
+    Refusal::OutOfMemory,
+    Refusal::EmptyHandle,
+    Refusal::FullHandle,
+    Refusal::AlreadyInProgress,
+    Refusal::ProtocolViolation,
+    Refusal::Unauthorized,
+    Refusal::BadRequest,
+    Refusal::StaleNonce,
+    Refusal::UnsupportedFeature,
 ];
 
 impl Refusal {
@@ -87,6 +114,15 @@ impl fmt::Display for Refusal {
             Refusal::MessageTooLong => "the message would be too long",
             Refusal::MissingAttribute => "the attribute is missing",
             Refusal::MalformedAttribute => "the attribute is malformed",
+            Refusal::OutOfMemory => "an allocation failed",
+            Refusal::EmptyHandle => "the handle is empty",
+            Refusal::FullHandle => "the handle is full already",
+            Refusal::AlreadyInProgress => "a request of this id is outstanding",
+            Refusal::ProtocolViolation => "the message or its address is none that this call takes",
+            Refusal::Unauthorized => "the message is not sufficiently authenticated",
+            Refusal::BadRequest => "the request is not well-formed",
+            Refusal::StaleNonce => "the nonce is not the current one",
+            Refusal::UnsupportedFeature => "a required feature is not supported",
         })
     }
 }

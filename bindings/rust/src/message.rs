@@ -37,6 +37,33 @@ impl Method {
 #[derive(Debug, Clone, Copy, PartialEq, Eq, PartialOrd, Ord, Hash)]
 pub struct TransactionId(pub [u8; 12]);
 
+/// The name and the password of a user, for long-term credentials. Debug shows no password.
+#[derive(Clone, PartialEq, Eq, Hash)]
+pub struct LongTermCredentials {
+    username: String,
+    password: String,
+}
+
+impl LongTermCredentials {
+    pub fn new(username: String, password: String) -> LongTermCredentials {
+        LongTermCredentials { username, password }
+    }
+
+    pub fn username(&self) -> &str {
+        &self.username
+    }
+
+    pub fn password(&self) -> &str {
+        &self.password
+    }
+}
+
+impl std::fmt::Debug for LongTermCredentials {
+    fn fmt(&self, f: &mut std::fmt::Formatter<'_>) -> std::fmt::Result {
+        f.debug_struct("LongTermCredentials").finish_non_exhaustive()
+    }
+}
+
 /// The type of an attribute.
 #[derive(Debug, Clone, Copy, PartialEq, Eq, Hash)]
 pub struct AttributeType(pub u16);
@@ -70,10 +97,18 @@ pub enum IntegrityAlgorithm {
 }
 
 impl IntegrityAlgorithm {
-    fn number(self) -> u32 {
+    pub(crate) fn number(self) -> u32 {
         match self {
             IntegrityAlgorithm::Sha1 => 1,
             IntegrityAlgorithm::Sha256 => 2,
+        }
+    }
+
+    /// The algorithm that an answer above zero names.
+    pub(crate) fn of(answer: usize) -> IntegrityAlgorithm {
+        match answer {
+            1 => IntegrityAlgorithm::Sha1,
+            _ => IntegrityAlgorithm::Sha256,
         }
     }
 }
@@ -140,6 +175,15 @@ impl<'a> Message<'a> {
         }
     }
 
+    pub fn has_class(&self, class: MessageClass) -> bool {
+        self.class() == class
+    }
+
+    /// Whether it is a success or an error.
+    pub fn is_response(&self) -> bool {
+        matches!(self.class(), MessageClass::Success | MessageClass::Error)
+    }
+
     pub fn method(&self) -> Method {
         Method(archive::method(self.bytes) as u16)
     }
@@ -184,10 +228,7 @@ impl<'a> Message<'a> {
 
     /// The algorithm whose digest verifies under a key of any length.
     pub fn validate_integrity_with_key(&self, key: &[u8]) -> Result<IntegrityAlgorithm, Refusal> {
-        Ok(match Refusal::of(archive::verify(self.bytes, key))? {
-            1 => IntegrityAlgorithm::Sha1,
-            _ => IntegrityAlgorithm::Sha256,
-        })
+        Refusal::of(archive::verify(self.bytes, key)).map(IntegrityAlgorithm::of)
     }
 
     pub fn builder(class: MessageClass, method: Method, id: TransactionId) -> MessageWriteVec {
@@ -217,9 +258,20 @@ pub struct MessageWriteVec {
 }
 
 impl MessageWriteVec {
+    pub fn transaction_id(&self) -> TransactionId {
+        let mut id = [0; 12];
+        id.copy_from_slice(&self.bytes[8..HEADER_LENGTH]);
+        TransactionId(id)
+    }
+
     /// Makes room, writes, and keeps what the answer says.
-    fn write(&mut self, room: usize, call: impl FnOnce(&mut [u8], usize) -> i64) -> Result<(), Refusal> {
+    pub(crate) fn write(
+        &mut self,
+        room: usize,
+        call: impl FnOnce(&mut [u8], usize) -> i64,
+    ) -> Result<(), Refusal> {
         let length = self.bytes.len();
+        self.bytes.try_reserve(room).map_err(|_| Refusal::OutOfMemory)?;
         self.bytes.resize(length + room, 0);
         let answer = Refusal::of(call(&mut self.bytes, length));
         self.bytes.truncate(*answer.as_ref().unwrap_or(&length));

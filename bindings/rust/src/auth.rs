@@ -1,0 +1,396 @@
+//! The long-term authenticators of a client and a server (RFC 8489, section 9.2).
+use crate::archive::{self, Address};
+use crate::error::Refusal;
+use crate::instant::{nanos_of, Instant};
+use crate::message::{IntegrityAlgorithm, LongTermCredentials, Message, MessageWriteVec};
+use std::fmt;
+use std::net::SocketAddr;
+use std::time::Duration;
+use IntegrityAlgorithm::{Sha1, Sha256};
+
+/// What an authenticator does with a user's name: `Auto` hides it behind USERHASH where the peer can do so too,
+/// `Required` refuses a server that cannot, and `Disabled` never hides it.
+#[derive(Debug, Default, Clone, Copy, PartialEq, Eq, Hash)]
+pub enum Feature {
+    #[default]
+    Auto,
+    Required,
+    Disabled,
+}
+
+/// What signing adds at most in nearly every case.
+const USUAL_ROOM: usize = 4096;
+
+/// The bytes of the longest message.
+const LONGEST_MESSAGE: usize = 65552;
+
+/// The bytes of the longest user name that a message can carry.
+const LONGEST_NAME: usize = 513;
+
+/// Signs in the message's own buffer, with more room where the usual one does not do. A refusal leaves the message.
+fn signed(
+    mut msg: MessageWriteVec,
+    mut sign: impl FnMut(&mut [u8], usize) -> i64,
+) -> Result<MessageWriteVec, Refusal> {
+    match msg.write(USUAL_ROOM, &mut sign) {
+        Err(Refusal::BufferTooSmall) => msg.write(LONGEST_MESSAGE, sign)?,
+        answer => answer?,
+    }
+    Ok(msg)
+}
+
+fn number_of(algorithms: &[IntegrityAlgorithm]) -> u32 {
+    algorithms.iter().fold(0, |number, algorithm| number | algorithm.number())
+}
+
+/// This algorithm alone.
+fn only(algorithm: IntegrityAlgorithm) -> &'static [IntegrityAlgorithm] {
+    match algorithm {
+        Sha1 => &[Sha1],
+        Sha256 => &[Sha256],
+    }
+}
+
+/// What a client makes of a message that it does not refuse.
+#[derive(Debug, Clone, Copy, PartialEq, Eq)]
+pub enum LongTermClientValidation {
+    /// The request is to be signed and sent again, under a new id. The archive does not tell whether the challenge itself
+    /// was signed, so this is always `None`.
+    ResendRequest(Option<IntegrityAlgorithm>),
+    /// The digest of this algorithm verifies.
+    Validated(IntegrityAlgorithm),
+}
+
+/// Why a client refuses a message.
+#[derive(Debug, Clone, Copy, PartialEq, Eq)]
+pub enum LongTermClientAuthErrorReason {
+    /// A challenge that cannot be taken up: realm, nonce, credentials or algorithms are missing, or it was answered
+    /// already.
+    Unauthorized,
+    /// No digest verifies.
+    IntegrityFailed,
+    /// A challenge without a supported algorithm, or without the hashed names that are required.
+    UnsupportedFeature,
+    /// An allocation failed.
+    OutOfMemory,
+}
+
+impl fmt::Display for LongTermClientAuthErrorReason {
+    fn fmt(&self, f: &mut fmt::Formatter<'_>) -> fmt::Result {
+        f.write_str(match self {
+            LongTermClientAuthErrorReason::Unauthorized => "The message is not sufficiently authenticated",
+            LongTermClientAuthErrorReason::IntegrityFailed => "The message failed integrity checks",
+            LongTermClientAuthErrorReason::UnsupportedFeature => "A required feature is not supported",
+            LongTermClientAuthErrorReason::OutOfMemory => "Out of memory",
+        })
+    }
+}
+
+/// A refusal of a client.
+#[derive(Debug, Clone, Copy, PartialEq, Eq)]
+pub struct LongTermClientAuthError {
+    reason: LongTermClientAuthErrorReason,
+}
+
+impl LongTermClientAuthError {
+    fn of(refusal: Refusal) -> LongTermClientAuthError {
+        let reason = match refusal {
+            Refusal::Unauthorized => LongTermClientAuthErrorReason::Unauthorized,
+            Refusal::UnsupportedFeature => LongTermClientAuthErrorReason::UnsupportedFeature,
+            Refusal::OutOfMemory => LongTermClientAuthErrorReason::OutOfMemory,
+            _ => LongTermClientAuthErrorReason::IntegrityFailed,
+        };
+        LongTermClientAuthError { reason }
+    }
+
+    pub fn reason(&self) -> LongTermClientAuthErrorReason {
+        self.reason
+    }
+
+    /// Always `None`: no digest is told of a message that is refused.
+    pub fn integrity(&self) -> Option<IntegrityAlgorithm> {
+        None
+    }
+}
+
+impl fmt::Display for LongTermClientAuthError {
+    fn fmt(&self, f: &mut fmt::Formatter<'_>) -> fmt::Result {
+        self.reason.fmt(f)
+    }
+}
+
+impl std::error::Error for LongTermClientAuthError {}
+
+/// The long-term authenticator of a client. One thread has it: it is neither `Send` nor `Sync`.
+pub struct LongTermClientAuth {
+    handle: archive::Client,
+    credentials: Option<LongTermCredentials>,
+    supported: &'static [IntegrityAlgorithm],
+    anonymous_username: Feature,
+}
+
+impl fmt::Debug for LongTermClientAuth {
+    fn fmt(&self, f: &mut fmt::Formatter<'_>) -> fmt::Result {
+        f.debug_struct("LongTermClientAuth").finish_non_exhaustive()
+    }
+}
+
+impl LongTermClientAuth {
+    /// A client without credentials, which supports HMAC-SHA1. Or `OutOfMemory`.
+    pub fn new() -> Result<LongTermClientAuth, Refusal> {
+        let handle = archive::Client::new().or_else(|answer| Err(Refusal::of(answer).unwrap_err()))?;
+        let anonymous_username = Feature::Auto;
+        Ok(LongTermClientAuth { handle, credentials: None, supported: &[Sha1], anonymous_username })
+    }
+
+    /// Whose name and password are used. Or `OutOfMemory`.
+    pub fn set_credentials(&mut self, credentials: LongTermCredentials) -> Result<(), Refusal> {
+        Refusal::of(self.handle.set_credentials(credentials.username(), credentials.password()))?;
+        self.credentials = Some(credentials);
+        Ok(())
+    }
+
+    pub fn credentials(&self) -> Option<&LongTermCredentials> {
+        self.credentials.as_ref()
+    }
+
+    pub fn supported_integrity(&self) -> &[IntegrityAlgorithm] {
+        self.supported
+    }
+
+    pub fn add_supported_integrity(&mut self, integrity: IntegrityAlgorithm) {
+        self.support(match (self.supported, integrity) {
+            ([Sha1], Sha256) => &[Sha1, Sha256],
+            ([Sha256], Sha1) => &[Sha256, Sha1],
+            (supported, _) => supported,
+        });
+    }
+
+    pub fn set_supported_integrity(&mut self, integrity: IntegrityAlgorithm) {
+        self.support(only(integrity));
+    }
+
+    fn support(&mut self, supported: &'static [IntegrityAlgorithm]) {
+        Refusal::of(self.handle.set_algorithms(number_of(supported))).expect("algorithms that there are");
+        self.supported = supported;
+    }
+
+    pub fn set_anonymous_username(&mut self, anonymous: Feature) {
+        Refusal::of(self.handle.set_anonymous_username(anonymous as u32)).expect("a feature that there is");
+        self.anonymous_username = anonymous;
+    }
+
+    pub fn anonymous_username(&self) -> Feature {
+        self.anonymous_username
+    }
+
+    /// Signs a message as the challenge that was taken up asks. Before one was, the message stays as it is.
+    pub fn sign_outgoing_message(&mut self, msg: MessageWriteVec) -> Result<MessageWriteVec, Refusal> {
+        signed(msg, |buffer, length| self.handle.sign(buffer, length))
+    }
+
+    /// What a response says. Show it only responses to an outstanding request, from the address that was asked.
+    pub fn validate_incoming_message(
+        &mut self,
+        msg: &Message<'_>,
+    ) -> Result<LongTermClientValidation, LongTermClientAuthError> {
+        match Refusal::of(self.handle.validate(msg.as_bytes())) {
+            Ok(3) => Ok(LongTermClientValidation::ResendRequest(None)),
+            Ok(answer) => Ok(LongTermClientValidation::Validated(IntegrityAlgorithm::of(answer))),
+            Err(refusal) => Err(LongTermClientAuthError::of(refusal)),
+        }
+    }
+}
+
+/// What a server makes of a message that it accepts.
+#[derive(Debug, Clone, Copy, PartialEq, Eq)]
+pub enum LongTermServerValidation {
+    /// Of a request or an indication the algorithm that both sides agreed on, whose key the digest was made under; of a
+    /// response the algorithm whose digest verifies.
+    Validated(IntegrityAlgorithm),
+}
+
+/// Why a server refuses a message (RFC 8489, section 9.2.4).
+#[derive(Debug, Clone, Copy, PartialEq, Eq)]
+pub enum LongTermServerAuthErrorReason {
+    /// The message has no integrity attribute, no registered user, or no digest that verifies: answer 401.
+    Unauthorized,
+    /// A response to the server that is not rightly signed.
+    IntegrityFailed,
+    /// Kept from the Rust crate: no call of a server answers it.
+    UnsupportedFeature,
+    /// The realm, the nonce, the name or an agreed algorithm is missing: answer 400, unsigned.
+    BadRequest,
+    /// The nonce is not the current one: answer 438.
+    StaleNonce,
+    /// An allocation failed.
+    OutOfMemory,
+}
+
+impl fmt::Display for LongTermServerAuthErrorReason {
+    fn fmt(&self, f: &mut fmt::Formatter<'_>) -> fmt::Result {
+        f.write_str(match self {
+            LongTermServerAuthErrorReason::Unauthorized => "The message is not sufficiently authenticated",
+            LongTermServerAuthErrorReason::IntegrityFailed => "The message failed integrity checks",
+            LongTermServerAuthErrorReason::UnsupportedFeature => "A required feature is not supported",
+            LongTermServerAuthErrorReason::BadRequest => "The request message is not well-formed",
+            LongTermServerAuthErrorReason::StaleNonce => "The nonce of the request is not the current one",
+            LongTermServerAuthErrorReason::OutOfMemory => "Out of memory",
+        })
+    }
+}
+
+/// A refusal of a message by a server.
+#[derive(Debug, Clone, Copy, PartialEq, Eq)]
+pub struct LongTermServerAuthError {
+    reason: LongTermServerAuthErrorReason,
+}
+
+impl LongTermServerAuthError {
+    fn of(refusal: Refusal) -> LongTermServerAuthError {
+        let reason = match refusal {
+            Refusal::Unauthorized => LongTermServerAuthErrorReason::Unauthorized,
+            Refusal::BadRequest => LongTermServerAuthErrorReason::BadRequest,
+            Refusal::StaleNonce => LongTermServerAuthErrorReason::StaleNonce,
+            Refusal::OutOfMemory => LongTermServerAuthErrorReason::OutOfMemory,
+            _ => LongTermServerAuthErrorReason::IntegrityFailed,
+        };
+        LongTermServerAuthError { reason }
+    }
+
+    pub fn reason(&self) -> LongTermServerAuthErrorReason {
+        self.reason
+    }
+
+    /// Always `None`: no digest is told of a message that is refused.
+    pub fn integrity(&self) -> Option<IntegrityAlgorithm> {
+        None
+    }
+}
+
+impl fmt::Display for LongTermServerAuthError {
+    fn fmt(&self, f: &mut fmt::Formatter<'_>) -> fmt::Result {
+        self.reason.fmt(f)
+    }
+}
+
+impl std::error::Error for LongTermServerAuthError {}
+
+/// The long-term authenticator of a server. One thread has it: it is neither `Send` nor `Sync`.
+pub struct LongTermServerAuth {
+    handle: archive::Server,
+    realm: String,
+    supported: &'static [IntegrityAlgorithm],
+    anonymous_username: Feature,
+}
+
+impl fmt::Debug for LongTermServerAuth {
+    fn fmt(&self, f: &mut fmt::Formatter<'_>) -> fmt::Result {
+        f.debug_struct("LongTermServerAuth").finish_non_exhaustive()
+    }
+}
+
+impl LongTermServerAuth {
+    /// A server without users, which supports HMAC-SHA1 and whose nonces last an hour. Or `OutOfMemory`.
+    pub fn new(realm: String) -> Result<LongTermServerAuth, Refusal> {
+        let handle = archive::Server::new(&realm).or_else(|answer| Err(Refusal::of(answer).unwrap_err()))?;
+        Ok(LongTermServerAuth { handle, realm, supported: &[Sha1], anonymous_username: Feature::Auto })
+    }
+
+    pub fn realm(&self) -> &str {
+        &self.realm
+    }
+
+    /// Registers a user, in the place of one of the same name. Or `OutOfMemory`.
+    pub fn add_user(&mut self, credentials: LongTermCredentials) -> Result<(), Refusal> {
+        Refusal::of(self.handle.add_user(credentials.username(), credentials.password())).map(drop)
+    }
+
+    /// Messages in that name are refused from then on. `remove_client` forgets where the user was validated.
+    pub fn remove_user(&mut self, user: &str) {
+        Refusal::of(self.handle.remove_user(user)).expect("a text");
+    }
+
+    /// The strongest first.
+    pub fn supported_integrity(&self) -> &[IntegrityAlgorithm] {
+        self.supported
+    }
+
+    pub fn add_supported_integrity(&mut self, integrity: IntegrityAlgorithm) {
+        self.support(if self.supported.contains(&integrity) { self.supported } else { &[Sha256, Sha1] });
+    }
+
+    pub fn set_supported_integrity(&mut self, integrity: IntegrityAlgorithm) {
+        self.support(only(integrity));
+    }
+
+    fn support(&mut self, supported: &'static [IntegrityAlgorithm]) {
+        Refusal::of(self.handle.set_algorithms(number_of(supported))).expect("algorithms that there are");
+        self.supported = supported;
+    }
+
+    /// A server takes `Required` as `Auto`. Or `OutOfMemory`.
+    pub fn set_anonymous_username(&mut self, anonymous: Feature) -> Result<(), Refusal> {
+        Refusal::of(self.handle.set_anonymous_username(anonymous as u32))?;
+        self.anonymous_username = anonymous;
+        Ok(())
+    }
+
+    pub fn anonymous_username(&self) -> Feature {
+        self.anonymous_username
+    }
+
+    /// How long a nonce lasts; less than 30 s is taken as 30 s. Nonces that were made keep their end.
+    pub fn set_nonce_expiry_duration(&mut self, expiry_duration: Duration) {
+        Refusal::of(self.handle.set_nonce_expiry(nanos_of(expiry_duration))).expect("any duration is taken");
+    }
+
+    /// Who was validated at an address, and by which algorithm. Or `OutOfMemory`.
+    pub fn client(&self, client: SocketAddr) -> Result<Option<(String, IntegrityAlgorithm)>, Refusal> {
+        let (mut room, mut length) = ([0; LONGEST_NAME], 0);
+        let found = Refusal::of(self.handle.client(Address::from(client), &mut room, &mut length))?;
+        if found == 0 {
+            return Ok(None);
+        }
+        let mut name = String::new();
+        name.try_reserve_exact(length).map_err(|_| Refusal::OutOfMemory)?;
+        name.push_str(std::str::from_utf8(&room[..length]).map_err(|_| Refusal::NotText)?);
+        Ok(Some((name, IntegrityAlgorithm::of(found))))
+    }
+
+    /// Forgets who was validated at an address.
+    pub fn remove_client(&mut self, client: SocketAddr) {
+        self.handle.remove_client(client.into());
+    }
+
+    /// Forgets each address without a client whose nonce expired before a moment.
+    pub fn forget_expired(&mut self, now: Instant) {
+        self.handle.forget_expired(now.as_nanos());
+    }
+
+    /// Signs a message to an address: NONCE and REALM in a response, and the offered algorithms or the digest under the
+    /// key of the address's client. Sign successes, 401 and 438; a 400 goes out as it is.
+    pub fn sign_outgoing_message(
+        &mut self,
+        msg: MessageWriteVec,
+        to: SocketAddr,
+    ) -> Result<MessageWriteVec, Refusal> {
+        signed(msg, |buffer, length| self.handle.sign(buffer, length, to.into()))
+    }
+
+    /// Who signed a message that came from an address. The words are random; a nonce is made of them where one is made,
+    /// which a refusal may do too.
+    pub fn validate_incoming_message(
+        &mut self,
+        msg: &Message<'_>,
+        from: SocketAddr,
+        now: Instant,
+        words: &[u32; 16],
+    ) -> Result<LongTermServerValidation, LongTermServerAuthError> {
+        let answer = self.handle.validate(msg.as_bytes(), from.into(), now.as_nanos(), words);
+        match Refusal::of(answer) {
+            Ok(answer) => Ok(LongTermServerValidation::Validated(IntegrityAlgorithm::of(answer))),
+            Err(refusal) => Err(LongTermServerAuthError::of(refusal)),
+        }
+    }
+}

@@ -1,0 +1,284 @@
+//! Whole conversations of a client and a server with long-term credentials.
+use std::net::SocketAddr;
+use std::time::Duration;
+use stun::auth::*;
+use stun::error::Refusal;
+use stun::message::*;
+use stun::Instant;
+use IntegrityAlgorithm::{Sha1, Sha256};
+
+const WORDS: [u32; 16] = [3, 1, 4, 1, 5, 9, 2, 6, 5, 3, 5, 8, 9, 7, 9, 3];
+const OTHER_WORDS: [u32; 16] = [2; 16];
+
+struct Conversation {
+    client: LongTermClientAuth,
+    server: LongTermServerAuth,
+    from: SocketAddr,
+    requests: u8,
+}
+
+fn credentials(password: &str) -> LongTermCredentials {
+    LongTermCredentials::new("user".to_string(), password.to_string())
+}
+
+impl Conversation {
+    fn new(password: &str) -> Conversation {
+        let mut client = LongTermClientAuth::new().unwrap();
+        client.set_credentials(credentials(password)).unwrap();
+        let mut server = LongTermServerAuth::new("realm".to_string()).unwrap();
+        server.add_user(credentials("pass")).unwrap();
+        Conversation { client, server, from: "10.0.0.1:12345".parse().unwrap(), requests: 0 }
+    }
+
+    fn with_both(password: &str) -> Conversation {
+        let mut both = Conversation::new(password);
+        both.client.add_supported_integrity(Sha256);
+        both.server.add_supported_integrity(Sha256);
+        both
+    }
+
+    fn request(&mut self) -> Vec<u8> {
+        self.requests += 1;
+        let request = Message::builder_request(BINDING, TransactionId([self.requests; 12]));
+        self.client.sign_outgoing_message(request).unwrap().finish()
+    }
+
+    /// What the server says of a request, and its answer.
+    fn answer(
+        &mut self,
+        request: &[u8],
+        now: Instant,
+        words: &[u32; 16],
+    ) -> (Result<IntegrityAlgorithm, LongTermServerAuthErrorReason>, Vec<u8>) {
+        let request = Message::from_bytes(request).unwrap();
+        let verdict = self.server.validate_incoming_message(&request, self.from, now, words);
+        let (verdict, code) = match verdict {
+            Ok(LongTermServerValidation::Validated(algorithm)) => (Ok(algorithm), None),
+            Err(error) => match error.reason() {
+                reason @ LongTermServerAuthErrorReason::Unauthorized => (Err(reason), Some(401)),
+                reason @ LongTermServerAuthErrorReason::StaleNonce => (Err(reason), Some(438)),
+                reason => (Err(reason), Some(400)),
+            },
+        };
+        let mut answer = Message::builder_success(&request);
+        match code {
+            None => answer.add_xor_mapped_address(self.from).unwrap(),
+            Some(code) => {
+                answer = Message::builder_error(&request);
+                answer.add_error_code(code, "").unwrap();
+            }
+        }
+        if code != Some(400) {
+            answer = self.server.sign_outgoing_message(answer, self.from).unwrap();
+        }
+        (verdict, answer.finish())
+    }
+
+    fn read(&mut self, answer: &[u8]) -> Result<LongTermClientValidation, LongTermClientAuthErrorReason> {
+        let answer = Message::from_bytes(answer).unwrap();
+        self.client.validate_incoming_message(&answer).map_err(|error| error.reason())
+    }
+
+    fn is_challenged(&mut self, now: Instant) {
+        let request = self.request();
+        let (verdict, answer) = self.answer(&request, now, &WORDS);
+        assert_eq!(verdict, Err(LongTermServerAuthErrorReason::Unauthorized));
+        assert_eq!(self.read(&answer), Ok(LongTermClientValidation::ResendRequest(None)));
+    }
+
+    fn is_validated(&mut self, now: Instant, algorithm: IntegrityAlgorithm) {
+        let request = self.request();
+        let (verdict, answer) = self.answer(&request, now, &WORDS);
+        assert_eq!(verdict, Ok(algorithm));
+        assert_eq!(self.read(&answer), Ok(LongTermClientValidation::Validated(algorithm)));
+        assert_eq!(Message::from_bytes(&answer).unwrap().xor_mapped_address(), Ok(self.from));
+    }
+}
+
+fn has(message: &[u8], kind: AttributeType) -> bool {
+    Message::from_bytes(message).unwrap().raw_attribute(kind).is_some()
+}
+
+#[test]
+fn negotiates_sha1() {
+    let mut both = Conversation::new("pass");
+    let first = both.request();
+    assert_eq!(first.len(), 20, "before a challenge nothing is signed");
+    both.is_challenged(Instant::ZERO);
+    both.is_validated(Instant::ZERO, Sha1);
+    both.is_validated(Instant::ZERO, Sha1);
+    assert_eq!(both.server.client(both.from), Ok(Some(("user".to_string(), Sha1))));
+    let request = both.request();
+    for kind in [AttributeType::NONCE, AttributeType::REALM, AttributeType::MESSAGE_INTEGRITY] {
+        assert!(has(&request, kind));
+    }
+    let key = long_term_key(Sha1, "user", "realm", "pass");
+    assert_eq!(Message::from_bytes(&request).unwrap().validate_integrity_with_key(&key), Ok(Sha1));
+}
+
+#[test]
+fn negotiates_sha256_with_hidden_names() {
+    let mut both = Conversation::with_both("pass");
+    both.is_challenged(Instant::ZERO);
+    let request = both.request();
+    assert!(has(&request, AttributeType::USERHASH) && !has(&request, AttributeType::USERNAME));
+    assert!(has(&request, AttributeType::PASSWORD_ALGORITHMS));
+    assert!(has(&request, AttributeType::MESSAGE_INTEGRITY_SHA256));
+    both.is_validated(Instant::ZERO, Sha256);
+    assert_eq!(both.server.client(both.from), Ok(Some(("user".to_string(), Sha256))));
+}
+
+#[test]
+fn shows_names_where_hiding_is_disabled() {
+    let mut both = Conversation::with_both("pass");
+    both.client.set_anonymous_username(Feature::Disabled);
+    both.is_challenged(Instant::ZERO);
+    let request = both.request();
+    assert!(has(&request, AttributeType::USERNAME) && !has(&request, AttributeType::USERHASH));
+    both.is_validated(Instant::ZERO, Sha256);
+}
+
+#[test]
+fn refuses_a_wrong_password() {
+    for mut both in [Conversation::new("wrong"), Conversation::with_both("wrong")] {
+        both.is_challenged(Instant::ZERO);
+        let request = both.request();
+        let (verdict, answer) = both.answer(&request, Instant::ZERO, &WORDS);
+        assert_eq!(verdict, Err(LongTermServerAuthErrorReason::Unauthorized));
+        assert_eq!(both.read(&answer), Err(LongTermClientAuthErrorReason::Unauthorized));
+        assert_eq!(both.server.client(both.from), Ok(None));
+    }
+}
+
+#[test]
+fn renews_a_stale_nonce() {
+    for (mut both, algorithm) in [(Conversation::new("pass"), Sha1), (Conversation::with_both("pass"), Sha256)] {
+        both.is_challenged(Instant::ZERO);
+        both.is_validated(Instant::ZERO, algorithm);
+        let late = Instant::ZERO + Duration::from_secs(3601);
+        let request = both.request();
+        let (verdict, answer) = both.answer(&request, late, &OTHER_WORDS);
+        assert_eq!(verdict, Err(LongTermServerAuthErrorReason::StaleNonce));
+        assert_eq!(Message::from_bytes(&answer).unwrap().error_code(), Ok(438));
+        assert!(matches!(both.read(&answer), Ok(LongTermClientValidation::ResendRequest(_))));
+        both.is_validated(late, algorithm);
+    }
+}
+
+#[test]
+fn nonces_last_thirty_seconds_at_least() {
+    let mut both = Conversation::new("pass");
+    both.server.set_nonce_expiry_duration(Duration::from_secs(1));
+    both.is_challenged(Instant::ZERO);
+    both.is_validated(Instant::ZERO + Duration::from_secs(29), Sha1);
+    let request = both.request();
+    let late = Instant::ZERO + Duration::from_secs(31);
+    assert_eq!(both.answer(&request, late, &WORDS).0, Err(LongTermServerAuthErrorReason::StaleNonce));
+}
+
+#[test]
+fn gives_up_where_nothing_is_shared() {
+    let mut both = Conversation::new("pass");
+    both.client.set_supported_integrity(Sha256);
+    let request = both.request();
+    let (_, answer) = both.answer(&request, Instant::ZERO, &WORDS);
+    assert_eq!(both.read(&answer), Err(LongTermClientAuthErrorReason::UnsupportedFeature));
+}
+
+#[test]
+fn a_client_without_credentials_is_unauthorized() {
+    let mut both = Conversation::new("pass");
+    both.client = LongTermClientAuth::new().unwrap();
+    let request = both.request();
+    let (_, answer) = both.answer(&request, Instant::ZERO, &WORDS);
+    // A challenge that cannot be taken up.
+    assert!(both.read(&answer).is_err());
+}
+
+#[test]
+fn a_removed_user_is_refused() {
+    let mut both = Conversation::new("pass");
+    both.is_challenged(Instant::ZERO);
+    both.is_validated(Instant::ZERO, Sha1);
+    both.server.remove_user("user");
+    let request = both.request();
+    let request = Message::from_bytes(&request).unwrap();
+    let verdict = both.server.validate_incoming_message(&request, both.from, Instant::ZERO, &WORDS);
+    assert_eq!(verdict.unwrap_err().reason(), LongTermServerAuthErrorReason::Unauthorized);
+    let unsigned = Message::builder_error(&request);
+    assert_eq!(both.server.sign_outgoing_message(unsigned, both.from), Err(Refusal::IntegrityFailed));
+    both.server.remove_client(both.from);
+    assert_eq!(both.server.client(both.from), Ok(None));
+}
+
+#[test]
+fn addresses_are_apart_and_forgotten() {
+    let mut both = Conversation::new("pass");
+    both.is_challenged(Instant::ZERO);
+    let signed = both.request();
+    both.from = "[2001:db8::1]:12345".parse().unwrap();
+    let (verdict, _) = both.answer(&signed, Instant::ZERO, &WORDS);
+    assert_eq!(verdict, Err(LongTermServerAuthErrorReason::StaleNonce), "the nonce is another address's");
+    both.server.forget_expired(Instant::MAX);
+    let other = Message::builder_request(BINDING, TransactionId([99; 12])).finish();
+    let success = Message::builder_success(&Message::from_bytes(&other).unwrap());
+    let unsigned = both.server.sign_outgoing_message(success.clone(), both.from).unwrap();
+    assert_eq!(unsigned, success, "no nonce is known for the address");
+}
+
+#[test]
+fn unsigned_answers_are_refused() {
+    let mut both = Conversation::new("pass");
+    both.is_challenged(Instant::ZERO);
+    let request = both.request();
+    let request = Message::from_bytes(&request).unwrap();
+    let mut forged = Message::builder_success(&request);
+    forged.add_xor_mapped_address(both.from).unwrap();
+    assert_eq!(both.read(&forged.finish()), Err(LongTermClientAuthErrorReason::IntegrityFailed));
+    both.is_validated(Instant::ZERO, Sha1);
+}
+
+#[test]
+fn settings_are_told() {
+    let mut client = LongTermClientAuth::new().unwrap();
+    assert_eq!(client.credentials(), None);
+    assert_eq!(client.supported_integrity(), [Sha1]);
+    client.add_supported_integrity(Sha256);
+    client.add_supported_integrity(Sha256);
+    assert_eq!(client.supported_integrity(), [Sha1, Sha256]);
+    client.set_supported_integrity(Sha1);
+    assert_eq!(client.supported_integrity(), [Sha1]);
+    client.set_credentials(credentials("pass")).unwrap();
+    assert_eq!(client.credentials(), Some(&credentials("pass")));
+    assert!(!format!("{:?}{client:?}", client.credentials()).contains("pass"));
+
+    let mut server = LongTermServerAuth::new("realm".to_string()).unwrap();
+    assert_eq!((server.realm(), server.supported_integrity()), ("realm", &[Sha1][..]));
+    server.add_supported_integrity(Sha256);
+    assert_eq!(server.supported_integrity(), [Sha256, Sha1]);
+    server.set_supported_integrity(Sha1);
+    assert_eq!(server.supported_integrity(), [Sha1]);
+    for feature in [Feature::Required, Feature::Disabled, Feature::Auto] {
+        client.set_anonymous_username(feature);
+        server.set_anonymous_username(feature).unwrap();
+        assert_eq!((client.anonymous_username(), server.anonymous_username()), (feature, feature));
+    }
+    let errors = [LongTermServerAuthErrorReason::BadRequest, LongTermServerAuthErrorReason::StaleNonce];
+    assert!(errors.iter().all(|reason| !reason.to_string().is_empty()));
+}
+
+#[test]
+fn a_long_challenge_is_signed() {
+    let realm = "r".repeat(763);
+    let name = "n".repeat(513);
+    let mut both = Conversation::with_both("pass");
+    both.server = LongTermServerAuth::new(realm).unwrap();
+    both.server.add_supported_integrity(Sha256);
+    let long = LongTermCredentials::new(name.clone(), "pass".to_string());
+    both.server.add_user(long.clone()).unwrap();
+    both.client.set_credentials(long).unwrap();
+    both.client.set_anonymous_username(Feature::Disabled);
+    both.is_challenged(Instant::ZERO);
+    both.is_validated(Instant::ZERO, Sha256);
+    assert_eq!(both.server.client(both.from), Ok(Some((name, Sha256))));
+}

@@ -9,10 +9,12 @@ if ! "${CC:-cc}" --version >/dev/null 2>&1 || ! command -v make >/dev/null; then
 fi
 scratch=$(mktemp -d)
 trap 'rm -rf "$scratch"' EXIT
-if ! (cd ../crates/stun_c && rt lib) >"$scratch/lib" 2>&1; then
-    cat "$scratch/lib" >&2
-    exit 1
-fi
+for crate in stun_c stun_state; do
+    if ! (cd "../crates/$crate" && rt lib) >"$scratch/lib" 2>&1; then
+        cat "$scratch/lib" >&2
+        exit 1
+    fi
+done
 
 # expect WANTED COMMAND..: the command prints this, whatever its status.
 expect() {
@@ -44,7 +46,18 @@ echo 'int main(void) { return 0; }' >"$scratch/empty.c"
 "${CC:-cc}" -O1 -g $strict -D_DEFAULT_SOURCE -std=c99 $sanitized c/hostile_messages.c ../crates/stun_c/out/libstun_c.a -o "$scratch/hostile"
 expect 'hostile_messages: passed' "$scratch/hostile"
 
-# The archive asks for nothing but these, so no call takes memory.
+# The calls with state: each, with each allocation refused, with many addresses, and on what strangers may send.
+"${CC:-cc}" -std=c99 $strict -Wconversion -x c -fsyntax-only ../include/stun_state.h
+if "${CXX:-c++}" --version >/dev/null 2>&1; then
+    "${CXX:-c++}" -std=c++17 $strict -Wconversion -x c++ -fsyntax-only ../include/stun_state.h
+fi
+for name in state refused many hostile_state; do
+    "${CC:-cc}" -O1 -g $strict -D_DEFAULT_SOURCE -std=c99 $sanitized "c/$name.c" c/heap.c ../crates/stun_state/out/libstun_state.a \
+        ../crates/stun_c/out/libstun_c.a -o "$scratch/$name"
+    expect "$name: passed" "$scratch/$name"
+done
+
+# The archive without state asks for nothing but these, so no call of it takes memory.
 needed=$(nm -u ../crates/stun_c/out/libstun_c.a | sed -n 's/^ *U //p' | grep -vxE 'memcpy|memmove|memset|memcmp' || true)
 if [ -n "$needed" ]; then
     echo "examples: the archive needs" $needed >&2

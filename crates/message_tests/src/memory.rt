@@ -71,7 +71,9 @@ fn copies_of_a_password(rt: HostRuntime) -> Result<(), Fail> {
     assert!(rt; credentials.clone().is_err());
     assert!(rt; !heap.is_waiting());
     assert_eq!(rt; credentials.password(), "password");
+    let live = heap.live();
     assert_eq!(rt; credentials.clone()?.password(), "password");
+    assert_eq!(rt; heap.live(), live);
     Ok(())
 }
 
@@ -85,6 +87,7 @@ fn user<A: Allocator + Copy>(alloc: A) -> Result<LongTermCredentials<A>, AllocEr
 fn copies_of_a_user(rt: HostRuntime) -> Result<(), Fail> {
     let heap = RefusingAllocator::new(rt.alloc());
     let user = user(&heap)?;
+    let live = heap.live();
     for nth in 1..MOST_ALLOCATIONS {
         heap.refuse(nth);
         let answer: Result<_, _> = user.clone();
@@ -95,6 +98,7 @@ fn copies_of_a_user(rt: HostRuntime) -> Result<(), Fail> {
         } else {
             assert!(rt; !is_last);
         }
+        assert_eq!(rt; heap.live(), live);
         if is_last {
             return Ok(());
         }
@@ -106,6 +110,7 @@ fn copies_of_a_user(rt: HostRuntime) -> Result<(), Fail> {
 fn a_user_at_a_realm(rt: HostRuntime) -> Result<(), Fail> {
     let heap = RefusingAllocator::new(rt.alloc());
     let user = user(&heap)?;
+    let live = heap.live();
     for nth in 1..MOST_ALLOCATIONS {
         let realm = String::from_str(&heap, "realm")?;
         heap.refuse(nth);
@@ -118,6 +123,7 @@ fn a_user_at_a_realm(rt: HostRuntime) -> Result<(), Fail> {
         } else {
             assert!(rt; !is_last);
         }
+        assert_eq!(rt; heap.live(), live);
         if is_last {
             return Ok(());
         }
@@ -133,6 +139,7 @@ fn user_at_realm<A: Allocator + Copy>(alloc: A) -> Result<LongTermKeyCredentials
 fn copies_of_a_user_at_a_realm(rt: HostRuntime) -> Result<(), Fail> {
     let heap = RefusingAllocator::new(rt.alloc());
     let user = user_at_realm(&heap)?;
+    let live = heap.live();
     for nth in 1..MOST_ALLOCATIONS {
         heap.refuse(nth);
         let answer: Result<_, _> = user.clone();
@@ -144,6 +151,7 @@ fn copies_of_a_user_at_a_realm(rt: HostRuntime) -> Result<(), Fail> {
         } else {
             assert!(rt; !is_last);
         }
+        assert_eq!(rt; heap.live(), live);
         if is_last {
             return Ok(());
         }

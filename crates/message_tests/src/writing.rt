@@ -50,18 +50,20 @@ fn write_request<W: MessageWrite>(writer: W) -> Result<W, StunWriteError>
 fn writes_a_request(rt: HostRuntime) -> Result<(), Fail> {
     let written = write_request(MessageWriteVec::new(rt.alloc()))?.finish();
     assert_eq!(rt; written.as_slice(), REQUEST.as_slice());
+    assert!(rt; written.capacity() < 100);
     let mut room = [0xff; 40];
     let written = write_request(MessageWriteMutSlice::new(&mut room))?.finish();
     assert_eq!(rt; written, REQUEST.as_slice());
+    assert_eq!(rt; &room[28..], [0xff; 12].as_slice());
     let written = write_request(ArrayWriter::<72>::new())?.finish();
     assert_eq!(rt; written.bytes(), REQUEST.as_slice());
     Ok(())
 }
 
-/// What was written before stays.
+/// What was written before stays, and what is after it.
 #[test]
 fn refuses_without_room(rt: HostRuntime) -> Result<(), Fail> {
-    let mut room = [0; 24];
+    let mut room = [0xff; 24];
     let id = TransactionId::from_u128(1).ok_or("96 bits")?;
     let mut writer = Message::builder_request(BINDING, id, MessageWriteMutSlice::new(&mut room))?;
     let answer = writer.add_attribute(&Username::new("a:b")?);
@@ -71,6 +73,7 @@ fn refuses_without_room(rt: HostRuntime) -> Result<(), Fail> {
     ];
     assert_eq!(rt; writer.data(), header.as_slice());
     assert_eq!(rt; writer.room(), 4);
+    assert_eq!(rt; &room[20..], [0xff; 4].as_slice());
     let mut short = [0; 19];
     let answer = Message::builder_request(BINDING, id, MessageWriteMutSlice::new(&mut short));
     assert_eq!(rt; answer.err(), Some(StunWriteError::TooSmall));

@@ -3,6 +3,7 @@ pub mod AfterCalls
 pub mod Along
 pub mod Answered
 pub mod Chosen
+pub mod Counting
 pub mod DrawnWords
 pub mod DriveLemmas
 pub mod Existence

@@ -38,6 +38,8 @@ pub mod Run
 pub mod Examples
 -- what holds of all runs: each list of events has one and no other, and each request keeps its plan
 pub mod RunLaws
+-- what the steps of a run add to the counters of its agent
+pub mod Counters
 -- a run that stops because an allocation failed
 pub mod Stopped
 -- a call of a server as a value: what its equality compares, and what is shown of it

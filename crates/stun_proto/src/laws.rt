@@ -13,6 +13,7 @@ ghost use Rattle.stun_auth.specs.Validation.{answer};
 ghost use Rattle.stun_proto.specs.Best.{BestIsStrongest};
 ghost use Rattle.stun_proto.specs.Examples.{binding_request, udp_steps, tcp_steps};
 ghost use Rattle.stun_proto.specs.CallValues.{value_of};
+ghost use Rattle.stun_proto.specs.Counters.{RunsCountSteps};
 ghost use Rattle.stun_proto.specs.Honest.{ShortNamesAreSigned, StrongestIsAgreed};
 ghost use Rattle.stun_proto.specs.Renewal.{NonceIsRenewed};
 ghost use Rattle.stun_proto.specs.Headline.{IsAskedOnce, SendsByPlan, ValidatesOneCall};
@@ -39,6 +40,12 @@ pub fn runs_are_determined()
 /// Each list of events whose moments do not go back has a run.
 pub fn events_have_runs()
     ensures { EventsHaveRuns }
+{}
+
+/// The steps of a run and the counters of its agent tell the same: of requests that timed out or were cancelled, of indications and
+/// responses sent, and of bytes sent, retransmissions among them (RFC 8489, section 6.2). Whoever keeps the steps can do without counters.
+pub fn runs_count_steps()
+    ensures { RunsCountSteps }
 {}
 
 /// Whoever drives an agent in this way, a request that is asked once and is undisturbed is sent by its plan, and times out once.

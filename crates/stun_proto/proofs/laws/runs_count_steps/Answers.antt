@@ -1,0 +1,5 @@
+use Rattle.stun_proto.proofs.Counting.{runs_count_steps}
+use Rattle.stun_proto.proofs.laws.runs_count_steps.Goals as goal
+
+pub returns : goal.returns
+returns c = runs_count_steps

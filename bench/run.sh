@@ -5,15 +5,32 @@ set -eu
 cd "$(dirname "$0")"
 CC=${CC:-cc}
 archive=../crates/stun_c/out/libstun_c.a
-(cd ../crates/stun_c && rt lib >/dev/null)
 mkdir -p out
-"$CC" -O2 -Wall -Wextra -Werror -Wno-deprecated-declarations -I../include bench.c "$archive" -lcrypto -o out/bench
+
+# tried NAME COMMAND..: runs it and says how long it took; where it fails, prints it with its output and ends.
+tried() {
+    name=$1 began=$(date +%s)
+    shift
+    if ! "$@" >out/log 2>&1; then
+        cat out/log >&2
+        echo "bench: failed: $name: $*" >&2
+        exit 1
+    fi
+    echo "$name: $(($(date +%s) - began)) s" >&2
+}
+library() { (cd ../crates/stun_c && rt lib); }
+tried 'the archive, proved and built' library
+tried 'the driver' "$CC" -O2 -Wall -Wextra -Werror -Wno-deprecated-declarations -I../include bench.c "$archive" -lcrypto -o out/bench
 
 # Instructions of one call: those from entering its function to leaving it, over so many calls. `prepare` makes a few
 # calls before them, so two counts are taken, and the difference counts.
 collected() {
-    valgrind --tool=callgrind --callgrind-out-file=/dev/null --toggle-collect="$2" out/bench call "$1" "$3" 2>&1 |
-        sed -n 's/.*Collected : \([0-9]*\).*/\1/p'
+    if ! valgrind --tool=callgrind --callgrind-out-file=/dev/null --toggle-collect="$2" out/bench call "$1" "$3" >out/log 2>&1; then
+        cat out/log >&2
+        echo "bench: failed: valgrind .. out/bench call $1 $3" >&2
+        exit 1
+    fi
+    sed -n 's/.*Collected : \([0-9]*\).*/\1/p' out/log
 }
 : >out/counts
 if command -v valgrind >/dev/null; then

@@ -1,0 +1,158 @@
+/* Makes a call through C many times: `state CALL SIZE TIMES`, with the names and the states of crates/bench_agent, so that
+ * state.py can count both. Prints how many of the calls did what they were to do. */
+#include "stun_state.h"
+#include <stdbool.h>
+#include <stdio.h>
+#include <stdlib.h>
+#include <string.h>
+
+enum { MOST_TIMES = 100, ID = STUN_ID_LENGTH };
+
+static const uint64_t SECOND = 1000000000;
+static const uint32_t words[16];
+
+struct message { uint8_t bytes[512]; size_t length; };
+
+static void fail(const char *what) {
+    fprintf(stderr, "state: %s\n", what);
+    exit(1);
+}
+
+/* The ids of successive requests are far apart. */
+static void write_id(uint32_t number, uint8_t *id) {
+    uint64_t scattered = number * 0x9e3779b97f4a7c15;
+    for (int i = 0; i < ID; i++) id[i] = i < 4 ? 0 : (uint8_t)(scattered >> (88 - 8 * i));
+}
+
+static stun_address address_of(uint32_t number) {
+    stun_address address = {{0}, 3478, 4};
+    for (int i = 0; i < 4; i++) address.octets[i] = (uint8_t)(number >> (24 - 8 * i));
+    return address;
+}
+
+static uint64_t moment(uint32_t number) { return number * (uint64_t)1000; }
+
+static struct message message_of(uint32_t class, uint32_t number) {
+    struct message message = {{0}, STUN_HEADER_LENGTH};
+    uint8_t id[ID];
+    write_id(number, id);
+    if (stun_begin(class, STUN_BINDING, id, ID, message.bytes, sizeof message.bytes) < 0) fail("no message");
+    return message;
+}
+
+/* ---- Calls of an agent that has sent a request in each microsecond. */
+
+static stun_agent agent;
+static struct message messages[MOST_TIMES];
+
+static void prepare_agent(uint32_t size, uint32_t transmissions, uint32_t class, uint32_t first) {
+    stun_address local = address_of(1), none = {{0}, 0, 0}, to = address_of(0);
+    stun_timeouts timeouts = {SECOND / 2, UINT64_MAX, 8 * SECOND, transmissions};
+    if (stun_agent_new_with(&agent, STUN_UDP, &local, &none, &timeouts) < 0) fail("no agent");
+    for (uint32_t number = 0; number < size; number++) {
+        struct message request = message_of(STUN_REQUEST, number);
+        if (stun_agent_send_request(&agent, request.bytes, request.length, &to, moment(number + 1)) < 0) fail("not sent");
+    }
+    for (uint32_t i = 0; i < MOST_TIMES; i++) messages[i] = message_of(class, first + i);
+}
+
+static bool agent_does(const char *call, uint32_t size, uint32_t turn) {
+    const struct message *message = &messages[turn];
+    stun_address to = address_of(0);
+    uint8_t out[64], *id = messages[turn].bytes + 8;
+    uint64_t until;
+    if (strcmp(call, "poll") == 0) return stun_agent_poll(&agent, moment(size), &until, out, sizeof out) == 0;
+    if (strcmp(call, "poll_transmit") == 0) return stun_agent_poll_transmit(&agent, moment(size), out, sizeof out, &to) == 0;
+    if (strcmp(call, "transmits_one") == 0)
+        return stun_agent_poll_transmit(&agent, moment(turn + 1 + 500000), out, sizeof out, &to) > 0;
+    if (strcmp(call, "ends_one") == 0)
+        return stun_agent_poll(&agent, moment(turn + 1 + 8000000), &until, out, sizeof out) == STUN_TIMED_OUT;
+    if (strcmp(call, "sends_last") == 0)
+        return stun_agent_send_request(&agent, message->bytes, message->length, &to, moment(size)) == 0;
+    if (strcmp(call, "responds") == 0) return stun_agent_handle(&agent, message->bytes, message->length, &to, 0) == 1;
+    if (strcmp(call, "cancels") == 0) return stun_agent_cancel(&agent, id, ID) == 1;
+    return stun_agent_is_outstanding(&agent, id, ID, &to) == 1;
+}
+
+/* ---- Calls of a server that knows so many users and addresses. */
+
+static stun_server server;
+static struct message signed_request;
+
+static void challenge(uint32_t number, struct message *error) {
+    stun_address from = address_of(number);
+    struct message unsigned_request = message_of(STUN_REQUEST, 1);
+    stun_server_validate(&server, unsigned_request.bytes, unsigned_request.length, &from, 0, words);
+    *error = message_of(STUN_ERROR, 1);
+    int64_t length = stun_add_error(error->bytes, sizeof error->bytes, error->length, 401, (const uint8_t *)"Unauthorized", 12);
+    if (length > 0) length = stun_server_sign(&server, error->bytes, sizeof error->bytes, (size_t)length, &from);
+    if (length < 0) fail("no challenge");
+    error->length = (size_t)length;
+}
+
+static bool is_validated(uint32_t number) {
+    stun_address from = address_of(number);
+    return stun_server_validate(&server, signed_request.bytes, signed_request.length, &from, 0, words) > 0;
+}
+
+static void prepare_server(uint32_t size, bool is_strong) {
+    stun_client client = {0};
+    const uint8_t *password = (const uint8_t *)"pass";
+    uint32_t algorithms = is_strong ? STUN_SHA1 | STUN_SHA256 : STUN_SHA1;
+    stun_server_new(&server, (const uint8_t *)"realm", 5);
+    stun_server_set_algorithms(&server, algorithms);
+    for (uint32_t number = 0; number < size; number++) {
+        char name[16];
+        int length = sprintf(name, "user%u", number);
+        stun_server_add_user(&server, (const uint8_t *)name, (size_t)length, password, 4);
+    }
+    stun_client_new(&client);
+    stun_client_set_algorithms(&client, algorithms);
+    stun_client_set_credentials(&client, (const uint8_t *)"user0", 5, password, 4);
+    struct message error;
+    challenge(0, &error);
+    if (stun_client_validate(&client, error.bytes, error.length) != STUN_RESEND) fail("no request");
+    signed_request = message_of(STUN_REQUEST, 2);
+    int64_t length = stun_client_sign(&client, signed_request.bytes, sizeof signed_request.bytes, signed_request.length);
+    if (length < 0) fail("not signed");
+    signed_request.length = (size_t)length;
+    stun_client_free(&client);
+    for (uint32_t number = 0; number < size; number++) {
+        challenge(number, &error);
+        if (!is_validated(number)) fail("not validated");
+    }
+}
+
+/* ---- A message of 44 bytes under a key of four. */
+
+static bool verifies(void) {
+    return stun_verify(signed_request.bytes, signed_request.length, (const uint8_t *)"pass", 4) == STUN_SHA1;
+}
+
+static bool parses(void) { return stun_parse(signed_request.bytes, signed_request.length) == 0; }
+
+int main(int count, char **arguments) {
+    if (count != 4) fail("usage: state CALL SIZE TIMES");
+    const char *call = arguments[1];
+    uint32_t size = (uint32_t)strtoul(arguments[2], NULL, 10), times = (uint32_t)strtoul(arguments[3], NULL, 10), done = 0;
+    if (times > MOST_TIMES) fail("too many times");
+    bool is_strong = strstr(call, "sha256") != NULL, is_server = is_strong || strstr(call, "sha1") != NULL;
+    if (is_server) prepare_server(size, is_strong);
+    else if (strcmp(call, "verifies") == 0) {
+        signed_request = message_of(STUN_REQUEST, 2);
+        signed_request.length = (size_t)stun_sign(signed_request.bytes, 512, 20, STUN_SHA1, (const uint8_t *)"pass", 4);
+    } else {
+        bool is_response = strcmp(call, "responds") == 0, is_new = strcmp(call, "sends_last") == 0;
+        prepare_agent(size, strcmp(call, "ends_one") == 0 ? 1 : 7, is_response ? STUN_SUCCESS : STUN_REQUEST, is_new ? size : 0);
+    }
+    for (uint32_t turn = 0; turn < times; turn++) {
+        if (strncmp(call, "parses", 6) == 0) done += parses();
+        else if (is_server) done += is_validated(0);
+        else if (strcmp(call, "verifies") == 0) done += verifies();
+        else done += agent_does(call, size, turn);
+    }
+    printf("%u\n", done);
+    stun_agent_free(&agent);
+    stun_server_free(&server);
+    return 0;
+}

@@ -6,7 +6,7 @@
  * --within SECONDS    gives up after so long; the library does after 39.5 s
  *
  * Without a name it takes an answer that nobody signed; with one, only an answer that the server signed. Status 0; or 1, and
- * why on standard error: `no answer`, `refused ..` or `unsupported ..`; or 2 for wrong words. */
+ * why on standard error: `no answer`, `refused CODE`, `unsupported ..` or `failed ..`; or 2 for wrong words. */
 #define _GNU_SOURCE
 #include "heap.h"
 #include "net.h"
@@ -158,7 +158,8 @@ static int report(const struct asker *asker, enum end end) {
         puts(text);
         return 0;
     case REFUSED:
-        fprintf(stderr, "refused %lld\n", (long long)asker->number);
+        if (asker->asks > MOST_ASKS) fprintf(stderr, "refused: challenged too often\n");
+        else fprintf(stderr, "refused %lld\n", (long long)asker->number);
         return 1;
     case UNSUPPORTED:
         fprintf(stderr, "unsupported: %s\n", stun_strerror(STUN_UNSUPPORTED_FEATURE));

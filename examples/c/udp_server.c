@@ -23,7 +23,7 @@
 
 enum { MOST_WORKERS = 64, MOST_ATTRIBUTES = 64, MOST_UNKNOWN = 16, GROUP = 16 };
 static const uint64_t PERIOD = 10 * 1000000000ull; /* nonces that expired are forgotten so often */
-static const size_t MOST_MEMORY = 256u << 20;      /* of one process */
+static const size_t MOST_MEMORY = 64u << 20;      /* of one process */
 
 static struct {
     unsigned long port, workers, expiry, ahead, addresses;

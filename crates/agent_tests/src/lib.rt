@@ -12,6 +12,8 @@ mod authenticator_first;
 #[cfg(test)]
 mod counted_polls;
 #[cfg(test)]
+mod long_requests;
+#[cfg(test)]
 mod memory;
 #[cfg(test)]
 mod new_statistics;

@@ -9,3 +9,5 @@ mod dialogue;
 mod paths;
 #[cfg(test)]
 mod server_loop;
+#[cfg(test)]
+mod texts;

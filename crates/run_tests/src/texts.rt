@@ -1,0 +1,54 @@
+//! What the errors of runs say, and a signing that a server refuses in a run.
+use std::test::Fail;
+use stun_auth::auth::LongTermServerAuth;
+use stun_proto::replay::{NegotiateError, ServerCall, ServerReply, Stopped, serve};
+use stun_types::attribute::AttributeType;
+use stun_types::message::StunWriteError;
+use test_support::datagrams::{address, at};
+use test_support::spelled::bytes_of;
+
+/// A Binding request with id 1.
+const REQUEST: &str = "000100002112a442000000000000000000000001";
+
+/// A Binding error with id 1, ERROR-CODE 401 and a REALM.
+const REALM_ALREADY: &str =
+    "0111001c2112a4420000000000000000000000010009001000000401556e617574686f72697a65640014000461626364";
+
+#[test]
+fn of_errors(rt: HostRuntime) -> Result<(), Fail> {
+    let alloc = rt.alloc();
+    let stopped = Stopped { done: 3 };
+    assert_eq!(rt;
+        format!(in alloc; "{stopped}")?.as_str(),
+        "out of memory, 3 of them complete"
+    );
+    let memory = NegotiateError::Memory;
+    assert_eq!(rt; format!(in alloc; "{memory}")?.as_str(), "out of memory");
+    Ok(())
+}
+
+/// A response with a REALM of its own cannot be signed, and the run goes on.
+#[test]
+fn a_refused_signing_is_a_reply(rt: HostRuntime) -> Result<(), Fail> {
+    let alloc = rt.alloc();
+    let mut server = LongTermServerAuth::new(alloc, String::from_str(alloc, "realm")?);
+    let calls = [
+        ServerCall::Validate {
+            from: address(1, 5000),
+            now: at(0),
+            message: bytes_of(alloc, REQUEST)?,
+            words: [0; 16],
+        },
+        ServerCall::Sign {
+            to: address(1, 5000),
+            message: bytes_of(alloc, REALM_ALREADY)?,
+        },
+        ServerCall::RemoveClient(address(1, 5000)),
+    ];
+    let replies = serve(alloc, &mut server, &calls)?;
+    assert_eq!(rt; replies.len(), 3);
+    let refused = ServerReply::SignRefused(StunWriteError::AttributeExists(AttributeType::REALM));
+    assert_eq!(rt; replies[1], refused);
+    assert_eq!(rt; replies[2], ServerReply::Done);
+    Ok(())
+}

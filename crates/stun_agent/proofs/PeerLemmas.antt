@@ -51,7 +51,7 @@ same_address-exact a b h = by (address_cmp a b) refl h
     by Equal is h = address_exact a b is
     by Greater is h = cc
 
-same_address-own : (a : SocketAddr) → same_address a a ≡ true
+pub same_address-own : (a : SocketAddr) → same_address a a ≡ true
 same_address-own a = by (address_cmp a a) (address_total.antisymm a a)
   where
     by : (r : Ordering) → r ≡ ordering_reverse r → is_eq r ≡ true

@@ -1,4 +1,5 @@
 //! Each allocation that an agent asks for refused in turn: it is then as before. Which calls ask for none.
+use crate::answers::wait;
 use fail_alloc::RefusingAllocator;
 use std::alloc::Global;
 use std::process::Abort;
@@ -123,32 +124,60 @@ fn a_transmit_is_owned_or_not(rt: HostRuntime) -> Result<(), Fail> {
     heap.each_refusal(|nth| owns(&rt, &heap, nth))
 }
 
-/// Polls, changes of a request and its end ask for no memory.
+/// Polls, changes of a request, its end and a response from a known peer ask for no memory.
 #[test]
 fn polls_do_not_allocate(rt: HostRuntime) -> Result<(), Fail> {
     let heap = RefusingAllocator::new(rt.alloc());
-    let mut agent = StunAgent::builder(&heap, TransportType::Udp, local()).build();
-    for number in [1, 2] {
+    let mut agent = StunAgent::builder(&heap, TransportType::Udp, local())
+        .stats(true)
+        .build();
+    for number in [1, 2, 3] {
         let _sent = agent.send_request(message(REQUEST, number), peer(), at(0))?;
     }
+    agent.validated_peer(peer())?;
     let allocations = heap.allocations();
     heap.refuse(1);
-    assert!(rt; agent.next_transmit(at(500)).is_some());
-    assert!(rt; agent.poll_transmit(at(500)).is_some());
-    assert_eq!(rt; agent.next_awaited(), Some(at(500)));
+    waits_and_sends_again(&rt, &mut agent)?;
+    ends_each_request(&rt, &mut agent)?;
+    assert!(rt; heap.is_waiting());
+    assert_eq!(rt; heap.allocations(), allocations);
+    Ok(())
+}
+
+/// Nothing is due, and then each request is.
+fn waits_and_sends_again(rt: &impl Abort, agent: &mut StunAgent<&Heap>) -> Result<(), Fail> {
+    assert_eq!(rt; agent.poll(at(499)), wait(500));
+    assert!(rt; agent.next_transmit(at(499)).is_none());
+    assert!(rt; agent.poll_transmit(at(499)).is_none());
+    agent
+        .mut_request_transaction(id(3)?)
+        .ok_or("it is outstanding")?
+        .cancel_retransmissions();
+    for _ in 0..2 {
+        assert!(rt; agent.next_transmit(at(500)).is_some());
+        assert!(rt; agent.poll_transmit(at(500)).is_some());
+    }
+    assert!(rt; agent.poll_transmit(at(500)).is_none());
+    assert_eq!(rt; agent.next_awaited(), Some(at(1500)));
+    Ok(())
+}
+
+/// One request is cancelled, one is answered, and one times out.
+fn ends_each_request(rt: &impl Abort, agent: &mut StunAgent<&Heap>) -> Result<(), Fail> {
     agent
         .mut_request_transaction(id(1)?)
         .ok_or("it is outstanding")?
         .cancel();
     let end = agent.poll(at(500));
     assert_eq!(rt; end, StunAgentPollRet::TransactionCancelled(id(1)?));
+    let bytes = message(SUCCESS, 3);
+    let response = Message::from_bytes(&bytes)?;
+    assert_eq!(rt; agent.handle_stun_message(&response, peer()), Ok(true));
     agent
         .mut_request_transaction(id(2)?)
         .ok_or("it is outstanding")?
         .configure_timeout(Duration::from_millis(500), 1, Duration::from_secs(1));
     let end = agent.poll(at(60000));
     assert_eq!(rt; end, StunAgentPollRet::TransactionTimedOut(id(2)?));
-    assert!(rt; heap.is_waiting());
-    assert_eq!(rt; heap.allocations(), allocations);
     Ok(())
 }

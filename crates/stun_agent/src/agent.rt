@@ -104,7 +104,15 @@ impl<A: Allocator> Model for StunAgent<A> {
 
     ghost Value = { Agent };
 
-    ghost view = { λ a. record { transport = a.outstanding.transport; local_addr = a.local_addr; remote_addr = a.remote_addr; settings = settings_of a.settings; transactions = a.outstanding.requests; peers = a.peers.keys; statistics = a.stats } };
+    ghost view = { λ a. record {
+      transport = a.outstanding.transport;
+      local_addr = a.local_addr;
+      remote_addr = a.remote_addr;
+      settings = settings_of a.settings;
+      transactions = a.outstanding.requests;
+      peers = a.peers.keys;
+      statistics = a.stats;
+    } };
 }
 
 impl<A: Allocator + Copy> StunAgent<A> {

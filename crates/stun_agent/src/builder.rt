@@ -34,7 +34,15 @@ impl<A: Allocator> Model for StunAgentBuilder<A> {
 
     ghost Value = { Agent };
 
-    ghost view = { λ b. record { transport = b.transport; local_addr = b.local_addr; remote_addr = b.remote_addr; settings = settings_of b.settings; transactions = []; peers = []; statistics = statistics_if b.stats } };
+    ghost view = { λ b. record {
+      transport = b.transport;
+      local_addr = b.local_addr;
+      remote_addr = b.remote_addr;
+      settings = settings_of b.settings;
+      transactions = [];
+      peers = [];
+      statistics = statistics_if b.stats;
+    } };
 }
 
 impl<A: Allocator + Copy> StunAgentBuilder<A> {
@@ -55,7 +63,14 @@ impl<A: Allocator + Copy> StunAgentBuilder<A> {
         retransmits: u32,
         final_wait: Duration,
     ) -> Self
-        ensures { result ≡ record self { settings = record { initial = as_nanos initial; maximum = as_nanos max; transmissions = retransmits; last_wait = as_nanos final_wait } } }
+        ensures { result ≡ record self {
+          settings = record {
+            initial = as_nanos initial;
+            maximum = as_nanos max;
+            transmissions = retransmits;
+            last_wait = as_nanos final_wait;
+          };
+        } }
     {
         self.settings = RequestRto {
             initial,

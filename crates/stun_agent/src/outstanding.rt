@@ -136,9 +136,13 @@ impl<A: Allocator + Copy> Outstanding<A> {
     /// Passes the slots that are due, and tells of the request that is to be sent again its id and how many bytes it has.
     pub(crate) fn pass_due_slots(&mut self, now: Instant) -> Option<(TransactionId, usize)>
         ensures sent { result ≡ option_map (λ e. (e.0, length e.1.bytes)) (next_sent self.old.transport now self.old.requests) }
-        ensures after { self.new ≡ record self.old { requests = after_slots self.old.transport now (option_map (λ s. s.0) result) self.old.requests } }
+        ensures after { self.new ≡ record self.old {
+          requests = after_slots self.old.transport now
+              (option_map (λ s. s.0) result) self.old.requests;
+        } }
         ensures request { IfSome (next_sent self.old.transport now self.old.requests) IsNamed }
-        ensures kept { IfSome result (λ s. option_map contents (at s.0 self.new.requests) ≡ option_map (λ e. contents e.1) (next_sent self.old.transport now self.old.requests)) }
+        ensures kept { IfSome result (λ s. option_map contents (at s.0 self.new.requests)
+            ≡ option_map (λ e. contents e.1) (next_sent self.old.transport now self.old.requests)) }
     {
         if !self.deadlines.has_come(now) {
             return None;

@@ -124,7 +124,8 @@ impl<A: Allocator + Copy> StunAgent<A> {
     fn pass_and_count(&mut self, now: Instant) -> Option<TransactionId>
         ensures sent { result ≡ option_map (λ e. e.0) (sent_by_poll now self.old) }
         ensures after { self.new ≡ after_poll_transmit now self.old }
-        ensures kept { IfSome result (λ id. option_map contents (at id self.new.transactions) ≡ option_map (λ e. contents e.1) (sent_by_poll now self.old)) }
+        ensures kept { IfSome result (λ id. option_map contents (at id self.new.transactions)
+            ≡ option_map (λ e. contents e.1) (sent_by_poll now self.old)) }
         ensures request { IfSome (sent_by_poll now self.old) IsNamed }
     {
         let (id, length) = self.outstanding.pass_due_slots(now)?;

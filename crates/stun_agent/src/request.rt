@@ -38,7 +38,8 @@ pub struct StunRequestMut<'a, A: Allocator = Global> {
 impl<A: Allocator + Copy> StunAgent<A> {
     /// The request of a transaction, while it is outstanding. Takes no memory.
     pub fn request_transaction(&self, id: TransactionId) -> Option<StunRequest<'_, A>>
-        ensures request { option_map (λ r. (r.peer_address, r.integrity)) result ≡ option_map peer_and_integrity (at id self.now.transactions) }
+        ensures request { option_map (λ r. (r.peer_address, r.integrity)) result
+            ≡ option_map peer_and_integrity (at id self.now.transactions) }
         ensures agent { IfSome result (λ r. r.agent.now ≡ self.now) }
     {
         let request = self.outstanding.get(id)?;
@@ -52,8 +53,10 @@ impl<A: Allocator + Copy> StunAgent<A> {
     /// The request of a transaction, to be changed, while it is outstanding. Takes no memory.
     pub fn mut_request_transaction(&mut self, id: TransactionId) -> Option<StunRequestMut<'_, A>>
         ensures* lends { sem 𝓛 (rests A.row A.Allocator self.entry result) }
-        ensures request { option_map (λ r. (r.peer_address, r.integrity)) result ≡ option_map peer_and_integrity (at id self.old.transactions) }
-        ensures agent { IfSome result (λ r. (r.agent.now ≡ self.old) × (r.agent.ghost_name ≡ self.entry.ghost_name) × (r.id ≡ id)) }
+        ensures request { option_map (λ r. (r.peer_address, r.integrity)) result
+            ≡ option_map peer_and_integrity (at id self.old.transactions) }
+        ensures agent { IfSome result (λ r. (r.agent.now ≡ self.old) × (r.agent.ghost_name ≡ self.entry.ghost_name)
+            × (r.id ≡ id)) }
     {
         let (peer_address, integrity) = self.peer_of(id)?;
         Some(StunRequestMut {
@@ -187,7 +190,13 @@ impl<'a, A: Allocator + Copy> StunRequestMut<'a, A> {
         retransmits: u32,
         last_retransmit: Duration,
     )
-        ensures { StaysWith self.old self.new (changed (configured (record { initial = as_nanos initial; maximum = max_nanos; transmissions = retransmits; last_wait = as_nanos last_retransmit }))
+        ensures { StaysWith self.old self.new
+            (changed (configured (record {
+              initial = as_nanos initial;
+              maximum = max_nanos;
+              transmissions = retransmits;
+              last_wait = as_nanos last_retransmit;
+            }))
             self.old.id self.old.agent.now.transactions) }
     {
         self.configure_timeout_with_max(initial, retransmits, last_retransmit, Duration::MAX);
@@ -201,7 +210,13 @@ impl<'a, A: Allocator + Copy> StunRequestMut<'a, A> {
         last_retransmit: Duration,
         max: Duration,
     )
-        ensures { StaysWith self.old self.new (changed (configured (record { initial = as_nanos initial; maximum = as_nanos max; transmissions = retransmits; last_wait = as_nanos last_retransmit }))
+        ensures { StaysWith self.old self.new
+            (changed (configured (record {
+              initial = as_nanos initial;
+              maximum = as_nanos max;
+              transmissions = retransmits;
+              last_wait = as_nanos last_retransmit;
+            }))
             self.old.id self.old.agent.now.transactions) }
     {
         let settings = RequestRto {

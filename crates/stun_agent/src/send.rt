@@ -90,8 +90,10 @@ impl<A: Allocator + Copy> StunAgent<A> {
         to: SocketAddr,
         now: Instant,
     ) -> Result<Transmit<&[u8]>, StunError>
-        ensures* after { sem 𝓛 (ends_if_ok_as A.row A.Allocator self.entry result (after_send_request self.old (T.contents msg) to now)) }
-        ensures refused { MatchOption (request_refusal self.old (T.contents msg) to) (IsOkUnless result StunError.OutOfMemory) (IsErrOf result) }
+        ensures* after { sem 𝓛 (ends_if_ok_as A.row A.Allocator self.entry result
+            (after_send_request self.old (T.contents msg) to now)) }
+        ensures refused { MatchOption (request_refusal self.old (T.contents msg) to)
+            (IsOkUnless result StunError.OutOfMemory) (IsErrOf result) }
         ensures sent { IfOk result (λ t. lent_datagram t ≡ (T.contents msg, self.old.transport, self.old.local_addr, to)) }
     {
         let id = self.keep_request(msg.bytes(), to, now)?;
@@ -113,7 +115,8 @@ impl<A: Allocator + Copy> StunAgent<A> {
         to: SocketAddr,
         now: Instant,
     ) -> Result<TransactionId, StunError>
-        ensures refused { MatchOption (request_refusal self.old bytes.now to) (IsOkUnless result StunError.OutOfMemory) (IsErrOf result) }
+        ensures refused { MatchOption (request_refusal self.old bytes.now to)
+            (IsOkUnless result StunError.OutOfMemory) (IsErrOf result) }
         ensures taken { OnOk result (request_refusal self.old bytes.now to ≡ None) }
         ensures ok { OnOk result (self.new ≡ after_send_request self.old bytes.now to now) }
         ensures err { OnErr result (self.new ≡ self.old) }
@@ -140,7 +143,8 @@ impl<A: Allocator + Copy> StunAgent<A> {
 
     // The id of a request that may be sent.
     fn id_to_ask(&self, bytes: &[u8], to: SocketAddr) -> Result<TransactionId, StunError>
-        ensures answer { MatchOption (request_refusal self.now bytes.now to) (result ≡ Ok (transaction_id_field bytes.now)) (λ error. result ≡ Err error) }
+        ensures answer { MatchOption (request_refusal self.now bytes.now to)
+            (result ≡ Ok (transaction_id_field bytes.now)) (λ error. result ≡ Err error) }
         ensures request { IfOk result (λ id. IsRequestOf id bytes.now) }
         ensures absent { IfOk result (λ id. at id self.now.transactions ≡ None) }
     {

@@ -238,10 +238,13 @@ impl StunAgentStats {
 /// of tallies counts as its sums, each capped once, with its shortest and longest round trip, and
 /// a full counter stays full.
 pub fn counting_is_adding()
-    ensures both { (first second : Tally) (statistics : Statistics) → counted second (counted first statistics) ≡ counted (together first second) statistics }
+    ensures both { (first second : Tally) (statistics : Statistics)
+        → counted second (counted first statistics) ≡ counted (together first second) statistics }
     ensures all { (tallies : List Tally) → counted_in_turn tallies new_statistics ≡ counted (total tallies) new_statistics }
-    ensures shortest { (tallies : List Tally) → IsLeast (total tallies).round_trips (counted_in_turn tallies new_statistics).rtt_min }
-    ensures longest { (tallies : List Tally) → IsGreatest (total tallies).round_trips (counted_in_turn tallies new_statistics).rtt_max }
+    ensures shortest { (tallies : List Tally)
+        → IsLeast (total tallies).round_trips (counted_in_turn tallies new_statistics).rtt_min }
+    ensures longest { (tallies : List Tally)
+        → IsGreatest (total tallies).round_trips (counted_in_turn tallies new_statistics).rtt_max }
     ensures full { (counter more : ℕ) → last_count ≤ counter → raised counter more ≡ last_count }
 {}
 
@@ -250,5 +253,8 @@ pub fn counting_is_adding()
 pub fn outstanding_requests_are_those_left()
     ensures none { LeavesOutstanding new_statistics 0 }
     ensures left { (statistics : Statistics) (n : ℕ) → LeavesOutstanding statistics n → outstanding_requests statistics ≡ n }
-    ensures kept { (tally : Tally) (statistics : Statistics) (before after : ℕ) → LeavesOutstanding statistics before → IsNotFull (counted tally statistics) → before + tally.requests_sent ≡ after + (tally.responses_received + tally.timed_out + tally.cancelled) → LeavesOutstanding (counted tally statistics) after }
+    ensures kept { (tally : Tally) (statistics : Statistics) (before after : ℕ)
+        → LeavesOutstanding statistics before → IsNotFull (counted tally statistics)
+        → before + tally.requests_sent ≡ after + (tally.responses_received + tally.timed_out + tally.cancelled)
+        → LeavesOutstanding (counted tally statistics) after }
 {}

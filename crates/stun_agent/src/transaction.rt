@@ -72,7 +72,15 @@ impl<A: Allocator> Model for Transaction<A> {
 
     ghost Value = { Transaction };
 
-    ghost view = { λ t. record { bytes = t.bytes.items; to = t.to; integrity = t.integrity; settings = settings_of t.settings; slot = t.slot; last = t.last; sending = t.sending } };
+    ghost view = { λ t. record {
+      bytes = t.bytes.items;
+      to = t.to;
+      integrity = t.integrity;
+      settings = settings_of t.settings;
+      slot = t.slot;
+      last = t.last;
+      sending = t.sending;
+    } };
 }
 
 impl<A: Allocator> Transaction<A> {

@@ -24,7 +24,8 @@ pub(crate) fn with_repeats<A: Allocator>(
     all: &Transactions<A>,
     told: Option<TransactionId>,
 ) -> Option<(TransactionId, bool)>
-    ensures { MatchOption told (result ≡ None) (λ id. result ≡ option_map (λ t. (id, repeats t.sending)) (at id all.now.entries)) }
+    ensures { MatchOption told (result ≡ None)
+        (λ id. result ≡ option_map (λ t. (id, repeats t.sending)) (at id all.now.entries)) }
 {
     match told {
         Some(id) => {
@@ -57,7 +58,8 @@ pub(crate) fn pass_slots<A: Allocator>(
     requires ascending { IsAscending all.old.entries }
     ensures sent { result ≡ option_map (λ e. (e.0, length e.1.bytes)) (next_sent transport now all.old.entries) }
     ensures after { all.new.entries ≡ after_slots transport now (option_map (λ s. s.0) result) all.old.entries }
-    ensures kept { IfSome result (λ s. option_map contents (get nat_cmp all.new s.0) ≡ option_map (λ e. contents e.1) (next_sent transport now all.old.entries)) }
+    ensures kept { IfSome result (λ s. option_map contents (get nat_cmp all.new s.0)
+        ≡ option_map (λ e. contents e.1) (next_sent transport now all.old.entries)) }
     ensures index { IsIndexOf transport all.new.entries deadlines.new }
 {
     let mut last = None;

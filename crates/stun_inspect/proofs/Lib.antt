@@ -1,0 +1,4 @@
+-- Lemmas of the program.
+mod Reading
+mod Telling
+mod Writing

@@ -1,0 +1,12 @@
+-- What the contracts of the program say, in the order to read it.
+
+-- the attributes of a message one by one, and what hides each
+pub mod Telling
+-- what `verify` says of bytes, and how it says it
+pub mod Verdict
+-- which bytes of an input are a message as they are
+pub mod Input
+-- what writing a text leaves
+pub mod Output
+-- the exit statuses
+pub mod Status

@@ -1,0 +1,10 @@
+-- The exit statuses of the program.
+use Rattle.std.specs.Prelude.{ℕ}
+use Rattle.stun_inspect.specs.declared.status.Status.{Status}
+use Rattle.stun_inspect.specs.declared.status.Status.TheVariants.{Good, Bad, NotJudged}
+
+-- 0 for a good answer, 1 for a bad one, 2 where nothing was judged
+abbrev pub code_of : Status → ℕ
+code_of Good = 0
+code_of Bad = 1
+code_of NotJudged = 2

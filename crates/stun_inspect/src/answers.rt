@@ -1,0 +1,192 @@
+//! What each command does with its reader and its writer.
+
+use crate::command::{Command, User, Who};
+use crate::decode::describe;
+use crate::failure::{BadInput, Failure, Wanted};
+use crate::input::read_to_end;
+use crate::layout::read_message;
+use crate::notes::notes_on;
+use crate::output::write_text;
+use crate::status::Status;
+use crate::value::{push_digits, push_security_bits};
+use crate::verdict::{Verdict, refusal_line, verdict_on};
+use std::alloc::{AllocError, Allocator};
+use std::io::{Read, Write};
+use stun_types::attribute::Userhash;
+use stun_types::message::{
+    IntegrityAlgorithm, LongTermCredentials, Message, MessageIntegrityCredentials,
+    ShortTermCredentials, long_term_key,
+};
+
+/// What `--help` prints.
+const HELP: &str = "stun_inspect decode                            a message, attribute by attribute
+stun_inspect verify PASSWORD                   its integrity under a password
+stun_inspect verify NAME REALM PASSWORD        its integrity under a long-term key
+stun_inspect key sha1|sha256 NAME REALM PASSWORD
+stun_inspect userhash NAME REALM
+stun_inspect nonce NONCE                       the security bits of a nonce
+A message comes from standard input: raw, in hexadecimal, in base64, or as xxd, tcpdump -x
+or Wireshark dump it. The password - is the first line of standard input.
+Status: 0 good, 1 not a message or invalid, 2 not judged.
+";
+
+/// What `--version` prints.
+const VERSION: &str = "stun_inspect 0.1.0\n";
+
+/// Runs a command, and answers how it ended.
+pub fn run_command<R: Read, W: Write, A: Allocator + Copy>(
+    alloc: A,
+    command: Command<'_>,
+    reader: &mut R,
+    writer: &mut W,
+) -> Result<Status, Failure> {
+    match command {
+        Command::Help => print(writer, HELP.as_bytes()),
+        Command::Version => print(writer, VERSION.as_bytes()),
+        Command::Decode => {
+            let input = read_to_end(alloc, reader)?;
+            let bytes = read_message(alloc, input.as_slice())?;
+            decode(alloc, bytes.as_slice(), writer)
+        }
+        Command::Verify(who) => {
+            let input = read_to_end(alloc, reader)?;
+            let (password, rest) = password_of(who.password, input.as_slice())?;
+            let bytes = read_message(alloc, rest)?;
+            let credentials = credentials_of(alloc, who.user, password)?;
+            verify(alloc, bytes.as_slice(), who.user, &credentials, writer)
+        }
+        Command::Key(algorithm, who) => {
+            let input = if who.password == "-" {
+                read_to_end(alloc, reader)?
+            } else {
+                Vec::new(alloc)
+            };
+            let (password, _) = password_of(who.password, input.as_slice())?;
+            let key = key_line(alloc, algorithm, who.user, password)?;
+            print(writer, key.as_bytes())
+        }
+        Command::Userhash { name, realm } => {
+            let line = digits_line(alloc, &Userhash::compute(name, realm))?;
+            print(writer, line.as_bytes())
+        }
+        Command::Nonce(nonce) => {
+            let line = nonce_line(alloc, nonce)?;
+            print(writer, line.as_bytes())
+        }
+    }
+}
+
+fn print<W: Write>(writer: &mut W, text: &[u8]) -> Result<Status, Failure> {
+    write_text(writer, text)?;
+    Ok(Status::Good)
+}
+
+/// Prints each attribute of the message, or why the bytes are none.
+pub fn decode<W: Write, A: Allocator + Copy>(
+    alloc: A,
+    bytes: &[u8],
+    writer: &mut W,
+) -> Result<Status, Failure> {
+    match Message::from_bytes(bytes) {
+        Ok(message) => {
+            let text = describe(alloc, &message)?;
+            print(writer, text.as_bytes())
+        }
+        Err(error) => {
+            write_text(writer, refusal_line(error).as_bytes())?;
+            Ok(Status::Bad)
+        }
+    }
+}
+
+/// Prints whether the message's digest verifies, and then what else differs from the user.
+pub fn verify<W: Write, A: Allocator + Copy>(
+    alloc: A,
+    bytes: &[u8],
+    user: Option<User<'_>>,
+    credentials: &MessageIntegrityCredentials<A>,
+    writer: &mut W,
+) -> Result<Status, Failure> {
+    let notes = notes_on(alloc, bytes, user)?;
+    let verdict = verdict_on(bytes, credentials);
+    write_text(writer, verdict.line().as_bytes())?;
+    write_text(writer, notes.as_bytes())?;
+    Ok(verdict.status())
+}
+
+/// The credentials of a user, or of a password alone.
+fn credentials_of<A: Allocator + Copy>(
+    alloc: A,
+    user: Option<User<'_>>,
+    password: &str,
+) -> Result<MessageIntegrityCredentials<A>, AllocError> {
+    let password = String::from_str(alloc, password)?;
+    match user {
+        None => Ok(MessageIntegrityCredentials::ShortTerm(ShortTermCredentials::new(password))),
+        Some(user) => {
+            let name = String::from_str(alloc, user.name)?;
+            let realm = String::from_str(alloc, user.realm)?;
+            let key = LongTermCredentials::new(name, password).to_key(realm)?;
+            Ok(MessageIntegrityCredentials::LongTerm(key))
+        }
+    }
+}
+
+/// The password, and the rest of the input: for the word `-` the first line of the input, without
+/// its end.
+fn password_of<'a>(word: &'a str, input: &'a [u8]) -> Result<(&'a str, &'a [u8]), Failure> {
+    if word != "-" {
+        return Ok((word, input));
+    }
+    let (line, rest) = match input.iter().position(|byte| *byte == b'\n') {
+        Some(end) => (
+            input.get(..end).unwrap_or(input),
+            input.get(end.saturating_add(1)..).unwrap_or(&[]),
+        ),
+        None => (input, &[] as &[u8]),
+    };
+    let line = match line {
+        [front @ .., b'\r'] => front,
+        whole => whole,
+    };
+    match str::from_utf8(line) {
+        Ok(password) => Ok((password, rest)),
+        Err(_) => Err(Failure::Input(BadInput {
+            line: 1,
+            column: 1,
+            wanted: Wanted::Password,
+        })),
+    }
+}
+
+/// The line with the long-term key of a user.
+fn key_line<A: Allocator + Copy>(
+    alloc: A,
+    algorithm: IntegrityAlgorithm,
+    user: Option<User<'_>>,
+    password: &str,
+) -> Result<String<A>, AllocError> {
+    match user {
+        Some(user) => {
+            let key = long_term_key(alloc, algorithm, user.name, user.realm, password);
+            digits_line(alloc, key.as_bytes())
+        }
+        None => digits_line(alloc, password.as_bytes()),
+    }
+}
+
+/// A line of hexadecimal digits.
+fn digits_line<A: Allocator + Copy>(alloc: A, bytes: &[u8]) -> Result<String<A>, AllocError> {
+    let mut line = String::new(alloc);
+    push_digits(&mut line, bytes)?;
+    line.push('\n')?;
+    Ok(line)
+}
+
+/// The line on the security bits of a nonce.
+fn nonce_line<A: Allocator + Copy>(alloc: A, nonce: &str) -> Result<String<A>, AllocError> {
+    let mut line = String::new(alloc);
+    push_security_bits(&mut line, nonce)?;
+    line.push('\n')?;
+    Ok(line)
+}

@@ -1,0 +1,1 @@
+//! Each command on its own inputs.

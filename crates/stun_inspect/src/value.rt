@@ -1,0 +1,252 @@
+//! The values of attributes as text.
+
+use crate::registry::{Form, attribute_name, error_name};
+use std::alloc::{AllocError, Allocator};
+use std::net::{IpAddr, Ipv4Addr, Ipv6Addr, SocketAddr};
+use stun_auth::auth::NonceSecurityBits;
+use stun_types::attribute::{
+    AttributeType, ErrorCode, PasswordAlgorithm, PasswordAlgorithmValue, PasswordAlgorithms,
+    RawAttribute, XorMappedAddress,
+};
+use stun_types::message::TransactionId;
+use stun_types::prelude::AttributeFromRaw;
+
+/// Appends a value as its type is read, or as hexadecimal digits where it is no such value.
+pub fn push_value<A: Allocator + Copy>(
+    text: &mut String<A>,
+    form: Form,
+    value: &[u8],
+    id: TransactionId,
+) -> Result<(), AllocError> {
+    let is_read = match form {
+        Form::Address => push_address(text, plain_address(value))?,
+        Form::XorAddress => push_address(text, xored_address(value, id))?,
+        Form::Text => push_text(text, value)?,
+        Form::Nonce => push_nonce(text, value)?,
+        Form::Error => push_error(text, value)?,
+        Form::Types => push_types(text, value)?,
+        Form::Algorithm => push_algorithm(text, value)?,
+        Form::Algorithms => push_algorithms(text, value)?,
+        Form::Number => push_number(text, value)?,
+        Form::Flag => push_flag(text, value)?,
+        Form::Bytes => push_digits(text, value)?,
+    };
+    if !is_read {
+        text.push_str("malformed ")?;
+        push_digits(text, value)?;
+    }
+    Ok(())
+}
+
+/// Appends bytes as hexadecimal digits; `empty` where there are none.
+pub fn push_digits<A: Allocator + Copy>(
+    text: &mut String<A>,
+    bytes: &[u8],
+) -> Result<bool, AllocError> {
+    if bytes.is_empty() {
+        text.push_str("empty")?;
+    }
+    for byte in bytes {
+        let byte = *byte;
+        write!(text, "{byte:02x}")?;
+    }
+    Ok(true)
+}
+
+/// Appends a text in quotes. Of it ASCII's printable characters stand as they are, and others as
+/// `\u{..}`, so that no text can control a terminal.
+pub fn push_quoted<A: Allocator + Copy>(
+    text: &mut String<A>,
+    quoted: &str,
+) -> Result<(), AllocError> {
+    text.push('"')?;
+    for character in quoted.chars() {
+        match character {
+            '"' | '\\' => {
+                text.push('\\')?;
+                text.push(character)?;
+            }
+            ' '..='~' => text.push(character)?,
+            other => {
+                let number = u32::from(other);
+                write!(text, "\\u{{{number:x}}}")?;
+            }
+        }
+    }
+    text.push('"')
+}
+
+fn push_text<A: Allocator + Copy>(text: &mut String<A>, value: &[u8]) -> Result<bool, AllocError> {
+    let Ok(quoted) = str::from_utf8(value) else {
+        return Ok(false);
+    };
+    push_quoted(text, quoted)?;
+    Ok(true)
+}
+
+fn push_nonce<A: Allocator + Copy>(text: &mut String<A>, value: &[u8]) -> Result<bool, AllocError> {
+    let Ok(nonce) = str::from_utf8(value) else {
+        return Ok(false);
+    };
+    push_quoted(text, nonce)?;
+    text.push_str(", ")?;
+    push_security_bits(text, nonce)?;
+    Ok(true)
+}
+
+/// Appends what a nonce's security bits say (RFC 8489, sections 9.2 and 18.1).
+pub fn push_security_bits<A: Allocator + Copy>(
+    text: &mut String<A>,
+    nonce: &str,
+) -> Result<(), AllocError> {
+    let Some(bits) = NonceSecurityBits::from_nonce(nonce) else {
+        return text.push_str("no security bits");
+    };
+    text.push_str("security bits ")?;
+    push_digits(text, &bits.bytes())?;
+    match (bits.password_algorithms(), bits.username_anonymity()) {
+        (true, true) => text.push_str(": password algorithms, username anonymity"),
+        (true, false) => text.push_str(": password algorithms"),
+        (false, true) => text.push_str(": username anonymity"),
+        (false, false) => text.push_str(": none that is known"),
+    }
+}
+
+/// The address and port of a value (RFC 8489, section 14.1).
+fn plain_address(value: &[u8]) -> Option<SocketAddr> {
+    match value {
+        [_, 1, high, low, a, b, c, d] => {
+            let ip = IpAddr::V4(Ipv4Addr::new(*a, *b, *c, *d));
+            Some(SocketAddr::new(ip, u16::from_be_bytes([*high, *low])))
+        }
+        [_, 2, high, low, octets @ ..] => {
+            if octets.len() != 16 {
+                return None;
+            }
+            let mut ipv6 = [0; 16];
+            ipv6.copy_from_slice(octets);
+            let ip = IpAddr::V6(Ipv6Addr::from_octets(ipv6));
+            Some(SocketAddr::new(ip, u16::from_be_bytes([*high, *low])))
+        }
+        _ => None,
+    }
+}
+
+/// The address and port that a value hides (RFC 8489, section 14.2).
+fn xored_address(value: &[u8], id: TransactionId) -> Option<SocketAddr> {
+    let raw = RawAttribute::new(AttributeType::XOR_MAPPED_ADDRESS, value);
+    match XorMappedAddress::from_raw(raw) {
+        Ok(address) => Some(address.addr(id)),
+        Err(_) => None,
+    }
+}
+
+fn push_address<A: Allocator + Copy>(
+    text: &mut String<A>,
+    address: Option<SocketAddr>,
+) -> Result<bool, AllocError> {
+    let Some(address) = address else {
+        return Ok(false);
+    };
+    write!(text, "{address}")?;
+    Ok(true)
+}
+
+fn push_error<A: Allocator + Copy>(text: &mut String<A>, value: &[u8]) -> Result<bool, AllocError> {
+    let Ok(error) = ErrorCode::from_raw(RawAttribute::new(AttributeType::ERROR_CODE, value)) else {
+        return Ok(false);
+    };
+    let code = error.code();
+    let name = error_name(code);
+    write!(text, "{code} {name}, ")?;
+    push_quoted(text, error.reason())?;
+    Ok(true)
+}
+
+fn push_types<A: Allocator + Copy>(text: &mut String<A>, value: &[u8]) -> Result<bool, AllocError> {
+    if value.len() % 2 != 0 {
+        return Ok(false);
+    }
+    if value.is_empty() {
+        text.push_str("none")?;
+    }
+    let mut high = None;
+    let mut is_first = true;
+    for byte in value {
+        match high {
+            None => high = Some(*byte),
+            Some(first) => {
+                let number = u16::from_be_bytes([first, *byte]);
+                let name = attribute_name(number);
+                if !is_first {
+                    text.push_str(", ")?;
+                }
+                write!(text, "0x{number:04x} {name}")?;
+                is_first = false;
+                high = None;
+            }
+        }
+    }
+    Ok(true)
+}
+
+fn algorithm_name(algorithm: PasswordAlgorithmValue) -> &'static str {
+    match algorithm {
+        PasswordAlgorithmValue::MD5 => "MD5",
+        PasswordAlgorithmValue::SHA256 => "SHA-256",
+    }
+}
+
+fn push_algorithm<A: Allocator + Copy>(
+    text: &mut String<A>,
+    value: &[u8],
+) -> Result<bool, AllocError> {
+    let raw = RawAttribute::new(AttributeType::PASSWORD_ALGORITHM, value);
+    let Ok(chosen) = PasswordAlgorithm::from_raw(raw) else {
+        return Ok(false);
+    };
+    text.push_str(algorithm_name(chosen.algorithm()))?;
+    Ok(true)
+}
+
+fn push_algorithms<A: Allocator + Copy>(
+    text: &mut String<A>,
+    value: &[u8],
+) -> Result<bool, AllocError> {
+    let raw = RawAttribute::new(AttributeType::PASSWORD_ALGORITHMS, value);
+    let Ok(algorithms) = PasswordAlgorithms::from_raw(raw) else {
+        return Ok(false);
+    };
+    if algorithms.is_empty() {
+        text.push_str("none")?;
+    }
+    for i in 0..algorithms.len() {
+        if let Some(algorithm) = algorithms.get(i) {
+            if i > 0 {
+                text.push_str(", ")?;
+            }
+            text.push_str(algorithm_name(algorithm))?;
+        }
+    }
+    Ok(true)
+}
+
+fn push_number<A: Allocator + Copy>(
+    text: &mut String<A>,
+    value: &[u8],
+) -> Result<bool, AllocError> {
+    let [a, b, c, d] = value else {
+        return Ok(false);
+    };
+    let number = u32::from_be_bytes([*a, *b, *c, *d]);
+    write!(text, "{number}")?;
+    Ok(true)
+}
+
+fn push_flag<A: Allocator + Copy>(text: &mut String<A>, value: &[u8]) -> Result<bool, AllocError> {
+    if !value.is_empty() {
+        return Ok(false);
+    }
+    text.push_str("set")?;
+    Ok(true)
+}

@@ -1,4 +1,5 @@
 -- Lemmas of the program.
+mod DecodeLemmas
 mod Reading
-mod Telling
+mod TellingLemmas
 mod Writing

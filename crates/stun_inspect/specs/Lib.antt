@@ -2,6 +2,10 @@
 
 -- the attributes of a message one by one, and what hides each
 pub mod Telling
+-- what `decode` prints
+pub mod Decode
+-- what `verify` prints
+pub mod Verify
 -- what `verify` says of bytes, and how it says it
 pub mod Verdict
 -- which bytes of an input are a message as they are

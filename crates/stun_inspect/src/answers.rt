@@ -1,4 +1,9 @@
 //! What each command does with its reader and its writer.
+ghost use Rattle.std.specs.Prelude.{IfOk};
+ghost use Rattle.stun_base.specs.Keys.OfCredentials.{keys_of};
+ghost use Rattle.stun_inspect.specs.Decode.{PrintsDecoded};
+ghost use Rattle.stun_inspect.specs.Verdict.{verdict_of};
+ghost use Rattle.stun_inspect.specs.Verify.{PrintsVerdict};
 
 use crate::command::{Command, User, Who};
 use crate::decode::describe;
@@ -86,11 +91,14 @@ pub fn decode<W: Write, A: Allocator + Copy>(
     alloc: A,
     bytes: &[u8],
     writer: &mut W,
-) -> Result<Status, Failure> {
+) -> Result<Status, Failure>
+    ensures { IfOk result (λ status. PrintsDecoded bytes.now status (W.contents writer.old) (W.contents writer.new)) }
+{
     match Message::from_bytes(bytes) {
         Ok(message) => {
             let text = describe(alloc, &message)?;
-            print(writer, text.as_bytes())
+            write_text(writer, text.as_bytes())?;
+            Ok(Status::Good)
         }
         Err(error) => {
             write_text(writer, refusal_line(error).as_bytes())?;
@@ -106,7 +114,10 @@ pub fn verify<W: Write, A: Allocator + Copy>(
     user: Option<User<'_>>,
     credentials: &MessageIntegrityCredentials<A>,
     writer: &mut W,
-) -> Result<Status, Failure> {
+) -> Result<Status, Failure>
+    ensures { IfOk result (λ status. PrintsVerdict (verdict_of bytes.now (keys_of credentials.now)) status
+        (W.contents writer.old) (W.contents writer.new)) }
+{
     let notes = notes_on(alloc, bytes, user)?;
     let verdict = verdict_on(bytes, credentials);
     write_text(writer, verdict.line().as_bytes())?;

@@ -1,5 +1,6 @@
 //! What `decode` says of a message.
-ghost use Rattle.std.specs.Prelude.{◌≡◌, IfOk};
+ghost use Rattle.std.specs.Prelude.{IfOk, string_bytes};
+ghost use Rattle.stun_inspect.specs.Decode.{AreLinesOn, Describes, IsLineOn};
 
 use crate::registry::{Form, attribute, attribute_name, method_name};
 use crate::telling::{Told, tell};
@@ -7,19 +8,17 @@ use crate::value::{push_digits, push_value};
 use std::alloc::{AllocError, Allocator};
 use stun_types::message::{Message, MessageClass, TransactionId};
 
-/// What is printed of a message: its class, its method and its id, and then a line for each attribute
-/// that is told of it.
+/// What is printed of a message: its class, its method and its id, and then a line on each attribute.
 pub fn describe<A: Allocator + Copy>(
     alloc: A,
     message: &Message<'_>,
-) -> Result<String<A>, AllocError> {
+) -> Result<String<A>, AllocError>
+    ensures { IfOk result (λ text. Describes message.now (string_bytes text)) }
+{
     let told = tell(alloc, message)?;
-    let id = message.transaction_id();
-    let mut text = String::new(alloc);
-    push_header(&mut text, message)?;
-    for attribute in told.as_slice() {
-        push_line(&mut text, attribute, id)?;
-    }
+    let lines = lines_on(alloc, told.as_slice(), message.transaction_id())?;
+    let mut text = header_text(alloc, message)?;
+    text.push_str(lines.as_str())?;
     Ok(text)
 }
 
@@ -32,42 +31,72 @@ fn class_name(class: MessageClass) -> &'static str {
     }
 }
 
-/// Appends the lines on the header.
-fn push_header<A: Allocator + Copy>(
-    text: &mut String<A>,
+/// The lines on the header.
+fn header_text<A: Allocator + Copy>(
+    alloc: A,
     message: &Message<'_>,
-) -> Result<(), AllocError> {
+) -> Result<String<A>, AllocError> {
     let class = class_name(message.class());
     let method = message.method().value();
     let name = method_name(method);
-    write!(text, "class {class}\nmethod 0x{method:03x} {name}\nid ")?;
+    let mut text = format!(in alloc; "class {class}\nmethod 0x{method:03x} {name}\nid ")?;
     let id = message.transaction_id().as_u128().to_be_bytes();
-    push_digits(text, &id[4..])?;
-    text.push('\n')
+    push_digits(&mut text, &id[4..])?;
+    text.push('\n')?;
+    Ok(text)
 }
 
-/// Appends the line of an attribute.
-fn push_line<A: Allocator + Copy>(
-    text: &mut String<A>,
+/// A line on each attribute.
+fn lines_on<A: Allocator + Copy>(
+    alloc: A,
+    told: &[Told<'_>],
+    id: TransactionId,
+) -> Result<String<A>, AllocError>
+    ensures { IfOk result (λ text. AreLinesOn told.now (string_bytes text)) }
+{
+    let mut text = String::new(alloc);
+    for attribute in told {
+        let line = line_on(alloc, attribute, id)?;
+        text.push_str(line.as_str())?;
+    }
+    Ok(text)
+}
+
+/// The line on an attribute.
+fn line_on<A: Allocator + Copy>(
+    alloc: A,
     told: &Told<'_>,
     id: TransactionId,
-) -> Result<(), AllocError> {
+) -> Result<String<A>, AllocError>
+    ensures { IfOk result (λ line. IsLineOn told.now (string_bytes line)) }
+{
+    let rest = rest_of_line(alloc, told, id)?;
     let place = told.place;
-    let number = told.attribute.get_type().value();
+    let kind = told.attribute.get_type();
+    let line = format!(in alloc; "{place} {kind} {rest}\n")?;
+    Ok(line)
+}
+
+/// What a line says of an attribute after its place and the number of its type: the type's name, the
+/// length, what hides it, and the value.
+fn rest_of_line<A: Allocator + Copy>(
+    alloc: A,
+    told: &Told<'_>,
+    id: TransactionId,
+) -> Result<String<A>, AllocError> {
     let length = told.attribute.length();
-    let registered = attribute(number);
-    let (name, form) = match registered {
+    let (name, form) = match attribute(told.attribute.get_type().value()) {
         Some(registered) => (registered.name, registered.form),
         None => ("unregistered", Form::Bytes),
     };
-    write!(text, "{place} 0x{number:04x} {name}, {length} bytes, ")?;
+    let mut rest = format!(in alloc; "{name}, {length} bytes, ")?;
     match told.hidden_by {
-        None => text.push_str("visible: ")?,
+        None => rest.push_str("visible: ")?,
         Some(hider) => {
             let hider = attribute_name(hider.value());
-            write!(text, "hidden by {hider}: ")?;
+            write!(rest, "hidden by {hider}: ")?;
         }
     }
-    push_value(text, form, told.attribute.value(), id)?;
-    text.push('\n')
+    push_value(&mut rest, form, told.attribute.value(), id)?;
+    Ok(rest)
 }

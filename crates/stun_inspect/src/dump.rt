@@ -85,6 +85,31 @@ enum Column {
     Blank,
 }
 
+/// What one byte of a row comes to.
+enum Step {
+    To(Column),
+    Byte(u8),
+    End,
+    Wrong(Wanted),
+}
+
+/// Takes the next byte of a row.
+fn next_of(at: Column, byte: u8) -> Step {
+    match digit(byte) {
+        Some(low) => match at {
+            Column::High(high) => Step::Byte(byte_of(high, low)),
+            _ => Step::To(Column::High(low)),
+        },
+        None => match at {
+            Column::High(_) => Step::Wrong(Wanted::SecondDigit),
+            _ if !byte.is_ascii_whitespace() => Step::Wrong(Wanted::Digit),
+            Column::Front => Step::To(Column::Front),
+            Column::Byte => Step::To(Column::Blank),
+            Column::Blank => Step::End,
+        },
+    }
+}
+
 /// Appends the bytes of a row, up to two blanks, after which its characters may follow.
 fn read_row<A: Allocator>(
     bytes: &mut Vec<u8, A>,
@@ -96,21 +121,15 @@ fn read_row<A: Allocator>(
     let mut at = Column::Front;
     for byte in row.bytes() {
         column = column.saturating_add(1);
-        let is_blank = byte.is_ascii_whitespace();
-        at = match (at, digit(byte)) {
-            (Column::High(high), Some(low)) => {
-                push(bytes, byte_of(high, low))?;
-                Column::Byte
+        match next_of(at, byte) {
+            Step::To(next) => at = next,
+            Step::Byte(read) => {
+                push(bytes, read)?;
+                at = Column::Byte;
             }
-            (Column::High(_), None) => {
-                return Err(bad_input(line, column, Wanted::SecondDigit));
-            }
-            (_, Some(high)) => Column::High(high),
-            (Column::Front, None) if is_blank => Column::Front,
-            (Column::Byte, None) if is_blank => Column::Blank,
-            (Column::Blank, None) if is_blank => return Ok(()),
-            (_, None) => return Err(bad_input(line, column, Wanted::Digit)),
-        };
+            Step::End => return Ok(()),
+            Step::Wrong(wanted) => return Err(bad_input(line, column, wanted)),
+        }
     }
     match at {
         Column::High(_) => Err(bad_input(line, column, Wanted::SecondDigit)),

@@ -36,6 +36,9 @@ pub fn read_message<A: Allocator + Copy>(alloc: A, input: &[u8]) -> Result<Vec<u
         return within_limit(alloc, input);
     }
     let bytes = read_text(alloc, input)?;
+    if is_raw(bytes.as_slice()) {
+        return within_limit(alloc, bytes.as_slice());
+    }
     within_limit(alloc, payload(bytes.as_slice()))
 }
 

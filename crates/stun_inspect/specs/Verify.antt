@@ -1,0 +1,11 @@
+-- What `verify` prints.
+use Rattle.std.specs.Prelude.{◌≡◌, ℕ, List, ◌++◌, Option}
+use Rattle.std.specs.Io.KnownBytes.{Appends}
+use Rattle.stun_inspect.specs.declared.status.Status.{Status}
+use Rattle.stun_inspect.specs.declared.verdict.Verdict.{Verdict}
+use Rattle.stun_inspect.specs.Verdict.{line_of, status_of}
+
+-- the verdict's line is printed, and perhaps notes after it; the status goes with the verdict
+abbrev pub PrintsVerdict : Verdict → Status → Option (List ℕ) → Option (List ℕ) → Type 0
+PrintsVerdict verdict status before after =
+    (status ≡ status_of verdict) × (notes : List ℕ) × Appends before after (line_of verdict ++ notes)

@@ -423,6 +423,23 @@ def challenges(server, words, algorithm):
         assert stun.code_of(peer.ask(stun.answered(stun.REQUEST, answer, NAME, REALM, PASSWORD, algorithm))) == 200
 
 
+def choices(server):
+    """Where two algorithms are offered, a request repeats the offer with its choice, or has neither, which is HMAC-SHA1."""
+    offer, sha1, sha256 = b"\0\2\0\0\0\1\0\0", b"\0\1\0\0", b"\0\2\0\0"
+    kinds = (stun.PASSWORD_ALGORITHMS, stun.PASSWORD_ALGORITHM)
+    with Server(server, *USER, "--sha256") as running, Peer(running.port) as peer:
+        challenge = peer.ask(stun.message(stun.REQUEST))
+        assert stun.value_of(challenge, stun.PASSWORD_ALGORITHMS) == offer
+        named = [(stun.USERNAME, NAME.encode()), (stun.REALM, REALM.encode()), (stun.NONCE, stun.value_of(challenge, stun.NONCE))]
+        for offered, chosen, code in ((None, None, 200), (offer, sha1, 200), (None, sha1, 400), (offer, None, 400), (sha1, sha1, 400),
+                                      (offer, b"\0\3\0\0", 400), (offer[4:] + offer[:4], sha256, 400)):
+            algorithm = stun.SHA256 if chosen == sha256 else stun.SHA1
+            attributes = named + [(kind, value) for kind, value in zip(kinds, (offered, chosen)) if value is not None]
+            request = stun.message(stun.REQUEST, attributes)
+            answer = peer.ask(stun.signed(request, algorithm, stun.key_of(algorithm, NAME, REALM, PASSWORD)))
+            assert stun.code_of(answer) == code, (offered, chosen, answer)
+
+
 def hostile(server, words):
     """What is no request draws nothing, and the server lives on."""
     chance = random.Random(3489)
@@ -491,7 +508,7 @@ def cases(servers, clients, hosts):
     for server in servers:
         name = label(server)
         one = lambda what, *words: (f"{name}: {what.__name__} {words}", what, (server, *words))
-        yield from (one(unknown_attributes), one(hostile, ()), one(hostile, USER))
+        yield from (one(unknown_attributes), one(choices), one(hostile, ()), one(hostile, USER))
         if server == servers[0]:
             yield from (one(what) for what in (many_attributes, fingerprints, another_address, addresses, workers))
         for words, algorithm in zip(both, (stun.SHA1, stun.SHA256)):

@@ -3,10 +3,11 @@
 
     interop.py [--install]
 
-The peers are Debian's packages coturn, libnice-dev, python3-aioice and stun-client. With --install those that are missing are
+The peers are Debian's packages coturn, libnice-dev, python3-aioice, golang-github-pion-stun-dev and stun-client. With --install those that are missing are
 installed by apt-get; without it the rows of a missing peer say so. docs/INTEROP.md has the table of a run. Status 0 where each
 row that could be tried came out as it should.
 """
+import os
 import pathlib
 import socket
 import subprocess
@@ -20,7 +21,7 @@ import stun
 REALM, NAME, PASSWORD = check.USER
 SERVER, CLIENT = (check.TOP / "examples/c/out" / name for name in ("udp_server", "udp_client"))
 PYTHON = "/usr/bin/python3"  # Debian's, for which Debian packages aioice
-PACKAGES = ("coturn", "libnice-dev", "python3-aioice", "stun-client")
+PACKAGES = ("coturn", "libnice-dev", "python3-aioice", "golang-github-pion-stun-dev", "golang-go", "stun-client")
 ROWS = []
 
 
@@ -241,6 +242,23 @@ def with_aioice(number):
         row(peer, "the same, wrong password", "aioice refused udp_client", "HMAC-SHA1", lambda: client_is_refused(server, NAME, "wrong"))
 
 
+def with_pion(number, folder):
+    peer, program = f"pion {number}", folder / "pion_peer"
+    go = {**os.environ, "GO111MODULE": "off", "GOPATH": "/usr/share/gocode", "GOCACHE": str(folder / "cache"), "GOFLAGS": ""}
+    subprocess.run(["go", "build", "-o", program, check.HERE / "pion_peer.go"], env=go, check=True)
+    for host in ("127.0.0.1", "::1"):
+        kind = "IPv6" if ":" in host else "IPv4"
+        row(peer, f"stun.Message → udp_server --sha256, {kind}", "each validated the other", "HMAC-SHA1",
+            lambda: asks((program, "client", host, "PORT", NAME, PASSWORD), "signed", " 200 SHA1", "--sha256"))
+    row(peer, "the same, wrong password", "udp_server refused pion", "HMAC-SHA1",
+        lambda: refused((program, "client", "127.0.0.1", "PORT", NAME, "wrong")))
+    with Peer(program, "server", *check.USER) as server:
+        for words in ((), ("--sha256",)):
+            row(peer, " ".join(("udp_client", *words, "→ stun.Message")), "each validated the other", "HMAC-SHA1",
+                lambda: client_prints(server, "127.0.0.1", NAME, PASSWORD, *words))
+        row(peer, "the same, wrong password", "pion refused udp_client", "HMAC-SHA1", lambda: client_is_refused(server, NAME, "wrong"))
+
+
 def main():
     if "--install" in sys.argv and any(version(package) is None for package in PACKAGES):
         subprocess.run(["apt-get", "install", "-y", "--no-install-recommends", *PACKAGES], check=True)
@@ -253,6 +271,9 @@ def main():
             with_libnice(versions["libnice-dev"], pathlib.Path(folder))
     if versions["python3-aioice"]:
         with_aioice(versions["python3-aioice"])
+    if versions["golang-github-pion-stun-dev"] and versions["golang-go"]:
+        with tempfile.TemporaryDirectory() as folder:
+            with_pion(versions["golang-github-pion-stun-dev"], pathlib.Path(folder))
     if versions["stun-client"]:
         row(f"stun-client {versions['stun-client']}", "`stun` → udp_server", "nobody", "none", old_stun)
     print("| Peer | What | Who validated whose digest | Algorithm | Seen |\n|---|---|---|---|---|")

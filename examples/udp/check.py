@@ -192,7 +192,7 @@ def long_term(server, client, host, offered, supported):
         assert codes(relay) == [401, 200], codes(relay)
         challenge, success, request = relay.responses[0], relay.responses[-1], relay.requests[-1]
         assert not is_signed(challenge) and stun.value_of(challenge, stun.REALM) == REALM.encode()
-        assert (stun.value_of(challenge, stun.PASSWORD_ALGORITHMS) is not None) == bool(offered)
+        assert stun.asks_for_a_choice(challenge) == bool(offered)
         assert stun.verifies(request, algorithm, key) and stun.verifies(success, algorithm, key)
         assert stun.value_of(request, stun.NONCE) == stun.value_of(challenge, stun.NONCE)
         hidden = hashlib.sha256(f"{NAME}:{REALM}".encode()).digest()

@@ -1,4 +1,5 @@
 """STUN messages of RFC 8489 for the tests, written from the RFC over Python's hashlib, hmac and zlib."""
+import base64
 import hashlib
 import hmac
 import os
@@ -101,10 +102,16 @@ def mapped_address(message):
     return bytes(a ^ b for a, b in zip(value[4:], mask)), port
 
 
+def asks_for_a_choice(challenge):
+    """Whether the nonce of a challenge has the security bit of password algorithms (section 9.2)."""
+    nonce = value_of(challenge, NONCE)
+    return nonce[:9] == b"obMatJos2" and base64.b64decode(nonce[9:13])[0] & 0x80 != 0
+
+
 def answered(request, challenge, name, realm, password, algorithm=SHA1, extra=()):
     """A request of this kind and these extra attributes that answers a 401 or a 438."""
     attributes = [(USERNAME, name.encode()), (REALM, realm.encode()), (NONCE, value_of(challenge, NONCE)), *extra]
-    offer = value_of(challenge, PASSWORD_ALGORITHMS)
-    if offer is not None:
+    if asks_for_a_choice(challenge):
+        offer = value_of(challenge, PASSWORD_ALGORITHMS)
         attributes += [(PASSWORD_ALGORITHMS, offer), (PASSWORD_ALGORITHM, struct.pack(">HH", algorithm, 0))]
     return signed(message(request, attributes), algorithm, key_of(algorithm, name, realm, password))

@@ -188,7 +188,7 @@ static size_t answer(const uint8_t *bytes, size_t length, const stun_address *fr
     return (size_t)written;
 }
 
-static int serve(int socket) {
+static void serve(int socket) {
     static uint8_t bytes[2048], out[4096];
     while (!is_ending) {
         struct sockaddr_storage peer;
@@ -197,10 +197,7 @@ static int serve(int socket) {
         struct msghdr message = {&peer, sizeof peer, &data, 1, to.room, sizeof to.room, 0};
         ssize_t length = recvmsg(socket, &message, 0);
         forget_now_and_then();
-        if (length < 0 && errno != EINTR && errno != EAGAIN) {
-            perror("udp_server: recvmsg");
-            return 1;
-        }
+        if (length < 0 && errno != EINTR && errno != EAGAIN) perror("udp_server: recvmsg");
         if (length < 0 || (message.msg_flags & MSG_TRUNC) != 0) continue;
         stun_address from = of_socket(&peer);
         data.iov_base = out;
@@ -208,7 +205,6 @@ static int serve(int socket) {
         /* Sent from the address that was asked; who gets no answer asks again. */
         if (data.iov_len > 0) sendmsg(socket, &message, 0);
     }
-    return 0;
 }
 
 /* A socket on the port for IPv6 and IPv4, or for IPv4 where there is no IPv6. Port 0 becomes the one that was found. */
@@ -243,7 +239,8 @@ static int serve_in_workers(void) {
         int fd = open_socket();
         if ((workers[i] = fork()) == 0) {
             prctl(PR_SET_PDEATHSIG, SIGTERM);
-            exit(serve(fd));
+            serve(fd);
+            exit(0);
         }
         close(fd);
         if (workers[i] < 0) return 1;
@@ -320,8 +317,8 @@ int main(int count, char **words) {
     if (settings.workers > 1) return serve_in_workers();
     int fd = open_socket();
     printf("port %lu\n", settings.port);
-    int status = serve(fd);
+    serve(fd);
     stun_server_free(&server);
     free(places);
-    return status;
+    return 0;
 }

@@ -79,9 +79,9 @@ unless_elsewhere (Some error) before after a h = refl
 
 -- ---- one call
 
--- a sight behind a call, by the place that is left
-abbrev seen_behind : ServerSeen → ServerCall → Option PlaceSeen → Sight
-seen_behind s call place = record {
+-- a sight after a call, by the place that is left
+abbrev seen_after : ServerSeen → ServerCall → Option PlaceSeen → Sight
+seen_after s call place = record {
   registered = registered_after s.registered call;
   feature = feature_after s.feature call;
   expiry = expiry_after s.expiry call;
@@ -126,7 +126,7 @@ own_place a (Call.ForgetExpired now) s h = get-places_kept now s.places a
 
 -- an own call does to what an address can tell what it does to the server
 pub own_step : (a : SocketAddr) (call : ServerCall) (s : ServerSeen) → concerns a call ≡ true → sight (after_call s call) a ≡ sight_after (sight s a) call
-own_step a call s h = ap (seen_behind s call) (own_place a call s h)
+own_step a call s h = ap (seen_after s call) (own_place a call s h)
 
 -- a call of another address does nothing to it
 pub other_step : (a : SocketAddr) (call : ServerCall) (s : ServerSeen) → concerns a call ≡ false → sight (after_call s call) a ≡ sight s a

@@ -32,6 +32,7 @@ use Rattle.stun_proto.specs.declared.replay.event.AgentEvent.{AgentEvent}
 use Rattle.stun_proto.specs.declared.replay.event.AgentEvent.TheVariants.{Send, SendRequest, Receive, Cancel, CancelRetransmissions, Configure, ValidatePeer}
 use Rattle.stun_proto.specs.Headline.{IsAskedOnce, SendsByPlan}
 use Rattle.stun_proto.specs.Run.{Phase, Turn, sends, rests, ends, again, stops, sending, Turns, turn, none, Run, IsDriven, done, event, transmitted, ended, after_change, after_event, steps_of_event}
+use Rattle.stun_proto.specs.RunLaws.{requester}
 use Rattle.stun_proto.specs.Schedule.{Asks, AreInOrder, IsUndisturbed, plan, end, cut}
 use Rattle.stun_proto.specs.Steps.{Step, Transmitted, Sent, Received, Refused, TimedOut, Cancelled, is_of, own}
 use Rattle.stun_auth.proofs.Addresses.{address_total}
@@ -372,7 +373,7 @@ accepted_there a bytes to header class there absent = λ i.
 sent_by_plan : (until : ℕ) (a b : Agent) (steps : List Step) (start : ℕ) (bytes : Vec ℕ) (to : SocketAddr) (earlier later : List (ℕ × AgentEvent))
     → until ≤ last_moment → IsAscending a.transactions → AreInOrder until 0 (earlier ++ (start, SendRequest bytes to) ∷ later)
     → Run (until + 1) 0 a (earlier ++ (start, SendRequest bytes to) ∷ later) steps b
-    → IsAskedOnce a (transaction_id_field bytes.items) start bytes.items to earlier later
+    → IsAskedOnce (requester a) (transaction_id_field bytes.items) start bytes.items to earlier later
     → filter (is_of (transaction_id_field bytes.items)) steps ≡ cut until (plan a.transport start a.settings (transaction_id_field bytes.items) to bytes.items)
 unfolding own
 sent_by_plan until a b steps start bytes to earlier later within ascends order r once =
@@ -404,14 +405,14 @@ sent_by_plan until a b steps start bytes to earlier later within ascends order r
     ∙ (λ i. cut until (plan (stays.transport i) start (stays.settings i) id to bytes.items))
 
 pub sends_by_plan : (until : ℕ) (a b : Agent) (events : List (ℕ × AgentEvent)) (steps : List Step) → until ≤ last_moment → IsAscending a.transactions → AreInOrder until 0 events
-    → Run (until + 1) 0 a events steps b → SendsByPlan until a events steps
+    → Run (until + 1) 0 a events steps b → SendsByPlan until (requester a) events steps
 sends_by_plan until a b events steps within ascends order r id start bytes to earlier later is once =
     subst (λ j. filter (is_of j) steps ≡ cut until (plan a.transport start a.settings j to bytes.items)) once.names
     (sent_by_plan until a b steps start bytes to earlier later within ascends (subst (AreInOrder until 0) is order) (subst (λ es. Run (until + 1) 0 a es steps b) is r)
-    (subst (λ j. IsAskedOnce a j start bytes.items to earlier later) (sym once.names) once))
+    (subst (λ j. IsAskedOnce (requester a) j start bytes.items to earlier later) (sym once.names) once))
 
 -- without events nothing is asked
-pub nothing_is_asked : (until : ℕ) (a : Agent) (events : List (ℕ × AgentEvent)) (steps : List Step) → length events ≡ 0 → SendsByPlan until a events steps
+pub nothing_is_asked : (until : ℕ) (a : Agent) (events : List (ℕ × AgentEvent)) (steps : List Step) → length events ≡ 0 → SendsByPlan until (requester a) events steps
 nothing_is_asked until a events steps empty id start bytes to earlier later is once = absurd (none_there earlier (subst (λ es. length es ≡ 0) is empty))
   where
     none_there : (first : List (ℕ × AgentEvent)) → length (first ++ (start, SendRequest bytes to) ∷ later) ≡ 0 → ⊥
@@ -419,6 +420,6 @@ nothing_is_asked until a events steps empty id start bytes to earlier later is o
     none_there (x ∷ xs) h = omega (arith, h)
 
 pub driven_by_plan : (until : ℕ) (a b : Agent) (events : List (ℕ × AgentEvent)) (steps : List Step) → until ≤ last_moment → IsAscending a.transactions → AreInOrder until 0 events
-    → IsDriven until a events steps b → SendsByPlan until a events steps
+    → IsDriven until a events steps b → SendsByPlan until (requester a) events steps
 driven_by_plan until a b [] steps within ascends order driven = nothing_is_asked until a [] steps refl
 driven_by_plan until a b (e ∷ es) steps within ascends order driven = sends_by_plan until a b (e ∷ es) steps within ascends order driven

@@ -1,4 +1,4 @@
--- A nonce that stands at an address does so behind calls that leave it.
+-- A nonce that stands at an address does so after calls that leave it.
 use Rattle.std.proofs.Common.{◌≡◌, ℕ, suc, List, [], ◌∷◌, Option, Some, None, Bool, true, false, refl, sym, ◌∙◌, ap, Ok, Err, arith}
 use Rattle.std.specs.Prelude.{cond, nat_le}
 use Rattle.std.specs.Option.{option_map}

@@ -12,9 +12,9 @@ use Rattle.stun_proto.specs.declared.replay.call.ServerCall.TheVariants as Call
 use Rattle.stun_proto.specs.Isolation.{own, sight_over}
 use Rattle.stun_proto.specs.Serving.{Reply, Validated}
 
--- At each place of the list: a request or an indication from an address is validated with an algorithm exactly where it
--- carries a realm, the nonce that stands for the address, algorithms that agree, and the digest under the key of the present
--- user whom it names; all of this at the place that the address's own earlier calls leave.
+-- At each index of the list: a request or an indication from an address is validated with an algorithm if and only if it has a
+-- realm, the nonce that is current at the address, algorithms that agree, and the digest under the key of the present user whom
+-- it names. All of this holds at the place that the address's own earlier calls leave.
 abbrev pub ValidatesAccepted : ServerSeen → List ServerCall → List Reply → Type 0
 ValidatesAccepted start calls given =
     (i : ℕ) (a : SocketAddr) (now : ℕ) (message : Vec ℕ Global) (words : List ℕ) (algorithm : IntegrityAlgorithm)

@@ -1,4 +1,4 @@
--- The three sentences of this library, in the words of RFC 8489. Each definition that says one stands in an `ensures` of the public
+-- The three sentences of this library, in the words of RFC 8489. Each definition that says one is in an `ensures` of the public
 -- call that its comment names, so the check of that call proves it. The table at the end says where each word is defined.
 use Rattle.std.specs.Prelude.{ℕ, ◌≡◌, ◌≤◌, ◌⊎◌, List, ◌∷◌, ◌++◌, filter, length, Some, None}
 use Rattle.std.specs.List.{AllByRecursion}
@@ -10,7 +10,7 @@ use Rattle.stun_base.specs.Credentials.{NameAndPassword}
 use Rattle.stun_base.specs.Header.{header_refusal, transaction_id_field}
 use Rattle.stun_base.specs.declared.algorithm.IntegrityAlgorithm.{IntegrityAlgorithm}
 use Rattle.stun_base.specs.declared.message_type.MessageClass.TheVariants.{Request}
-use Rattle.stun_agent.specs.Agent.{Agent, class_of_bytes}
+use Rattle.stun_agent.specs.Agent.{class_of_bytes}
 use Rattle.stun_agent.specs.Transactions.{at}
 use Rattle.stun_auth.specs.declared.client_answer.LongTermClientAuthErrorReason.TheVariants.{UnsupportedFeature}
 use Rattle.stun_auth.specs.Algorithms.{listed}
@@ -31,7 +31,7 @@ use Rattle.stun_proto.specs.Honest.{IsReady}
 use Rattle.stun_proto.specs.Isolation.{IsolatedBy}
 use Rattle.stun_proto.specs.Negotiation.{Meeting}
 use Rattle.stun_proto.specs.Replies.{Reads, ValidatesByReplies}
-use Rattle.stun_proto.specs.Schedule.{Asks, IsUndisturbed, plan, end, cut}
+use Rattle.stun_proto.specs.Schedule.{Requester, Asks, IsUndisturbed, plan, end, cut}
 use Rattle.stun_proto.specs.Serving.{Reply}
 use Rattle.stun_proto.specs.Steps.{Step, is_of}
 
@@ -83,20 +83,20 @@ pub record EndsAtStrongest (m : Meeting) (server : ServerSeen) (result : Result 
 -- A request that is asked once and is undisturbed: its bytes begin with the header of a request (section 5) and this id, the agent
 -- may send to its address, no request of the id is outstanding when the run begins, no other event asks for the id, and up to the
 -- end of its plan no response of the id comes from its address, and no call cancels or changes it
-pub record IsAskedOnce (a : Agent) (id start : ℕ) (bytes : List ℕ) (to : SocketAddr) (earlier later : List (ℕ × AgentEvent)) : Type 0 where
+pub record IsAskedOnce (a : Requester) (id start : ℕ) (bytes : List ℕ) (to : SocketAddr) (earlier later : List (ℕ × AgentEvent)) : Type 0 where
   pub header : header_refusal bytes ≡ None
   pub class : class_of_bytes bytes ≡ Request
   pub names : transaction_id_field bytes ≡ id
   -- where the agent was told one address to speak to, it is this one
   pub goes_there : (peer : SocketAddr) → a.remote_addr ≡ Some peer → to ≡ peer
-  pub new : at id a.transactions ≡ None
+  pub new : at id a.outstanding ≡ None
   pub not_before : AllByRecursion (λ e. Asks id e.1 → ⊥) earlier
   pub not_again : AllByRecursion (λ e. Asks id e.1 → ⊥) later
   pub undisturbed : IsUndisturbed id to (end start a.settings a.transport) later
 
 -- All steps of this id in the run are those of its plan, as far as the run goes: it is sent at its prefix sums and at no other
 -- moment, and times out once. `drive`, clause `headline`
-abbrev pub SendsByPlan : ℕ → Agent → List (ℕ × AgentEvent) → List Step → Type 0
+abbrev pub SendsByPlan : ℕ → Requester → List (ℕ × AgentEvent) → List Step → Type 0
 SendsByPlan until a events steps =
     (id start : ℕ) (bytes : Vec ℕ) (to : SocketAddr) (earlier later : List (ℕ × AgentEvent))
     → events ≡ earlier ++ (start, SendRequest bytes to) ∷ later → IsAskedOnce a id start bytes.items to earlier later

@@ -34,7 +34,7 @@ pub record IsReady (m : Meeting) (who : NameAndPassword) (server : ServerSeen) :
   -- place stays
   pub others_first : AreOfOthers m.from m.first.before
   pub others_second : AreOfOthers m.from m.second.before
-  -- the second request is read while the nonce stands
+  -- the second request is read while the nonce is current
   pub in_time : m.second.now ≤ moment_after m.first.now server.expiry
 
 -- it is honest where no signing is refused either

@@ -69,7 +69,7 @@ sight_after s call = record {
   place = own_place_after s call;
 }
 
--- what an address can tell behind its own calls: no call of another address has a part in it
+-- what an address can tell after its own calls: no call of another address has a part in it
 abbrev pub sight_over : Sight → List ServerCall → Sight
 sight_over s [] = s
 sight_over s (call ∷ calls) = sight_over (sight_after s call) calls

@@ -26,7 +26,7 @@ pub record AreTexts (its_realm its_name : List ℕ) : Type 0 where
   pub realm : IsUtf8 its_realm
   pub username : IsUtf8 its_name
 
--- the challenge that a client keeps is the one that the server's place stands for, and the client has a present user's key
+-- the challenge that a client keeps is the one that the server has kept at the place, and the client has a present user's key
 pub record Matches (users : Registered) (feature : Feature) (p : PlaceSeen) (c : Challenge) (who : NameAndPassword) : Type 0 where
   pub realm : c.realm ≡ users.realm
   pub nonce : c.nonce ≡ p.nonce

@@ -14,7 +14,7 @@ use Rattle.stun_proto.specs.declared.replay.negotiation.NegotiateError.{Negotiat
 use Rattle.stun_proto.specs.declared.replay.negotiation.NegotiateError.TheVariants.{Memory, Write}
 use Rattle.stun_proto.specs.declared.replay.negotiation.Outcome.{Outcome}
 
--- lists of calls behind references
+-- the lists of calls that references lead to
 abbrev pub lists : List (Bor (List ServerCall)) → List (List ServerCall)
 lists between = map (λ (calls : Bor (List ServerCall)). calls.now) between
 
@@ -36,7 +36,7 @@ meeting settings from ids moments words between = record {
   second = turn_at 1 ids moments words between;
 }
 
--- how a run has ended and what it has left, where no memory was wanting
+-- how a run has ended and what it has left, where no allocation failed
 abbrev pub met_by : Result Outcome NegotiateError → ClientState → ServerSeen → Option Met
 met_by (Ok outcome) client server = Some (ended outcome client server)
 met_by (Err (Write reason)) client server = Some (unwritten reason client server)

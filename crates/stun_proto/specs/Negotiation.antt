@@ -23,6 +23,7 @@ use Rattle.stun_auth.specs.Server.{Sight}
 use Rattle.stun_auth.specs.ServerSigning.{after_signing, server_signed}
 use Rattle.stun_auth.specs.Signed.{error_attribute}
 use Rattle.stun_auth.specs.Validation.{Answer, ServerSeen, after_message, answer, sight}
+use Rattle.stun_proto.specs.Signing.{page_of}
 use Rattle.stun_proto.specs.Serving.{after_calls}
 use Rattle.stun_proto.specs.declared.replay.call.ServerCall.{ServerCall}
 use Rattle.stun_proto.specs.declared.replay.negotiation.Outcome.{Outcome}
@@ -74,10 +75,6 @@ failure code id = spelled (type_number Class.Error BINDING) id (error_attribute 
 
 -- ---- signed messages
 
--- a message in a writer with the room that a vector gives
-abbrev pub page_of : List ℕ → Page
-page_of message = record { bytes = message; room = 65552 - length message }
-
 -- a request that the client signs
 unfoldable pub asked : ℕ → ClientState → Result Page StunWriteError
 asked id state = added_all (client_additions true state) (page_of (request id))
@@ -118,7 +115,7 @@ abbrev pub second_read : Meeting → ClientState → ServerSeen → Reading → 
 second_read m state server r =
     second_answered m state (after_message server m.from m.second.now m.second.words r) (answer (sight server m.from) m.second.now m.second.words r)
 
--- signed by the client, and read by the server behind the second list of calls
+-- signed by the client, and read by the server after the second list of calls
 abbrev pub second_asked : Meeting → ClientState → ServerSeen → Result Page StunWriteError → Met
 second_asked m state server (Err reason) = unwritten reason state server
 second_asked m state server (Ok page) = second_read m state (after_calls server m.second.before) (reading_of page.bytes)
@@ -132,7 +129,7 @@ challenge_answered m server state (Err reason) = ended (ClientRefused reason) st
 abbrev pub challenge_read : Meeting → ServerSeen → ClientStep → Met
 challenge_read m server step = challenge_answered m server step.state step.answer
 
--- signed by the server, and read by the client behind the first list of calls
+-- signed by the server, and read by the client after the first list of calls
 abbrev pub challenged : Meeting → ClientState → ServerSeen → Result Page StunWriteError → Met
 challenged m state server (Err reason) = unwritten reason state server
 challenged m state server (Ok page) =

@@ -46,7 +46,7 @@ pub record Renewal : Type 0 where
 abbrev pub answer_at : Renewal → Arrival → ServerSeen → Page → Answer
 answer_at m arrival server page = answer (sight server m.from) arrival.now arrival.words (reading_of page.bytes)
 
--- the server behind a request
+-- the server after a request
 abbrev pub after_request : Renewal → Arrival → ServerSeen → Page → ServerSeen
 after_request m arrival server page = after_message server m.from arrival.now arrival.words (reading_of page.bytes)
 
@@ -54,7 +54,7 @@ after_request m arrival server page = after_message server m.from arrival.now ar
 abbrev pub at_first : Renewal → ServerSeen → ServerSeen
 at_first m server = after_calls server m.before_first
 
--- the nonce that is current when the server reads the first request, and its end: the one that stands then, or else one that is made
+-- the nonce that is current when the server reads the first request, and its end: the one that is kept and has not expired, or else one that is made
 abbrev pub drawn : Renewal → ServerSeen → List ℕ
 drawn m server = (standing (sight (at_first m server) m.from) m.first.now m.first.words).nonce
 
@@ -105,7 +105,7 @@ leaves_nonce a end (Call.RemoveClient address) = true
 leaves_nonce a end (Call.SetExpiry expiry) = false
 leaves_nonce a end (Call.ForgetExpired now) = nat_le now end
 
--- whether a call leaves users, settings and the place of an address, whatever nonce stands there: messages from there are read at any
+-- whether a call leaves users, settings and the place of an address, whatever nonce is kept there: messages from there are read at any
 -- moment, also after the nonce's end, which make another; nonces are forgotten up to its end. No moment is past the last one
 abbrev pub leaves_place : SocketAddr → ℕ → ServerCall → Bool
 leaves_place a end (Call.Validate from now message words) = true
@@ -135,7 +135,7 @@ pub record HasRunOut (m : Renewal) (who : NameAndPassword) (server : ServerSeen)
   pub calls_before_second : LeaveNonce m.from (end m server) m.before_second
   pub in_time : m.second.now ≤ end m server
 
--- a request is accepted, and server and client are joined behind it
+-- a request is accepted, and server and client are joined after it
 pub record IsAcceptedAnew (m : Renewal) (who : NameAndPassword) (c : Challenge) (server : ServerSeen) (telling again : Page) : Type 0 where
   pub accepted : answer_at m m.second server again ≡ Ok (Validated c.algorithm)
   pub joined : (d : Challenge) × (q : PlaceSeen) × (told m (authenticated c) telling ≡ authenticated d)

@@ -9,8 +9,12 @@ use Rattle.stun_agent.specs.Transactions.{IsAscending}
 use Rattle.stun_proto.specs.declared.replay.event.AgentEvent.{AgentEvent}
 use Rattle.stun_proto.specs.declared.replay.event.AgentEvent.TheVariants.{SendRequest}
 use Rattle.stun_proto.specs.Run.{Run, IsDriven}
-use Rattle.stun_proto.specs.Schedule.{AreInOrder, IsUndisturbed, plan, end, cut}
+use Rattle.stun_proto.specs.Schedule.{Requester, AreInOrder, IsUndisturbed, plan, end, cut}
 use Rattle.stun_proto.specs.Steps.{Step, own}
+
+-- what an agent's requests depend on
+abbrev pub requester : Agent → Requester
+requester a = record { transport = a.transport; remote_addr = a.remote_addr; settings = a.settings; outstanding = a.transactions }
 
 -- the steps of a run from a request on, which comes to this agent after these steps: if the agent accepts it and nothing disturbs
 -- it, those of its transaction are its plan up to its first end, as far as the run goes
@@ -27,7 +31,7 @@ pub record KeepsItsPlan (until : ℕ) (a : Agent) (earlier later : List (ℕ × 
   pub comes : (agent : Agent) × (before : List Step) × Run start 0 a earlier before agent
   pub goes_on : (agent : Agent) (before : List Step) → Run start 0 a earlier before agent → GoesByPlan until agent later start bytes to before steps
 
--- and so does each request of a run, wherever it stands among the events
+-- and so does each request of a run, wherever it is among the events
 abbrev pub KeepPlans : ℕ → Agent → List (ℕ × AgentEvent) → List Step → Type 0
 KeepPlans until a events steps =
     (earlier later : List (ℕ × AgentEvent)) (start : ℕ) (bytes : Vec ℕ) (to : SocketAddr)

@@ -1,5 +1,5 @@
 -- The schedule of a request: the plan that it keeps if nothing disturbs it, and what disturbs it (RFC 8489, sections 6.2.1 and 6.2.2).
-use Rattle.std.specs.Prelude.{ℕ, ◌≡◌, ◌+◌, ◌≤◌, nat_le, List, [], ◌∷◌, ◌++◌, map, filter, None}
+use Rattle.std.specs.Prelude.{ℕ, ◌≡◌, ◌+◌, ◌≤◌, nat_le, List, [], ◌∷◌, ◌++◌, map, filter, Option, None}
 use Rattle.std.specs.List.{AllByRecursion, range_with_len}
 use Rattle.std.specs.declared.net.socket_addr.SocketAddr.{SocketAddr}
 use Rattle.stun_base.specs.Header.{transaction_id_field}
@@ -9,9 +9,19 @@ use Rattle.stun_base.specs.declared.transport.TransportType.{TransportType}
 use Rattle.stun_types.specs.Message.{refusal}
 use Rattle.stun_agent.specs.Agent.{class_of_bytes}
 use Rattle.stun_agent.specs.Timing.{Settings, sum_of_timeouts, slots, final_wait}
+use Rattle.stun_agent.specs.Transactions.{Transactions}
 use Rattle.stun_proto.specs.declared.replay.event.AgentEvent.{AgentEvent}
 use Rattle.stun_proto.specs.declared.replay.event.AgentEvent.TheVariants.{Send, SendRequest, Receive, Cancel, CancelRetransmissions, Configure, ValidatePeer}
 use Rattle.stun_proto.specs.Steps.{Step, Transmitted, TimedOut, moment_of}
+
+-- ---- who asks
+-- an agent, as far as its requests depend on it: the transport, the one address that it may send to if it has one, the settings of
+-- new requests, and the requests that are outstanding
+pub record Requester : Type 0 where
+  pub transport : TransportType
+  pub remote_addr : Option SocketAddr
+  pub settings : Settings
+  pub outstanding : Transactions
 
 -- ---- the plan
 -- the moment of transmission k, counted from 0: the timeouts before it have passed since the first moment

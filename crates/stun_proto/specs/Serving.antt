@@ -162,7 +162,7 @@ abbrev pub replies : ServerSeen → List ServerCall → List Reply
 replies s [] = []
 replies s (call ∷ calls) = reply s call ∷ replies (after_call s call) calls
 
--- the server behind all calls
+-- the server after all calls
 abbrev pub after_calls : ServerSeen → List ServerCall → ServerSeen
 after_calls s [] = s
 after_calls s (call ∷ calls) = after_calls (after_call s call) calls

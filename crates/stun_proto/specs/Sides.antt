@@ -23,58 +23,58 @@ pub record Sides : Type 0 where
 abbrev pub sides : ClientState → ServerSeen → Sides
 sides client server = record { client = client; server = server }
 
--- behind a signing that is not refused
+-- after a signing that is not refused
 abbrev pub if_signed : Result Page StunWriteError → (Page → List Sides) → List Sides
 if_signed (Ok page) next = next page
 if_signed (Err reason) next = []
 
--- behind a first request that is to be challenged
+-- after a first request that is to be challenged
 abbrev pub if_unauthorized : Answer → List Sides → List Sides
 if_unauthorized (Err Unauthorized) next = next
 if_unauthorized _ next = []
 
--- behind a challenge that is taken up
+-- after a challenge that is taken up
 abbrev pub if_resent : ClientAnswer → List Sides → List Sides
 if_resent (Ok (ResendRequest a)) next = next
 if_resent _ next = []
 
--- behind a second request that is accepted
+-- after a second request that is accepted
 abbrev pub if_accepted : Answer → List Sides → List Sides
 if_accepted (Ok a) next = next
 if_accepted (Err reason) next = []
 
--- behind each call of a list, and then behind all of them
-abbrev pub behind_calls : ClientState → ServerSeen → List ServerCall → (ServerSeen → List Sides) → List Sides
-behind_calls state server [] next = next server
-behind_calls state server (call ∷ calls) next =
-    sides state (after_call server call) ∷ behind_calls state (after_call server call) calls next
+-- after each call of a list, and then after all of them
+abbrev pub sides_after_calls : ClientState → ServerSeen → List ServerCall → (ServerSeen → List Sides) → List Sides
+sides_after_calls state server [] next = next server
+sides_after_calls state server (call ∷ calls) next =
+    sides state (after_call server call) ∷ sides_after_calls state (after_call server call) calls next
 
 -- the success is signed; the client that reads it ends the run, and wants no memory unless it takes it for a challenge
-abbrev pub behind_success : Meeting → ClientState → ServerSeen → List Sides
-behind_success m state server = if_signed (responded (success m.second.id) (sight server m.from)) (λ page.
+abbrev pub sides_after_success : Meeting → ClientState → ServerSeen → List Sides
+sides_after_success m state server = if_signed (responded (success m.second.id) (sight server m.from)) (λ page.
     if_resent (client_step m.settings state (reading_of page.bytes)).answer (sides state (after_signing server m.from true) ∷ []))
 
 -- the second list of calls is made, and the second request is read by the server and accepted
-abbrev pub behind_second : Meeting → ClientState → ServerSeen → List Sides
-behind_second m state server = if_signed (asked m.second.id state) (λ page.
-    behind_calls state server m.second.before (λ called.
+abbrev pub sides_after_second : Meeting → ClientState → ServerSeen → List Sides
+sides_after_second m state server = if_signed (asked m.second.id state) (λ page.
+    sides_after_calls state server m.second.before (λ called.
     let read = after_message called m.from m.second.now m.second.words (reading_of page.bytes) in
-    if_accepted (answer (sight called m.from) m.second.now m.second.words (reading_of page.bytes)) (sides state read ∷ behind_success m state read)))
+    if_accepted (answer (sight called m.from) m.second.now m.second.words (reading_of page.bytes)) (sides state read ∷ sides_after_success m state read)))
 
 -- the challenge is signed, the first list of calls is made, and the challenge is read by the client and taken up
-abbrev pub behind_challenge : Meeting → ClientState → ServerSeen → List Sides
-behind_challenge m state server = if_signed (responded (failure UNAUTHORIZED m.first.id) (sight server m.from)) (λ page.
+abbrev pub sides_after_challenge : Meeting → ClientState → ServerSeen → List Sides
+sides_after_challenge m state server = if_signed (responded (failure UNAUTHORIZED m.first.id) (sight server m.from)) (λ page.
     let signed = after_signing server m.from true in
-    sides state signed ∷ behind_calls state signed m.first.before (λ called.
+    sides state signed ∷ sides_after_calls state signed m.first.before (λ called.
     let step = client_step m.settings state (reading_of page.bytes) in
-    if_resent step.answer (sides step.state called ∷ behind_second m step.state called)))
+    if_resent step.answer (sides step.state called ∷ sides_after_second m step.state called)))
 
 -- the first request is read by the server, and is to be challenged
-abbrev pub behind_first : Meeting → ClientState → ServerSeen → List Sides
-behind_first m state server = if_signed (asked m.first.id state) (λ page.
+abbrev pub sides_after_first : Meeting → ClientState → ServerSeen → List Sides
+sides_after_first m state server = if_signed (asked m.first.id state) (λ page.
     let read = after_message server m.from m.first.now m.first.words (reading_of page.bytes) in
-    if_unauthorized (answer (sight server m.from) m.first.now m.first.words (reading_of page.bytes)) (sides state read ∷ behind_challenge m state read))
+    if_unauthorized (answer (sight server m.from) m.first.now m.first.words (reading_of page.bytes)) (sides state read ∷ sides_after_challenge m state read))
 
--- ---- the whole run: both sides at its beginning and behind each step but the last
+-- ---- the whole run: both sides at its beginning and after each step but the last
 abbrev pub sides_of : Meeting → ClientState → ServerSeen → List Sides
-sides_of m state server = sides state server ∷ behind_first m state server
+sides_of m state server = sides state server ∷ sides_after_first m state server

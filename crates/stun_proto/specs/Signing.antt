@@ -18,8 +18,8 @@ use Rattle.stun_auth.specs.Server.{Sight}
 use Rattle.stun_auth.specs.ServerSigning.{server_signed}
 
 -- a message in a writer that grows to the longest message
-abbrev pub page : List ℕ → Page
-page message = record { bytes = message; room = LENGTH_LIMIT - length message }
+abbrev pub page_of : List ℕ → Page
+page_of message = record { bytes = message; room = LENGTH_LIMIT - length message }
 
 abbrev pub message_unless : Option StunWriteError → List ℕ → Result (List ℕ) StunWriteError
 message_unless None message = Ok message
@@ -34,24 +34,24 @@ abbrev pub after : {X : Type 0} → Result (List ℕ) StunWriteError → (List �
 after (Ok message) next = next message
 after (Err reason) next = Err reason
 
--- a message with these attributes behind its own, or the first refusal
+-- a message with these attributes after its own, or the first refusal
 abbrev pub with_all : List Member → List ℕ → Result (List ℕ) StunWriteError
 with_all [] message = Ok message
 with_all (m ∷ members) message = after (added m.1 message) (with_all members)
 
--- the visible attributes of a message, written behind a new header with its type and id, or the first refusal
+-- the visible attributes of a message, written after a new header with its type and id, or the first refusal
 abbrev pub written_anew : List ℕ → Result (List ℕ) StunWriteError
 written_anew message = with_all (visible message) (spelled (type_field message) (transaction_id_field message) [])
 
 -- the message that is written anew and signed, or the first refusal
 abbrev pub signing : Sight → List ℕ → Result Page StunWriteError
-signing s message = after (written_anew message) (λ anew. server_signed s (is_response (class_in message)) (page anew))
+signing s message = after (written_anew message) (λ anew. server_signed s (is_response (class_in message)) (page_of anew))
 
 -- what signing leaves, where nothing is refused
 abbrev pub if_signed : {X : Type 0} → Result Page StunWriteError → X → X → X
 if_signed (Ok signed) before after = after
 if_signed (Err reason) before after = before
 
--- the place of an address behind a signed message: what a response offered is kept
+-- the place of an address after a signed message: what a response offered is kept
 abbrev pub place_offered : Sight → Bool → Option PlaceSeen
 place_offered s response = if response then option_map (with_offer s.registered.algorithms) s.place else s.place

@@ -18,7 +18,7 @@ ghost use Rattle.stun_proto.specs.Honest.{ShortNamesAreSigned, StrongestIsAgreed
 ghost use Rattle.stun_proto.specs.Renewal.{NonceIsRenewed};
 ghost use Rattle.stun_proto.specs.Headline.{IsAskedOnce, SendsByPlan, ValidatesOneCall};
 ghost use Rattle.stun_proto.specs.Run.{IsDriven};
-ghost use Rattle.stun_proto.specs.RunLaws.{EventsHaveRuns, IsDetermined, IsDeterminedThroughout};
+ghost use Rattle.stun_proto.specs.RunLaws.{EventsHaveRuns, IsDetermined, IsDeterminedThroughout, requester};
 ghost use Rattle.stun_proto.specs.Schedule.{AreInOrder, plan};
 ghost use Rattle.stun_proto.specs.Serving.{reply_of};
 ghost use Rattle.stun_proto.specs.Shards.{ShardsServeAsOne};
@@ -52,7 +52,7 @@ pub fn runs_count_steps()
 pub fn runs_send_by_plan()
     ensures { (until : ℕ) (a b : Agent) (events : List (ℕ × TheEvent)) (steps : List Step)
         → until ≤ last_moment → IsAscending a.transactions → AreInOrder until 0 events
-        → IsDriven until a events steps b → SendsByPlan until a events steps }
+        → IsDriven until a events steps b → SendsByPlan until (requester a) events steps }
 {}
 
 /// The plan of one request, spelled out. With the default settings, over UDP: a transmission at 0, 500, 1500, 3500, 7500, 15500 and
@@ -61,7 +61,7 @@ pub fn runs_send_by_plan()
 pub fn plan_of_a_request()
     ensures udp { (to : Address) → plan Udp 0 default_settings 7 to binding_request ≡ udp_steps to }
     ensures tcp { (to : Address) → plan Tcp 0 default_settings 7 to binding_request ≡ tcp_steps to }
-    ensures asked { (transport : Transport) (here to : Address) → IsAskedOnce (new_agent transport here) 7 0 binding_request to [] [] }
+    ensures asked { (transport : Transport) (here to : Address) → IsAskedOnce (requester (new_agent transport here)) 7 0 binding_request to [] [] }
 {}
 
 /// The answer to one request or indication is `Validated` if and only if the message is accepted (RFC 8489, section 9.2.4).

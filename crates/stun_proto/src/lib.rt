@@ -41,7 +41,7 @@
 //! }
 //! ```
 //!
-//! | Path | What stands there |
+//! | Path | What it has |
 //! |---|---|
 //! | `types` | messages, attributes, writers, credentials, digests (the crate `stun_types`) |
 //! | `agent` | requests, when they are sent again, and when they end |

@@ -12,8 +12,8 @@ use Rattle.stun_proto.specs.declared.replay.negotiation.NegotiateError.TheVarian
 use Rattle.stun_proto.specs.declared.replay.negotiation.Outcome.{Outcome}
 use Rattle.stun_proto.specs.Sides.{Sides, sides}
 
--- it has come to this end and this is left, where no memory was wanting; where memory was, both sides stand where another step
--- was to follow; the client's settings stay, and want of memory is never the reason of a refused signing
+-- where no allocation failed, the run has come to this end and has left this. Where one failed, both sides are as the first steps of
+-- the run leave them, and another step was to follow. The client's settings stay, and no signing is refused as out of memory
 pub record IsRun (result : Result Outcome NegotiateError) (old new : ClientSide) (server : ServerSeen) (met : Met) (along : List Sides) : Type 0 where
   pub settings : new.settings ≡ old.settings
   pub steps : IfSome (met_by result new.state server) (λ end. end ≡ met)

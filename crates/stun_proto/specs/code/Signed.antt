@@ -3,14 +3,14 @@ use Rattle.std.specs.Prelude.{ℕ, List, Result, Ok, Err}
 use Rattle.stun_base.specs.declared.error.StunWriteError.{StunWriteError}
 use Rattle.stun_types.specs.WriteVec.{Written}
 use Rattle.stun_auth.specs.Additions.{Page}
-use Rattle.stun_proto.specs.Signing.{page}
+use Rattle.stun_proto.specs.Signing.{page_of}
 
 -- the message in a writer, if there is one
 abbrev pub written_message : Result Written StunWriteError → Result (List ℕ) StunWriteError
 written_message (Ok writer) = Ok writer.bytes
 written_message (Err reason) = Err reason
 
--- the message with the room behind it
+-- the message with the room after it
 abbrev pub signed_page : Result Written StunWriteError → Result Page StunWriteError
-signed_page (Ok writer) = Ok (page writer.bytes)
+signed_page (Ok writer) = Ok (page_of writer.bytes)
 signed_page (Err reason) = Err reason

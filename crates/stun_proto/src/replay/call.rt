@@ -90,11 +90,11 @@ pub enum ServerReply<A: Allocator = Global> {
     NotAMessage(StunParseError),
     /// The message is accepted, with this algorithm.
     Validated(IntegrityAlgorithm),
-    /// The message is refused: the first reason that holds. Want of memory never stands here.
+    /// The message is refused: the first reason that holds, which is never `OutOfMemory`.
     Refused(LongTermServerAuthErrorReason),
     /// The message as it was signed.
     Signed(Vec<u8, A>),
-    /// Writing or signing the message is refused: the first reason that holds. Want of memory never stands here.
+    /// Writing or signing the message is refused: the first reason that holds, which is never `OutOfMemory`.
     SignRefused(StunWriteError),
     /// The call is done.
     Done,

@@ -3,7 +3,7 @@ ghost use Rattle.std.specs.Prelude.{ℕ, ◌≡◌, ◌+◌, List, IfOk, IfErr, 
 ghost use Rattle.stun_proto.specs.code.Calls.{kept, HasPassed, TakesTurns, TakesWhole};
 ghost use Rattle.stun_proto.specs.Headline.{SendsByPlan};
 ghost use Rattle.stun_proto.specs.Run.{IsDriven, Turns};
-ghost use Rattle.stun_proto.specs.RunLaws.{KeepPlans};
+ghost use Rattle.stun_proto.specs.RunLaws.{KeepPlans, requester};
 ghost use Rattle.stun_proto.specs.Schedule.{AreInOrder};
 ghost use Rattle.stun_proto.specs.Steps.{Step, steps_of};
 ghost use Rattle.stun_proto.specs.Stopped.{HasStopped};
@@ -44,7 +44,7 @@ pub fn drive<A: Allocator + Copy>(
 ) -> Result<Vec<AgentStep<A>, A>, Stopped>
     requires { AreInOrder until 0 events.now }
     ensures run { IfOk result (λ steps. IsDriven until agent.old events.now (steps_of steps.items) agent.new) }
-    ensures headline { IfOk result (λ steps. SendsByPlan until agent.old events.now (steps_of steps.items)) }
+    ensures headline { IfOk result (λ steps. SendsByPlan until (requester agent.old) events.now (steps_of steps.items)) }
     ensures plans { IfOk result (λ steps. KeepPlans until agent.old events.now (steps_of steps.items)) }
     ensures stopped { IfErr result (λ stopped. HasStopped until stopped.done agent.old events.now agent.new) }
 {

@@ -45,7 +45,7 @@ pub enum Outcome {
 /// Why a run came to no outcome.
 #[derive(Clone, Copy, Debug, PartialEq, Eq, Error)]
 pub enum NegotiateError {
-    /// Memory was wanting.
+    /// An allocation failed.
     #[error("out of memory")]
     Memory,
     /// A signing was refused for another reason.
@@ -99,9 +99,9 @@ impl From<Stopped> for NegotiateError {
 ///
 /// The answer is the outcome that ends the run: a first request that is accepted, a refusal of the server other than
 /// `Unauthorized` to the first request, a refusal of the client, an answer of the client to the 401 other than
-/// `ResendRequest`, or both sides' acceptance. `Write` is the reason of a signing that was refused, and never that memory was
-/// wanting. `Memory` is answered where it was; both sides then stand behind the first steps of the run, each call of a list
-/// being one, and another step was to follow.
+/// `ResendRequest`, or both sides' acceptance. `Write` is the reason of a signing that was refused, and never
+/// `OutOfMemory`. Where an allocation fails the answer is `Memory`. Both sides are then as the first steps of the run leave
+/// them, and another step was to follow; each call of a list is a step.
 #[tactic(none)]
 pub fn negotiate<A: Allocator + Copy>(
     alloc: A,

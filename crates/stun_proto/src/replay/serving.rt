@@ -60,7 +60,7 @@ pub fn serve<A: Allocator + Copy>(
     Ok(replies)
 }
 
-/// Makes one call. The one error is that memory is wanting; the server is then as before.
+/// Makes one call. The one error is that an allocation fails; the server is then as before.
 fn serve_call<A: Allocator + Copy>(
     alloc: A,
     server: &mut LongTermServerAuth<A>,
@@ -112,7 +112,7 @@ fn serve_call<A: Allocator + Copy>(
     }
 }
 
-/// Validates bytes that came from an address, where they are a message. Where they are none, no memory is wanting.
+/// Validates bytes that came from an address, where they are a message. Where they are none, no allocation fails.
 fn validate<A: Allocator + Copy>(
     server: &mut LongTermServerAuth<A>,
     bytes: &[u8],

@@ -20,7 +20,7 @@ use stun_base::error::StunWriteError;
 use stun_types::message::{Message, MessageWriteVec};
 use stun_types::prelude::*;
 
-/// Signs bytes for an address, where they are a message. Where they are none, no memory is wanting.
+/// Signs bytes for an address, where they are a message. Where they are none, no allocation fails.
 pub(crate) fn sign<A: Allocator + Copy>(
     alloc: A,
     server: &mut LongTermServerAuth<A>,
@@ -70,7 +70,7 @@ fn sign_message<A: Allocator + Copy>(
     server.sign_outgoing_message(writer, to)
 }
 
-/// Writes the attributes of a message that count behind a new header with its type and id.
+/// Writes the attributes of a message that count after a new header with its type and id.
 fn write_anew<A: Allocator + Copy>(
     alloc: A,
     message: &Message<'_>,

@@ -8,7 +8,7 @@ use rand_core::utils::NextWord;
 use rand_core::{Rng, utils};
 use std::marker::Model;
 
-/// Sixteen words that are handed in, as a source of random words: it gives them in their order, and zeros behind them.
+/// Sixteen words that are handed in, as a source of random words: it gives them in their order, and zeros after them.
 ///
 /// Contracts see the words that are left.
 #[derive(Debug, Drop)]

@@ -9,7 +9,7 @@ ghost use Rattle.stun_auth.specs.Validation.{sight};
 ghost use Rattle.stun_proto.specs.code.FirstAnswers.{end_of, is_unauthorized};
 ghost use Rattle.stun_proto.specs.code.Meetings.{meeting_of};
 ghost use Rattle.stun_proto.specs.Negotiation.{BINDING, asked, challenged, failure, negotiated, outcome_of, responded, second_asked, succeeded, success};
-ghost use Rattle.stun_proto.specs.Sides.{behind_challenge, behind_second, behind_success, sides, sides_of};
+ghost use Rattle.stun_proto.specs.Sides.{sides_after_challenge, sides_after_second, sides_after_success, sides, sides_of};
 ghost use Rattle.stun_proto.specs.code.Sides.{IsRun};
 
 use crate::replay::call::ServerCall;
@@ -80,7 +80,7 @@ fn is_unauthorized(reason: LongTermServerAuthErrorReason) -> bool
     matches!(reason, LongTermServerAuthErrorReason::Unauthorized)
 }
 
-/// The challenge: signed by the server, and read by the client behind the first list of calls.
+/// The challenge: signed by the server, and read by the client after the first list of calls.
 fn answer_challenge<A: Allocator + Copy>(
     alloc: A,
     client: &mut LongTermClientAuth<A>,
@@ -93,7 +93,7 @@ fn answer_challenge<A: Allocator + Copy>(
     ensures { let m = meeting_of client.old.settings meeting.now in
         IsRun result client.old client.new server.new
         (challenged m client.old.state server.old (responded (failure UNAUTHORIZED m.first.id) (sight server.old m.from)))
-        (sides client.old.state server.old ∷ behind_challenge m client.old.state server.old) }
+        (sides client.old.state server.old ∷ sides_after_challenge m client.old.state server.old) }
 {
     let signed = challenge(alloc, server, request, meeting.from)?;
     serve(alloc, server, meeting.first.before)?;
@@ -120,7 +120,7 @@ fn end_of(
     }
 }
 
-/// The second request: signed by the client, read and answered by the server behind the second list of calls.
+/// The second request: signed by the client, read and answered by the server after the second list of calls.
 fn ask_again<A: Allocator + Copy>(
     alloc: A,
     client: &mut LongTermClientAuth<A>,
@@ -130,7 +130,7 @@ fn ask_again<A: Allocator + Copy>(
     ensures { let m = meeting_of client.old.settings meeting.now in
         IsRun result client.old client.new server.new
         (second_asked m client.old.state server.old (asked m.second.id client.old.state))
-        (sides client.old.state server.old ∷ behind_second m client.old.state server.old) }
+        (sides client.old.state server.old ∷ sides_after_second m client.old.state server.old) }
 {
     let signed = request(alloc, client, meeting.second.id)?;
     let request = message_in(signed.data());
@@ -157,7 +157,7 @@ fn confirm<A: Allocator + Copy>(
     ensures { let m = meeting_of client.old.settings meeting.now in
         IsRun result client.old client.new server.new
         (succeeded m algorithm client.old.state server.old (responded (success m.second.id) (sight server.old m.from)))
-        (sides client.old.state server.old ∷ behind_success m client.old.state server.old) }
+        (sides client.old.state server.old ∷ sides_after_success m client.old.state server.old) }
 {
     let signed = success(alloc, server, request, meeting.from)?;
     let answer = read(client, signed.data())?;

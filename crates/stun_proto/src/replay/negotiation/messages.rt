@@ -118,8 +118,8 @@ pub(crate) fn message_in(bytes: &[u8]) -> Message<'_>
     Message::from_bytes(bytes).unwrap()
 }
 
-/// What the client makes of a response. The one error is that memory is wanting, which it can be only where a challenge is to be
-/// taken up; the client is then as before.
+/// What the client makes of a response. The one error is that an allocation fails, as it can only where a challenge is taken up;
+/// the client is then as before.
 pub(crate) fn read<A: Allocator + Copy>(
     client: &mut LongTermClientAuth<A>,
     bytes: &[u8],

@@ -24,7 +24,7 @@ loop-moment-preserved g c =
     }
 
 pub returns-then-is_empty-clause-headline : goal.returns-then-is_empty-clause-headline
-returns-then-is_empty-clause-headline g c = nothing_is_asked _ _ _ (steps_of c.new-log.result.steps.items) (eqb-true _ 0 (sym c.is_empty.ensures ∙ c.if-is_empty.true))
+returns-then-is_empty-clause-headline g c = nothing_is_asked _ c.args.agent.now _ (steps_of c.new-log.result.steps.items) (eqb-true _ 0 (sym c.is_empty.ensures ∙ c.if-is_empty.true))
 
 pub returns-in-Err-clause-stopped : goal.returns-in-Err-clause-stopped
 returns-in-Err-clause-stopped g c =

@@ -1,4 +1,4 @@
--- What is left is written behind what was written so far.
+-- What is left is written after what was written so far.
 use Rattle.std.proofs.Common.{◌≡◌}
 use Rattle.stun_base.specs.Header.{type_field}
 use Rattle.stun_types.specs.Writing.{IsOpen}

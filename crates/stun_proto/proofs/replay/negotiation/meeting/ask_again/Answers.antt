@@ -7,9 +7,10 @@ use Rattle.stun_auth.specs.Reading.{reading_of}
 use Rattle.stun_auth.specs.Validation.{ServerSeen, after_message, answer, sight}
 use Rattle.stun_proto.specs.code.FirstAnswers.{answer_of}
 use Rattle.stun_proto.specs.code.Meetings.{meeting_of}
-use Rattle.stun_proto.specs.Negotiation.{asked, page_of, responded, second_asked, succeeded, success}
+use Rattle.stun_proto.specs.Negotiation.{asked, responded, second_asked, succeeded, success}
+use Rattle.stun_proto.specs.Signing.{page_of}
 use Rattle.stun_proto.specs.Serving.{after_calls}
-use Rattle.stun_proto.specs.Sides.{behind_second, behind_success, sides}
+use Rattle.stun_proto.specs.Sides.{sides_after_second, sides_after_success, sides}
 use Rattle.stun_proto.specs.code.Sides.{IsRun}
 use Rattle.stun_proto.proofs.Runs.{by_error, run_refused, second_accepted, second_calls_stopped, second_read_stopped, second_refused}
 use Rattle.stun_proto.proofs.replay.negotiation.meeting.ask_again.Goals as goal
@@ -19,8 +20,8 @@ returns-in_err-signed g c =
     let k = c.args.client.now in
     let s = c.args.server.now in
     let m = meeting_of k.settings c.args.meeting.now in
-    by_error c.from_residual.result _ (λ r. IsRun r k c.request.new.client s (second_asked m k.state s (asked m.second.id k.state)) (sides k.state s ∷ behind_second m k.state s)) c.from_residual.ensures.1
-    (λ e is. run_refused k c.request.new.client s s (second_asked m k.state s) (asked m.second.id k.state) (behind_second m k.state s)
+    by_error c.from_residual.result _ (λ r. IsRun r k c.request.new.client s (second_asked m k.state s (asked m.second.id k.state)) (sides k.state s ∷ sides_after_second m k.state s)) c.from_residual.ensures.1
+    (λ e is. run_refused k c.request.new.client s s (second_asked m k.state s) (asked m.second.id k.state) (sides_after_second m k.state s)
     (λ r. refl) c.in_err-signed.ensures.stays refl c.in_err-signed.field-0.0 e is c.in_err-signed.ensures.answer)
 
 pub message_in-request-requires : goal.message_in-request-requires
@@ -32,7 +33,7 @@ returns-in_err-serve g c =
     let s = c.args.server.now in
     let m = meeting_of k.settings c.args.meeting.now in
     let page = page_of c.in_ok-signed.signed.bytes in
-    by_error c.from_residual-in_err-serve.result _ (λ r. IsRun r k c.request.new.client c.serve.new.server (second_asked m k.state s (asked m.second.id k.state)) (sides k.state s ∷ behind_second m k.state s)) c.from_residual-in_err-serve.ensures.1
+    by_error c.from_residual-in_err-serve.result _ (λ r. IsRun r k c.request.new.client c.serve.new.server (second_asked m k.state s (asked m.second.id k.state)) (sides k.state s ∷ sides_after_second m k.state s)) c.from_residual-in_err-serve.ensures.1
     (λ e is. second_calls_stopped m k s page (sym c.in_ok-signed.ensures.answer) c.request.new.client c.serve.new.server c.in_err-serve.field-0.0.done e c.in_ok-signed.ensures.stays
     c.in_err-serve.ensures.stopped.0 c.in_err-serve.ensures.stopped.1 is)
 
@@ -42,7 +43,7 @@ returns-in_err-answer g c =
     let s = c.args.server.now in
     let m = meeting_of k.settings c.args.meeting.now in
     let page = page_of c.in_ok-signed.signed.bytes in
-    by_error c.from_residual-in_err-answer.result _ (λ r. IsRun r k c.request.new.client c.judged.new.server (second_asked m k.state s (asked m.second.id k.state)) (sides k.state s ∷ behind_second m k.state s)) c.from_residual-in_err-answer.ensures.1
+    by_error c.from_residual-in_err-answer.result _ (λ r. IsRun r k c.request.new.client c.judged.new.server (second_asked m k.state s (asked m.second.id k.state)) (sides k.state s ∷ sides_after_second m k.state s)) c.from_residual-in_err-answer.ensures.1
     (λ e is. second_read_stopped m k s page (sym c.in_ok-signed.ensures.answer) c.request.new.client c.judged.new.server e c.in_ok-signed.ensures.stays
     (c.in_err-answer.ensures.err ∙ c.in_ok-serve.ensures.server) is)
 
@@ -70,7 +71,7 @@ returns-in-Ok g c =
     ∙ ap (λ b. answer (sight called m.from) m.second.now m.second.words (reading_of b)) read in
     let run = subst (λ (x : ClientSide). IsRun c.confirm.result x c.confirm.new.client c.confirm.new.server
     (succeeded (meeting_of x.settings c.args.meeting.now) c.in-Ok.algorithm x.state c.judged.new.server (responded (success m.second.id) (sight c.judged.new.server m.from)))
-    (sides x.state c.judged.new.server ∷ behind_success (meeting_of x.settings c.args.meeting.now) x.state c.judged.new.server)) c.in_ok-signed.ensures.stays c.confirm.ensures in
+    (sides x.state c.judged.new.server ∷ sides_after_success (meeting_of x.settings c.args.meeting.now) x.state c.judged.new.server)) c.in_ok-signed.ensures.stays c.confirm.ensures in
     second_accepted m k s (page_of bytes) (sym c.in_ok-signed.ensures.answer) k c.confirm.new.client c.judged.new.server c.confirm.new.server c.in-Ok.algorithm c.confirm.result refl left told run
 
 pub returns : goal.returns

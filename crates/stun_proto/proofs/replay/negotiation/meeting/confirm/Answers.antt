@@ -6,8 +6,9 @@ use Rattle.stun_auth.specs.ClientStep.{IsResend, client_step}
 use Rattle.stun_auth.specs.Reading.{reading_of}
 use Rattle.stun_auth.specs.Validation.{sight}
 use Rattle.stun_proto.specs.code.Meetings.{meeting_of}
-use Rattle.stun_proto.specs.Negotiation.{page_of, responded, succeeded, success}
-use Rattle.stun_proto.specs.Sides.{behind_success, sides}
+use Rattle.stun_proto.specs.Negotiation.{responded, succeeded, success}
+use Rattle.stun_proto.specs.Signing.{page_of}
+use Rattle.stun_proto.specs.Sides.{sides_after_success, sides}
 use Rattle.stun_proto.specs.code.Sides.{IsRun}
 use Rattle.stun_proto.proofs.Runs.{by_error, run_refused, stepped, success_read, success_stopped}
 use Rattle.stun_proto.proofs.replay.negotiation.meeting.confirm.Goals as goal
@@ -23,8 +24,8 @@ returns-in_err-signed g c =
     let reason = c.in_err-signed.field-0.0 in
     let met = succeeded m c.args.algorithm k.state s (responded (success m.second.id) (sight s m.from)) in
     let told = subst (λ i. UnlessMemory {V = Written} (Err reason) (Err reason ≡ responded (success i) (sight s m.from)) (Unit {0})) c.requires.id c.in_err-signed.ensures.answer in
-    by_error c.from_residual.result _ (λ r. IsRun r k k c.success.new.server met (sides k.state s ∷ behind_success m k.state s)) c.from_residual.ensures.1
-    (λ e is. run_refused k k s c.success.new.server (succeeded m c.args.algorithm k.state s) (responded (success m.second.id) (sight s m.from)) (behind_success m k.state s)
+    by_error c.from_residual.result _ (λ r. IsRun r k k c.success.new.server met (sides k.state s ∷ sides_after_success m k.state s)) c.from_residual.ensures.1
+    (λ e is. run_refused k k s c.success.new.server (succeeded m c.args.algorithm k.state s) (responded (success m.second.id) (sight s m.from)) (sides_after_success m k.state s)
     (λ r. refl) refl c.in_err-signed.ensures.refused reason e is told)
 
 pub read-requires : goal.read-requires
@@ -38,7 +39,7 @@ returns-in_err-answer g c =
     let bytes = c.in_ok-signed.signed.bytes in
     let met = succeeded m c.args.algorithm k.state s (responded (success m.second.id) (sight s m.from)) in
     let signed = c.in_ok-signed.ensures.answer ∙ ap (λ i. responded (success i) (sight s m.from)) c.requires.id in
-    by_error c.from_residual-in_err-answer.result _ (λ r. IsRun r k c.read.new.client c.success.new.server met (sides k.state s ∷ behind_success m k.state s)) c.from_residual-in_err-answer.ensures.1
+    by_error c.from_residual-in_err-answer.result _ (λ r. IsRun r k c.read.new.client c.success.new.server met (sides k.state s ∷ sides_after_success m k.state s)) c.from_residual-in_err-answer.ensures.1
     (λ e is. success_stopped m k s c.args.algorithm (page_of bytes) signed c.success.new.server c.in_ok-signed.ensures.server
     (subst (λ b. IsResend (client_step k.settings k.state (reading_of b)).answer) c.data.ensures c.in_err-answer.ensures.memory) c.read.new.client c.in_err-answer.ensures.err e is)
 

@@ -9,8 +9,9 @@ use Rattle.stun_auth.specs.Validation.{after_message, answer, sight}
 use Rattle.stun_auth.specs.declared.server_reason.LongTermServerValidation.TheVariants as Served
 use Rattle.stun_proto.specs.code.FirstAnswers.{answer_of}
 use Rattle.stun_proto.specs.code.Meetings.{meeting_of}
-use Rattle.stun_proto.specs.Negotiation.{asked, challenged, failure, first_asked, negotiated, page_of, responded}
-use Rattle.stun_proto.specs.Sides.{behind_challenge, behind_first, sides, sides_of}
+use Rattle.stun_proto.specs.Negotiation.{asked, challenged, failure, first_asked, negotiated, responded}
+use Rattle.stun_proto.specs.Signing.{page_of}
+use Rattle.stun_proto.specs.Sides.{sides_after_challenge, sides_after_first, sides, sides_of}
 use Rattle.stun_proto.specs.code.Sides.{IsRun}
 use Rattle.stun_proto.specs.declared.replay.negotiation.Outcome.TheVariants as Outcome
 use Rattle.stun_proto.proofs.Runs.{by_error, first_challenged, first_ended, first_refused, first_stopped, run_refused, unauthorized_is}
@@ -22,7 +23,7 @@ returns-in_err-signed g c =
     let s = c.args.server.now in
     let m = meeting_of k.settings c.args.meeting.now in
     by_error c.from_residual.result _ (λ r. IsRun r k c.request.new.client s (negotiated m k.state s) (sides_of m k.state s)) c.from_residual.ensures.1
-    (λ e is. run_refused k c.request.new.client s s (λ o. first_asked m k.state s o) (asked m.first.id k.state) (behind_first m k.state s)
+    (λ e is. run_refused k c.request.new.client s s (λ o. first_asked m k.state s o) (asked m.first.id k.state) (sides_after_first m k.state s)
     (λ r. refl) c.in_err-signed.ensures.stays refl c.in_err-signed.field-0.0 e is c.in_err-signed.ensures.answer)
 
 pub message_in-request-requires : goal.message_in-request-requires
@@ -67,7 +68,7 @@ returns-then-is_unauthorized g c =
     ∙ ap (λ b. answer (sight s m.from) m.first.now m.first.words (reading_of b)) read in
     let run = subst (λ (x : ClientSide). IsRun c.answer_challenge.result x c.answer_challenge.new.client c.answer_challenge.new.server
     (challenged (meeting_of x.settings c.args.meeting.now) x.state c.judged.new.server (responded (failure UNAUTHORIZED m.first.id) (sight c.judged.new.server m.from)))
-    (sides x.state c.judged.new.server ∷ behind_challenge (meeting_of x.settings c.args.meeting.now) x.state c.judged.new.server)) c.in_ok-signed.ensures.stays c.answer_challenge.ensures in
+    (sides x.state c.judged.new.server ∷ sides_after_challenge (meeting_of x.settings c.args.meeting.now) x.state c.judged.new.server)) c.in_ok-signed.ensures.stays c.answer_challenge.ensures in
     first_challenged m k s (page_of c.in_ok-signed.signed.bytes) (sym c.in_ok-signed.ensures.answer) k c.answer_challenge.new.client c.judged.new.server c.answer_challenge.new.server c.answer_challenge.result refl left told run
 
 pub returns : goal.returns

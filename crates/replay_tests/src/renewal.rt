@@ -14,7 +14,7 @@ use test_support::server::{
 };
 use test_support::spelled::bytes_of;
 
-/// The first moment at which a nonce of the first moment stands no more.
+/// The first moment at which a nonce of the first moment has expired.
 const LATE: u64 = 3_600_000_000_001;
 
 /// What both sides send: requests at the first nonce and at the second, and between them the error.

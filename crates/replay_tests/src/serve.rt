@@ -132,7 +132,7 @@ fn a_signed_request_is_validated_at_its_own_address(rt: HostRuntime) -> Result<(
     Ok(())
 }
 
-/// Compares the replies, or, where memory was wanting, those of a second run over the rest.
+/// Compares the replies, or, where an allocation failed, those of a second run over the rest.
 fn expect_whole<A: Allocator + Copy>(
     rt: &impl Abort,
     alloc: A,

@@ -93,7 +93,7 @@ const HALF_SIGNED: &str = "0001002c 2112a442 000000070000000700000007 00060004 7
 const BAD_REQUEST: &str =
     "01110014 2112a442 000000070000000700000007 0009000f 00000400 426164205265717565737400";
 
-/// A nonce stands for an hour, that moment included.
+/// A nonce is current for an hour, that moment included.
 #[test]
 fn a_server_answers(rt: HostRuntime) -> Result<(), Fail> {
     let alloc = rt.alloc();

@@ -125,8 +125,12 @@ static int64_t sends_again(struct world *world, uint32_t number) {
     return stun_agent_poll_transmit(&world->agent, SECOND, world->message.bytes, sizeof world->message.bytes, &to);
 }
 
+/* From then on requests have ended, and looking polls no more. */
+static bool has_ended;
+
 static int64_t cancels(struct world *world, uint32_t number) {
     struct message request = message_of(STUN_REQUEST, number);
+    has_ended = true;
     return stun_agent_cancel(&world->agent, request.bytes + 8, STUN_ID_LENGTH);
 }
 
@@ -192,7 +196,7 @@ static void look(struct world *world, struct answers *seen) {
     size_t length;
     memset(seen, 0, sizeof *seen);
     stun_agent_statistics(&world->agent, &seen->counts);
-    if (seen->counts.transactions_cancelled == 0) stun_agent_poll(&world->agent, 0, &seen->until, id, 0);
+    if (!has_ended) stun_agent_poll(&world->agent, 0, &seen->until, id, sizeof id);
     for (uint32_t i = 0; i < MANY; i++) {
         struct message request = message_of(STUN_REQUEST, i);
         stun_address at = address_of(i);

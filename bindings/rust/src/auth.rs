@@ -24,8 +24,8 @@ const USUAL_ROOM: usize = 4096;
 /// The bytes of the longest message.
 const LONGEST_MESSAGE: usize = 65552;
 
-/// The bytes of the longest user name that a message can carry.
-const LONGEST_NAME: usize = 513;
+/// The bytes of a user name that are tried first: a message that hides the name may mean a longer one.
+const USUAL_NAME: usize = 256;
 
 /// Signs in the message's own buffer, with more room where the usual one does not do. A refusal leaves the message.
 fn signed(
@@ -347,14 +347,21 @@ impl LongTermServerAuth {
 
     /// Who was validated at an address, and by which algorithm. Or `OutOfMemory`.
     pub fn client(&self, client: SocketAddr) -> Result<Option<(String, IntegrityAlgorithm)>, Refusal> {
-        let (mut room, mut length) = ([0; LONGEST_NAME], 0);
-        let found = Refusal::of(self.handle.client(Address::from(client), &mut room, &mut length))?;
+        let (mut name, mut length) = (Vec::new(), 0);
+        let found = loop {
+            let more = name.len().max(USUAL_NAME);
+            name.try_reserve(more).map_err(|_| Refusal::OutOfMemory)?;
+            name.resize(name.len() + more, 0);
+            match Refusal::of(self.handle.client(Address::from(client), &mut name, &mut length)) {
+                Err(Refusal::BufferTooSmall) => continue,
+                answer => break answer?,
+            }
+        };
         if found == 0 {
             return Ok(None);
         }
-        let mut name = String::new();
-        name.try_reserve_exact(length).map_err(|_| Refusal::OutOfMemory)?;
-        name.push_str(std::str::from_utf8(&room[..length]).map_err(|_| Refusal::NotText)?);
+        name.truncate(length);
+        let name = String::from_utf8(name).map_err(|_| Refusal::NotText)?;
         Ok(Some((name, IntegrityAlgorithm::of(found))))
     }
 

@@ -282,3 +282,15 @@ fn a_long_challenge_is_signed() {
     both.is_validated(Instant::ZERO, Sha256);
     assert_eq!(both.server.client(both.from), Ok(Some((name, Sha256))));
 }
+
+#[test]
+fn a_hidden_name_may_be_longer_than_a_shown_one() {
+    let name = "n".repeat(2000);
+    let mut both = Conversation::with_both("pass");
+    let long = LongTermCredentials::new(name.clone(), "pass".to_string());
+    both.server.add_user(long.clone()).unwrap();
+    both.client.set_credentials(long).unwrap();
+    both.is_challenged(Instant::ZERO);
+    both.is_validated(Instant::ZERO, Sha256);
+    assert_eq!(both.server.client(both.from), Ok(Some((name, Sha256))));
+}

@@ -1,0 +1,1 @@
+//! The address that callers give and get.

@@ -1,0 +1,1 @@
+//! What a caller in C keeps of a value on the heap.

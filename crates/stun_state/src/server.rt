@@ -1,0 +1,1 @@
+//! What the exports do with a server's authenticator.

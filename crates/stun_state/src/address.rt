@@ -1,1 +1,71 @@
-//! The address that callers give and get.
+//! The addresses that callers give and get.
+
+ghost use Rattle.std.specs.Prelude.{◌≡◌, ◌++◌, take, replicate, IfOk, IfErr, Some, None};
+ghost use Rattle.stun_state.specs.Addresses.{address_of, ipv4, ipv6, socket_address};
+
+use crate::codes::Refusal;
+use std::net::{Ipv4Addr, Ipv6Addr, SocketAddr, SocketAddrV4, SocketAddrV6};
+
+/// An address: 4 octets (IPv4) or 16 (IPv6) in network order at the front, and a port.
+#[repr(C)]
+#[derive(Debug, Clone, Copy, PartialEq, Eq)]
+pub struct Address {
+    /// The octets in network order. After the fourth none is read of an IPv4 address.
+    pub octets: [u8; 16],
+    /// The port, in the processor's order.
+    pub port: u16,
+    /// 4 or 16.
+    pub length: u16,
+}
+
+/// The IPv4 address in the first four octets.
+fn ipv4(octets: &[u8; 16], port: u16) -> SocketAddr
+    ensures { result ≡ ipv4 (take 4 octets.now) port }
+{
+    let mut front = [0; 4];
+    front.copy_from_slice(&octets[..4]);
+    SocketAddr::V4(SocketAddrV4::new(Ipv4Addr::from_octets(front), port))
+}
+
+/// The IPv6 address in the octets.
+fn ipv6(octets: &[u8; 16], port: u16) -> SocketAddr
+    ensures { result ≡ ipv6 octets.now port }
+{
+    SocketAddr::V6(SocketAddrV6::new(Ipv6Addr::from_octets(*octets), port, 0, 0))
+}
+
+impl Address {
+    /// The address that a caller means, or `BadArgument` where its length is that of none.
+    pub fn socket(&self) -> Result<SocketAddr, Refusal>
+        ensures ok { IfOk result (λ address. socket_address self.now ≡ Some address) }
+        ensures err { IfErr result (λ refusal. (socket_address self.now ≡ None) × (refusal ≡ Refusal.BadArgument)) }
+    {
+        match self.length {
+            4 => Ok(ipv4(&self.octets, self.port)),
+            16 => Ok(ipv6(&self.octets, self.port)),
+            _ => Err(Refusal::BadArgument),
+        }
+    }
+
+    /// An address as a caller gets it. Flow information and scope of an IPv6 address are not told.
+    pub fn of(address: SocketAddr) -> Address
+        ensures { result ≡ address_of address }
+    {
+        match address {
+            SocketAddr::V4(address) => {
+                let mut octets = [0; 16];
+                octets[..4].copy_from_slice(&address.ip().octets());
+                Address {
+                    octets,
+                    port: address.port(),
+                    length: 4,
+                }
+            }
+            SocketAddr::V6(address) => Address {
+                octets: address.ip().octets(),
+                port: address.port(),
+                length: 16,
+            },
+        }
+    }
+}

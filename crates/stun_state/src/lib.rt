@@ -7,3 +7,4 @@ mod client;
 mod codes;
 mod handle;
 mod server;
+mod text;

@@ -1,0 +1,93 @@
+-- The numbers that callers get and give, as include/stun.h and include/stun_state.h have them.
+use Rattle.std.specs.Prelude.{ℕ, ℤ, pos, neg_ℤ, Option, Some, None, ◌==◌, if◌then◌else◌}
+use Rattle.stun_auth.specs.declared.algorithm_set.AlgorithmSet.{AlgorithmSet}
+use Rattle.stun_auth.specs.declared.algorithm_set.AlgorithmSet.TheVariants.{OnlySha1, OnlySha256, Both}
+use Rattle.stun_auth.specs.declared.client_answer.LongTermClientAuthErrorReason.{LongTermClientAuthErrorReason}
+use Rattle.stun_auth.specs.declared.client_answer.LongTermClientAuthErrorReason.TheVariants as AtClient
+use Rattle.stun_auth.specs.declared.feature.Feature.{Feature}
+use Rattle.stun_auth.specs.declared.feature.Feature.TheVariants.{Auto, Required, Disabled}
+use Rattle.stun_auth.specs.declared.server_reason.LongTermServerAuthErrorReason.{LongTermServerAuthErrorReason}
+use Rattle.stun_auth.specs.declared.server_reason.LongTermServerAuthErrorReason.TheVariants as AtServer
+use Rattle.stun_base.specs.declared.algorithm.IntegrityAlgorithm.{IntegrityAlgorithm}
+use Rattle.stun_base.specs.declared.algorithm.IntegrityAlgorithm.TheVariants.{Sha1, Sha256}
+use Rattle.stun_base.specs.declared.error.StunParseError.{StunParseError}
+use Rattle.stun_base.specs.declared.error.StunParseError.TheVariants as Parse
+use Rattle.stun_base.specs.declared.error.StunWriteError.{StunWriteError}
+use Rattle.stun_base.specs.declared.error.StunWriteError.TheVariants as Write
+use Rattle.stun_state.specs.declared.codes.Refusal.{Refusal}
+use Rattle.stun_state.specs.declared.codes.Refusal.TheVariants.{Truncated, NotStun, TooLarge, IntegrityFailed, BadArgument, NotText, TextTooLong, BufferTooSmall, NotAllowed, Closed, AttributeExists, MessageTooLong, MissingAttribute, MalformedAttribute, OutOfMemory, EmptyHandle, FullHandle, AlreadyInProgress, ProtocolViolation, Unauthorized, BadRequest, StaleNonce, UnsupportedFeature}
+
+-- the number of a refusal
+abbrev pub code_of : Refusal → ℤ
+code_of Truncated = neg_ℤ (pos 1)
+code_of NotStun = neg_ℤ (pos 2)
+code_of TooLarge = neg_ℤ (pos 3)
+code_of IntegrityFailed = neg_ℤ (pos 6)
+code_of BadArgument = neg_ℤ (pos 7)
+code_of NotText = neg_ℤ (pos 8)
+code_of TextTooLong = neg_ℤ (pos 9)
+code_of BufferTooSmall = neg_ℤ (pos 10)
+code_of NotAllowed = neg_ℤ (pos 11)
+code_of Closed = neg_ℤ (pos 12)
+code_of AttributeExists = neg_ℤ (pos 13)
+code_of MessageTooLong = neg_ℤ (pos 14)
+code_of MissingAttribute = neg_ℤ (pos 15)
+code_of MalformedAttribute = neg_ℤ (pos 16)
+code_of OutOfMemory = neg_ℤ (pos 17)
+code_of EmptyHandle = neg_ℤ (pos 18)
+code_of FullHandle = neg_ℤ (pos 19)
+code_of AlreadyInProgress = neg_ℤ (pos 20)
+code_of ProtocolViolation = neg_ℤ (pos 21)
+code_of Unauthorized = neg_ℤ (pos 22)
+code_of BadRequest = neg_ℤ (pos 23)
+code_of StaleNonce = neg_ℤ (pos 24)
+code_of UnsupportedFeature = neg_ℤ (pos 25)
+
+-- the refusal for an error of reading
+abbrev pub refusal_of_parse : StunParseError → Refusal
+refusal_of_parse Parse.Truncated = Truncated
+refusal_of_parse Parse.NotStun = NotStun
+refusal_of_parse Parse.TooLarge = TooLarge
+refusal_of_parse (Parse.MissingAttribute _) = MissingAttribute
+refusal_of_parse Parse.InvalidAttributeData = MalformedAttribute
+
+-- the refusal for an error of writing, where the length of the message was checked before
+abbrev pub refusal_of_write : StunWriteError → Refusal
+refusal_of_write Write.NotAllowed = NotAllowed
+refusal_of_write Write.MessageIntegrityExists = Closed
+refusal_of_write (Write.AttributeExists _) = AttributeExists
+refusal_of_write Write.TooLarge = TextTooLong
+refusal_of_write Write.TooSmall = BufferTooSmall
+refusal_of_write Write.IntegrityFailed = IntegrityFailed
+refusal_of_write Write.OutOfMemory = OutOfMemory
+
+-- the refusal for the reason of a server
+abbrev pub refusal_of_server : LongTermServerAuthErrorReason → Refusal
+refusal_of_server AtServer.Unauthorized = Unauthorized
+refusal_of_server AtServer.IntegrityFailed = IntegrityFailed
+refusal_of_server AtServer.UnsupportedFeature = UnsupportedFeature
+refusal_of_server AtServer.BadRequest = BadRequest
+refusal_of_server AtServer.StaleNonce = StaleNonce
+refusal_of_server AtServer.OutOfMemory = OutOfMemory
+
+-- the refusal for the reason of a client
+abbrev pub refusal_of_client : LongTermClientAuthErrorReason → Refusal
+refusal_of_client AtClient.Unauthorized = Unauthorized
+refusal_of_client AtClient.IntegrityFailed = IntegrityFailed
+refusal_of_client AtClient.UnsupportedFeature = UnsupportedFeature
+refusal_of_client AtClient.OutOfMemory = OutOfMemory
+
+-- the number of an algorithm
+abbrev pub algorithm_number : IntegrityAlgorithm → ℕ
+algorithm_number Sha1 = 1
+algorithm_number Sha256 = 2
+
+-- the algorithms of a number whose bits are theirs
+abbrev pub algorithms_numbered : ℕ → Option AlgorithmSet
+algorithms_numbered number =
+    if number == 1 then Some OnlySha1 else if number == 2 then Some OnlySha256 else if number == 3 then Some Both else None
+
+-- the feature of a number, if it has one
+abbrev pub feature_numbered : ℕ → Option Feature
+feature_numbered number =
+    if number == 0 then Some Auto else if number == 1 then Some Required else if number == 2 then Some Disabled else None

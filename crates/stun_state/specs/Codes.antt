@@ -1,5 +1,5 @@
 -- The numbers that callers get and give, as include/stun.h and include/stun_state.h have them.
-use Rattle.std.specs.Prelude.{ℕ, ℤ, pos, neg_ℤ, Option, Some, None, ◌==◌, if◌then◌else◌}
+use Rattle.std.specs.Prelude.{Bool, ℕ, ℤ, pos, neg_ℤ, Option, Some, None, ◌==◌, if◌then◌else◌}
 use Rattle.stun_auth.specs.declared.algorithm_set.AlgorithmSet.{AlgorithmSet}
 use Rattle.stun_auth.specs.declared.algorithm_set.AlgorithmSet.TheVariants.{OnlySha1, OnlySha256, Both}
 use Rattle.stun_auth.specs.declared.client_answer.LongTermClientAuthErrorReason.{LongTermClientAuthErrorReason}
@@ -51,15 +51,15 @@ refusal_of_parse Parse.TooLarge = TooLarge
 refusal_of_parse (Parse.MissingAttribute _) = MissingAttribute
 refusal_of_parse Parse.InvalidAttributeData = MalformedAttribute
 
--- the refusal for an error of writing, where the length of the message was checked before
-abbrev pub refusal_of_write : StunWriteError → Refusal
-refusal_of_write Write.NotAllowed = NotAllowed
-refusal_of_write Write.MessageIntegrityExists = Closed
-refusal_of_write (Write.AttributeExists _) = AttributeExists
-refusal_of_write Write.TooLarge = TextTooLong
-refusal_of_write Write.TooSmall = BufferTooSmall
-refusal_of_write Write.IntegrityFailed = IntegrityFailed
-refusal_of_write Write.OutOfMemory = OutOfMemory
+-- the refusal for an error of writing: what is too large is the message, where that is too long, and else a text
+abbrev pub refusal_of_write : Bool → StunWriteError → Refusal
+refusal_of_write long Write.NotAllowed = NotAllowed
+refusal_of_write long Write.MessageIntegrityExists = Closed
+refusal_of_write long (Write.AttributeExists _) = AttributeExists
+refusal_of_write long Write.TooLarge = if long then MessageTooLong else TextTooLong
+refusal_of_write long Write.TooSmall = BufferTooSmall
+refusal_of_write long Write.IntegrityFailed = IntegrityFailed
+refusal_of_write long Write.OutOfMemory = OutOfMemory
 
 -- the refusal for the reason of a server
 abbrev pub refusal_of_server : LongTermServerAuthErrorReason → Refusal

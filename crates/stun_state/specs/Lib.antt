@@ -4,3 +4,9 @@
 pub mod Codes
 -- the addresses that callers give and get
 pub mod Addresses
+-- what the calls on authenticators share
+pub mod Answers
+-- what the calls on a server answer and leave
+pub mod Server
+-- what signing makes of a message in a caller's buffer
+pub mod Signing

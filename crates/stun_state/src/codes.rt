@@ -60,6 +60,27 @@ pub enum Refusal {
 }
 
 impl Refusal {
+    /// The refusal for an error of writing. What is too large is the message, where `is_long`, and else a text.
+    pub fn of_write(error: StunWriteError, is_long: bool) -> Refusal
+        ensures { result ≡ refusal_of_write is_long error }
+    {
+        match error {
+            StunWriteError::NotAllowed => Refusal::NotAllowed,
+            StunWriteError::MessageIntegrityExists => Refusal::Closed,
+            StunWriteError::AttributeExists(_) => Refusal::AttributeExists,
+            StunWriteError::TooLarge => {
+                if is_long {
+                    Refusal::MessageTooLong
+                } else {
+                    Refusal::TextTooLong
+                }
+            }
+            StunWriteError::TooSmall => Refusal::BufferTooSmall,
+            StunWriteError::IntegrityFailed => Refusal::IntegrityFailed,
+            StunWriteError::OutOfMemory => Refusal::OutOfMemory,
+        }
+    }
+
     /// The number of the refusal.
     pub fn code(self) -> i64
         ensures { result ≡ code_of self }
@@ -105,26 +126,6 @@ impl From<StunParseError> for Refusal {
             StunParseError::TooLarge => Refusal::TooLarge,
             StunParseError::MissingAttribute(_) => Refusal::MissingAttribute,
             StunParseError::InvalidAttributeData => Refusal::MalformedAttribute,
-        }
-    }
-}
-
-/// Of a message whose length was checked before: what is too large then is a text.
-impl From<StunWriteError> for Refusal {
-    ghost use Rattle.std.specs.Prelude.{◌≡◌};
-    ghost use Rattle.stun_state.specs.Codes.{refusal_of_write};
-
-    ghost from_gives = { λ error refusal. refusal ≡ refusal_of_write error };
-
-    fn from(error: StunWriteError) -> Refusal {
-        match error {
-            StunWriteError::NotAllowed => Refusal::NotAllowed,
-            StunWriteError::MessageIntegrityExists => Refusal::Closed,
-            StunWriteError::AttributeExists(_) => Refusal::AttributeExists,
-            StunWriteError::TooLarge => Refusal::TextTooLong,
-            StunWriteError::TooSmall => Refusal::BufferTooSmall,
-            StunWriteError::IntegrityFailed => Refusal::IntegrityFailed,
-            StunWriteError::OutOfMemory => Refusal::OutOfMemory,
         }
     }
 }

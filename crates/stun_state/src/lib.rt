@@ -7,4 +7,5 @@ mod client;
 mod codes;
 mod handle;
 mod server;
+mod signing;
 mod text;

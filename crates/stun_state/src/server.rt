@@ -1,1 +1,217 @@
-//! What the exports do with a server's authenticator.
+//! What the exports do with a server's authenticator (RFC 8489, section 9.2.4).
+
+ghost use Rattle.std.specs.Prelude.{◌≡◌, ◌≤◌, ⊤, length, max, Some, None, Err, IfOk, IfErr, IfNone, IfSome, OnErr, OnOk, option_and_then, option_copied};
+ghost use Rattle.std.specs.FinMap as map;
+ghost use Rattle.std.specs.declared.net.socket_addr.SocketAddr.{SocketAddr as TheAddress};
+ghost use Rattle.stun_auth.specs.Forgetting.{after_forgetting};
+ghost use Rattle.stun_auth.specs.Reading.{reading_of};
+ghost use Rattle.stun_auth.specs.Registered.{with_user};
+ghost use Rattle.stun_auth.specs.Validation.{ChangesNothing, after_message, answer, new_server, sight};
+ghost use Rattle.stun_state.specs.Addresses.{socket_address};
+ghost use Rattle.stun_state.specs.Answers.{OrMemory, after_address, at_address, done_if_given, text_refusal, texts_refusal};
+ghost use Rattle.stun_state.specs.Codes.{algorithms_numbered, feature_numbered};
+ghost use Rattle.stun_state.specs.Server.{after_validating, client_at, client_told, name_written, validated, validation_answer, with_algorithms, with_expiry, with_feature, without_client, without_named};
+
+use crate::address::Address;
+use crate::codes::{Refusal, feature_numbered};
+use crate::text::{copied, text};
+use std::alloc::Global;
+use std::net::SocketAddr;
+use std::time::Duration;
+use stun_auth::auth::{LongTermServerAuth, LongTermServerValidation};
+use stun_base::algorithm::IntegrityAlgorithm;
+use stun_base::credentials::LongTermCredentials;
+use stun_base::instant::Instant;
+use stun_proto::replay::WordSource;
+use stun_types::message::Message;
+
+/// The shortest time that a nonce lasts, in nanoseconds.
+const SHORTEST_EXPIRY: u64 = 30_000_000_000;
+
+/// Who was validated at an address: how long the user's name is, and the algorithm of the key.
+#[derive(Debug, Clone, Copy, PartialEq, Eq)]
+pub struct Validated {
+    /// How many bytes the name has.
+    pub name_length: usize,
+    /// The algorithm that both sides agreed on.
+    pub algorithm: IntegrityAlgorithm,
+}
+
+/// A server of a realm, without users.
+pub fn new(alloc: Global, realm: &[u8]) -> Result<LongTermServerAuth<Global>, Refusal>
+    ensures ok { IfOk result (λ server. server ≡ new_server realm.now) }
+    ensures accepted { OnOk result (text_refusal realm.now ≡ None) }
+    ensures err { IfErr result (λ refusal. OrMemory result (text_refusal realm.now ≡ Some refusal) (text_refusal realm.now ≡ None)) }
+{
+    let realm = copied(alloc, text(realm)?)?;
+    Ok(LongTermServerAuth::new(alloc, realm))
+}
+
+/// Which algorithms the server supports: 1 is HMAC-SHA1, 2 HMAC-SHA256, 3 both.
+pub fn set_algorithms(
+    server: &mut LongTermServerAuth<Global>,
+    algorithms: u32,
+) -> Result<(), Refusal>
+    ensures answer { result ≡ done_if_given (algorithms_numbered algorithms) }
+    ensures state { server.new ≡ with_algorithms (algorithms_numbered algorithms) server.old }
+{
+    match algorithms {
+        1 => server.set_supported_integrity(IntegrityAlgorithm::Sha1),
+        2 => server.set_supported_integrity(IntegrityAlgorithm::Sha256),
+        3 => {
+            server.set_supported_integrity(IntegrityAlgorithm::Sha256);
+            server.add_supported_integrity(IntegrityAlgorithm::Sha1);
+        }
+        _ => return Err(Refusal::BadArgument),
+    }
+    Ok(())
+}
+
+/// Whether users may be named by a hash: 0 and 1 where the client wants it, 2 never.
+pub fn set_anonymous_username(
+    server: &mut LongTermServerAuth<Global>,
+    feature: u32,
+) -> Result<(), Refusal>
+    ensures answer { result ≡ done_if_given (feature_numbered feature) }
+    ensures state { server.new ≡ with_feature (feature_numbered feature) server.old }
+{
+    let feature = feature_numbered(feature)?;
+    server.set_anonymous_username(feature)?;
+    Ok(())
+}
+
+/// How long a nonce lasts, in nanoseconds, 30 seconds at the least.
+pub fn set_nonce_expiry(server: &mut LongTermServerAuth<Global>, nanoseconds: u64)
+    ensures { server.new ≡ with_expiry nanoseconds server.old }
+{
+    let expiry = nanoseconds.max(SHORTEST_EXPIRY);
+    server.set_nonce_expiry_duration(Duration::from_nanos(expiry));
+}
+
+/// Registers a user, in the place of one of the same name.
+pub fn add_user(
+    alloc: Global,
+    server: &mut LongTermServerAuth<Global>,
+    name: &[u8],
+    password: &[u8],
+) -> Result<(), Refusal>
+    ensures ok { OnOk result (server.new ≡ record server.old {
+      registered = with_user server.old.registered (record { username = name.now; password = password.now });
+    }) }
+    ensures accepted { OnOk result (texts_refusal name.now password.now ≡ None) }
+    ensures err { IfErr result (λ refusal. OrMemory result (texts_refusal name.now password.now ≡ Some refusal)
+        (texts_refusal name.now password.now ≡ None)) }
+    ensures refused { OnErr result (server.new ≡ server.old) }
+{
+    let name = text(name)?;
+    let password = text(password)?;
+    let credentials = LongTermCredentials::new(copied(alloc, name)?, copied(alloc, password)?);
+    server.add_user(credentials)?;
+    Ok(())
+}
+
+/// Removes a user.
+pub fn remove_user(server: &mut LongTermServerAuth<Global>, name: &[u8]) -> Result<(), Refusal>
+    ensures ok { OnOk result (text_refusal name.now ≡ None) }
+    ensures err { IfErr result (λ refusal. text_refusal name.now ≡ Some refusal) }
+    ensures state { server.new ≡ without_named (text_refusal name.now) server.old name.now }
+{
+    server.remove_user(text(name)?);
+    Ok(())
+}
+
+/// Forgets who was validated at an address.
+pub fn remove_client(server: &mut LongTermServerAuth<Global>, at: &Address) -> Result<(), Refusal>
+    ensures answer { result ≡ done_if_given (socket_address at.now) }
+    ensures state { server.new ≡ after_address (socket_address at.now) server.old (without_client server.old) }
+{
+    server.remove_client(at.socket()?);
+    Ok(())
+}
+
+/// Forgets each address without a client whose nonce expired before a moment.
+pub fn forget_expired(server: &mut LongTermServerAuth<Global>, now: u64)
+    ensures { server.new ≡ after_forgetting server.old now }
+{
+    server.forget_expired(Instant::from_nanos(now));
+}
+
+/// Who was validated at an address, and the user's name at the front of the buffer.
+pub fn client(
+    server: &LongTermServerAuth<Global>,
+    at: &Address,
+    name: &mut [u8],
+) -> Result<Option<Validated>, Refusal>
+    ensures answer { result ≡ at_address (socket_address at.now) (λ a. client_told (length name.old) (client_at server.now a)) }
+    ensures written { name.new ≡ after_address (socket_address at.now) name.old (λ a. name_written name.old (client_at server.now a)) }
+{
+    let address = at.socket()?;
+    let Some((client, algorithm)) = server.client(address) else {
+        return Ok(None);
+    };
+    let client = client.as_bytes();
+    if name.len() < client.len() {
+        return Err(Refusal::BufferTooSmall);
+    }
+    name[..client.len()].copy_from_slice(client);
+    Ok(Some(Validated {
+        name_length: client.len(),
+        algorithm,
+    }))
+}
+
+/// Who signed a message that came from an address. A refusal may make a nonce for the address.
+pub fn validate(
+    server: &mut LongTermServerAuth<Global>,
+    message: &[u8],
+    from: &Address,
+    now: u64,
+    words: &[u32; 16],
+) -> Result<IntegrityAlgorithm, Refusal>
+    ensures answer { OrMemory result
+        (result ≡ at_address (socket_address from.now) (validated server.old message.now now words.now)) ⊤ }
+    ensures state { OrMemory result
+        (server.new ≡ after_address (socket_address from.now) server.old (after_validating server.old message.now now words.now))
+        (server.new ≡ server.old) }
+
+    // Where the message changes nothing, nothing is allocated.
+    ensures unchanged { IfSome (socket_address from.now) (λ from.
+        ChangesNothing (sight server.old from) now words.now (reading_of message.now) →
+        result ≡ validated server.old message.now now words.now from) }
+    ensures no_address { IfNone (socket_address from.now) (result ≡ Err Refusal.BadArgument) }
+{
+    let from = from.socket()?;
+    let message = Message::from_bytes(message)?;
+    validate_message(server, &message, from, Instant::from_nanos(now), *words)
+}
+
+/// Who signed a message.
+fn validate_message(
+    server: &mut LongTermServerAuth<Global>,
+    message: &Message<'_>,
+    from: SocketAddr,
+    now: Instant,
+    words: [u32; 16],
+) -> Result<IntegrityAlgorithm, Refusal>
+    ensures answer { OrMemory result
+        (result ≡ validation_answer (answer (sight server.old from) now words (reading_of message.now))) ⊤ }
+    ensures state { OrMemory result
+        (server.new ≡ after_message server.old from now words (reading_of message.now)) (server.new ≡ server.old) }
+    ensures unchanged { ChangesNothing (sight server.old from) now words (reading_of message.now) →
+        result ≡ validation_answer (answer (sight server.old from) now words (reading_of message.now)) }
+{
+    let mut source = WordSource::new(words);
+    match server.validate_incoming_message(message, from, now, &mut source) {
+        Ok(validation) => Ok(algorithm_of(validation)),
+        Err(error) => Err(Refusal::from(error.reason())),
+    }
+}
+
+/// The algorithm with which a message is accepted.
+fn algorithm_of(validation: LongTermServerValidation) -> IntegrityAlgorithm
+    ensures { LongTermServerValidation.Validated result ≡ validation }
+{
+    match validation {
+        LongTermServerValidation::Validated(algorithm) => algorithm,
+    }
+}

@@ -1,0 +1,76 @@
+-- What the calls on authenticators share: where an allocation may fail, an address that may be none, and texts.
+use Rattle.std.specs.Prelude.{ℕ, List, ◌&&◌, if◌then◌else◌, Option, Some, None, Result, Ok, Err}
+use Rattle.std.specs.Str.{is_utf8}
+use Rattle.std.specs.declared.net.socket_addr.SocketAddr.{SocketAddr}
+use Rattle.stun_base.specs.declared.error.StunParseError.{StunParseError}
+use Rattle.stun_state.specs.Codes.{refusal_of_parse}
+use Rattle.stun_state.specs.declared.codes.Refusal.{Refusal}
+use Rattle.stun_state.specs.declared.codes.Refusal.TheVariants.{Truncated, NotStun, TooLarge, IntegrityFailed, BadArgument, NotText, TextTooLong, BufferTooSmall, NotAllowed, Closed, AttributeExists, MessageTooLong, MissingAttribute, MalformedAttribute, OutOfMemory, EmptyHandle, FullHandle, AlreadyInProgress, ProtocolViolation, Unauthorized, BadRequest, StaleNonce, UnsupportedFeature}
+
+-- the first fact holds, or the second where the refusal is that an allocation failed
+abbrev pub ForRefusal : Refusal → Type 0 → Type 0 → Type 0
+ForRefusal Truncated P Q = P
+ForRefusal NotStun P Q = P
+ForRefusal TooLarge P Q = P
+ForRefusal IntegrityFailed P Q = P
+ForRefusal BadArgument P Q = P
+ForRefusal NotText P Q = P
+ForRefusal TextTooLong P Q = P
+ForRefusal BufferTooSmall P Q = P
+ForRefusal NotAllowed P Q = P
+ForRefusal Closed P Q = P
+ForRefusal AttributeExists P Q = P
+ForRefusal MessageTooLong P Q = P
+ForRefusal MissingAttribute P Q = P
+ForRefusal MalformedAttribute P Q = P
+ForRefusal OutOfMemory P Q = Q
+ForRefusal EmptyHandle P Q = P
+ForRefusal FullHandle P Q = P
+ForRefusal AlreadyInProgress P Q = P
+ForRefusal ProtocolViolation P Q = P
+ForRefusal Unauthorized P Q = P
+ForRefusal BadRequest P Q = P
+ForRefusal StaleNonce P Q = P
+ForRefusal UnsupportedFeature P Q = P
+
+-- the first fact holds, or the second where an allocation failed
+abbrev pub OrMemory : {V : Type 0} → Result V Refusal → Type 0 → Type 0 → Type 0
+OrMemory (Ok value) P Q = P
+OrMemory (Err refusal) P Q = ForRefusal refusal P Q
+
+-- an answer, unless something refuses
+abbrev pub unless_refused : {V : Type 0} → Option Refusal → Result V Refusal → Result V Refusal
+unless_refused None answer = answer
+unless_refused (Some refusal) answer = Err refusal
+
+-- what is left, unless something refused
+abbrev pub kept_if_refused : {V : Type 0} → Option Refusal → V → V → V
+kept_if_refused None before after = after
+kept_if_refused (Some refusal) before after = before
+
+-- an answer about an address, unless what was given is none
+abbrev pub at_address : {V : Type 0} → Option SocketAddr → (SocketAddr → Result V Refusal) → Result V Refusal
+at_address None answer = Err BadArgument
+at_address (Some address) answer = answer address
+
+-- what is left at an address; where none was given, what was there before
+abbrev pub after_address : {V : Type 0} → Option SocketAddr → V → (SocketAddr → V) → V
+after_address None before after = before
+after_address (Some address) before after = after address
+
+-- an answer of nothing, where what was given is something
+abbrev pub done_if_given : {V : Type 0} → Option V → Result (Unit {0}) Refusal
+done_if_given None = Err BadArgument
+done_if_given (Some value) = Ok tt
+
+-- why bytes are no message
+abbrev pub message_refusal : Option StunParseError → Option Refusal
+message_refusal None = None
+message_refusal (Some error) = Some (refusal_of_parse error)
+
+-- why a text is refused, and why two are
+abbrev pub text_refusal : List ℕ → Option Refusal
+text_refusal text = if is_utf8 text then None else Some NotText
+
+abbrev pub texts_refusal : List ℕ → List ℕ → Option Refusal
+texts_refusal name password = if is_utf8 name && is_utf8 password then None else Some NotText

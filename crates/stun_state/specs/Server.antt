@@ -1,0 +1,72 @@
+-- What the calls on a server answer and leave, by the definitions of its authenticator (RFC 8489, section 9.2.4).
+use Rattle.std.specs.Prelude.{ℕ, List, ◌++◌, length, drop, max, nat_lt, if◌then◌else◌, Option, Some, None, Result, Ok, Err, option_and_then}
+use Rattle.std.specs.FinMap as map
+use Rattle.std.specs.declared.net.socket_addr.SocketAddr.{SocketAddr}
+use Rattle.stun_base.specs.declared.algorithm.IntegrityAlgorithm.{IntegrityAlgorithm}
+use Rattle.stun_types.specs.Message.{refusal}
+use Rattle.stun_auth.specs.declared.algorithm_set.AlgorithmSet.{AlgorithmSet}
+use Rattle.stun_auth.specs.declared.feature.Feature.{Feature}
+use Rattle.stun_auth.specs.declared.server_reason.LongTermServerValidation.TheVariants.{Validated}
+use Rattle.stun_auth.specs.Places.{with_change, with_client}
+use Rattle.stun_auth.specs.Reading.{reading_of}
+use Rattle.stun_auth.specs.Registered.{without_user}
+use Rattle.stun_auth.specs.Seen.{ClientSeen, PlaceSeen}
+use Rattle.stun_auth.specs.Validation.{Answer, ServerSeen, after_message, answer, sight}
+use Rattle.stun_state.specs.Answers.{kept_if_refused, message_refusal, unless_refused}
+use Rattle.stun_state.specs.Codes.{refusal_of_server}
+use Rattle.stun_state.specs.declared.codes.Refusal.{Refusal}
+use Rattle.stun_state.specs.declared.codes.Refusal.TheVariants.{BufferTooSmall}
+use Rattle.stun_state.specs.declared.server.Validated.{Validated as Known}
+
+-- ---- settings
+
+abbrev pub with_algorithms : Option AlgorithmSet → ServerSeen → ServerSeen
+with_algorithms None s = s
+with_algorithms (Some set) s = record s { registered = record s.registered { algorithms = set } }
+
+abbrev pub with_feature : Option Feature → ServerSeen → ServerSeen
+with_feature None s = s
+with_feature (Some feature) s = record s { feature = feature }
+
+-- nonces last this long, and 30 seconds at the least
+abbrev pub with_expiry : ℕ → ServerSeen → ServerSeen
+with_expiry nanoseconds s = record s { expiry = max nanoseconds 30000000000 }
+
+abbrev pub without_named : Option Refusal → ServerSeen → List ℕ → ServerSeen
+without_named refusal s name = kept_if_refused refusal s (record s { registered = without_user s.registered name })
+
+abbrev pub without_client : ServerSeen → SocketAddr → ServerSeen
+without_client s address = record s { places = with_change s.places address (with_client None) }
+
+-- ---- messages
+
+abbrev pub validation_answer : Answer → Result IntegrityAlgorithm Refusal
+validation_answer (Ok (Validated algorithm)) = Ok algorithm
+validation_answer (Err reason) = Err (refusal_of_server reason)
+
+-- what is answered to bytes that came from an address
+abbrev pub validated : ServerSeen → List ℕ → ℕ → List ℕ → SocketAddr → Result IntegrityAlgorithm Refusal
+validated s bytes now words from =
+    unless_refused (message_refusal (refusal bytes)) (validation_answer (answer (sight s from) now words (reading_of bytes)))
+
+-- the server that they leave
+abbrev pub after_validating : ServerSeen → List ℕ → ℕ → List ℕ → SocketAddr → ServerSeen
+after_validating s bytes now words from =
+    kept_if_refused (message_refusal (refusal bytes)) s (after_message s from now words (reading_of bytes))
+
+-- ---- who was validated
+
+abbrev pub client_at : ServerSeen → SocketAddr → Option ClientSeen
+client_at s address = option_and_then (λ (p : PlaceSeen). p.client) (map.get s.places address)
+
+-- who is told, where a buffer of so many bytes has room for the name
+abbrev pub client_told : ℕ → Option ClientSeen → Result (Option Known) Refusal
+client_told room None = Ok None
+client_told room (Some c) =
+    if nat_lt room (length c.name) then Err BufferTooSmall
+    else Ok (Some (record { name_length = length c.name; algorithm = c.algorithm }))
+
+-- the buffer with the name at its front
+abbrev pub name_written : List ℕ → Option ClientSeen → List ℕ
+name_written buffer None = buffer
+name_written buffer (Some c) = if nat_lt (length buffer) (length c.name) then buffer else c.name ++ drop (length c.name) buffer

@@ -1,0 +1,82 @@
+//! A message in a caller's buffer that is to be signed.
+
+ghost use Rattle.std.specs.Prelude.{◌≡◌, ◌≤◌, ◌++◌, ◌+◌, ◌-◌, ◌^◌, ◌<◌, length, take, drop, find, min, None, Some, IfErr, IfOk, OnOk, is_some};
+ghost use Rattle.stun_types.specs.Message.{IsMessage};
+ghost use Rattle.stun_types.specs.Visible.{visible};
+ghost use Rattle.stun_types.specs.Writing.{is_set_apart};
+ghost use Rattle.stun_state.specs.Signing.{base_refusal, is_closed, is_too_long};
+
+use crate::codes::Refusal;
+use std::alloc::{AllocError, Global};
+use stun_base::attribute_type::AttributeType;
+use stun_base::header::HEADER_LENGTH;
+use stun_types::limits::MAX_LENGTH;
+use stun_types::message::{Message, MessageWriteVec};
+use stun_types::prelude::*;
+
+/// Whether attributes of this type end a message: the two of integrity, and FINGERPRINT.
+fn is_set_apart(kind: AttributeType) -> bool
+    ensures { result ≡ is_set_apart kind.0 }
+{
+    kind == AttributeType::MESSAGE_INTEGRITY
+        || kind == AttributeType::MESSAGE_INTEGRITY_SHA256
+        || kind == AttributeType::FINGERPRINT
+}
+
+/// Whether the message has an attribute after which no other may be added.
+fn is_closed(message: &Message<'_>) -> bool
+    ensures { result ≡ is_closed message.now }
+{
+    message
+        .iter_attributes()
+        .find(|found| is_set_apart(found.1.get_type()))
+        .is_some()
+}
+
+/// The message at the front of the buffer, where an attribute may be added to it.
+pub fn base_message(buffer: &[u8], count: usize) -> Result<Message<'_>, Refusal>
+    ensures ok { IfOk result (λ message. message ≡ take count buffer.now) }
+    ensures accepted { OnOk result (base_refusal buffer.now count ≡ None) }
+    ensures err { IfErr result (λ refusal. base_refusal buffer.now count ≡ Some refusal) }
+{
+    let Some(bytes) = buffer.get(..count) else {
+        return Err(Refusal::BadArgument);
+    };
+    let message = Message::from_bytes(bytes)?;
+    if is_closed(&message) {
+        return Err(Refusal::Closed);
+    }
+    Ok(message)
+}
+
+/// Whether a message that grows by so many bytes is longer than the length field can tell.
+pub fn is_too_long(message: &Message<'_>, more: usize) -> bool
+    ensures { result ≡ is_too_long message.now more }
+{
+    let data_length = message.as_bytes().len() - HEADER_LENGTH;
+    data_length.saturating_add(more) > MAX_LENGTH
+}
+
+/// The message in a writer, to which attributes can be added.
+pub fn writer_of(
+    alloc: Global,
+    message: &Message<'_>,
+) -> Result<MessageWriteVec<Global>, AllocError>
+    ensures message { IfOk result (λ writer. writer.bytes ≡ message.now) }
+{
+    let bytes = message.as_bytes();
+    let mut writer = MessageWriteVec::new(alloc);
+    if writer.reserve(bytes.len()).is_err() {
+        return Err(AllocError);
+    }
+    writer.append(bytes);
+    Ok(writer)
+}
+
+/// Copies bytes to the front of a buffer that has room for them.
+pub fn put(buffer: &mut [u8], bytes: &[u8])
+    requires { length bytes.now ≤ length buffer.old }
+    ensures { buffer.new ≡ bytes.now ++ drop (length bytes.now) buffer.old }
+{
+    buffer[..bytes.len()].copy_from_slice(bytes);
+}

@@ -1,2 +1,5 @@
+pub mod AsBox
 mod Reasons
+pub mod Steps
 mod Texts
+pub mod Words

@@ -1,5 +1,7 @@
 -- What the contracts of this crate say, in the order to read it.
 
+-- what a handle owns
+pub mod Handle
 -- the numbers that callers get and give
 pub mod Codes
 -- the addresses that callers give and get

@@ -1,5 +1,10 @@
 -- What a handle is to the machine, and how what it owns goes in and comes out. Assumes `Logic`.
-use Rattle.stun_state.proofs.Steps.{◌≡◌, ℕ, List, [], ◌∷◌, ◌++◌, refl, ◌∙◌, never, id⊢, fst∗, via, never_e, ftrue, bare, Val, vbool, vstruct, vcons, vnil, of_list, Logic, sem, Item, Goal, Seq, Step, step, ‵, given, ◌$◌, drop, use1, learn, fsplit, fjoin, fpick, fpack, feq_i, feq_l, bool, no, lone, RattleType, Valss, Ptr, RawPtr, block_ptr, null_ptr, ptr_val, in_a_block, nothing, within, shape, Bool, true, false, Option, Some, None}
+use Rattle.stun_state.proofs.Steps.{◌≡◌, ℕ, List, [], ◌∷◌, ◌++◌, refl, ◌∙◌, never, id⊢, fst∗, via, never_e, ftrue, bare, Val, vbool, vstruct, vcons, vnil, of_list, Logic, sem, Item, Goal, Seq, Step, step, ‵, given, ◌$◌, drop, use1, learn, fsplit, fjoin, fpick, fpack, feq_i, feq_l, bool, no, lone, RattleType, Valss, Ptr, RawPtr, block_ptr, null_ptr, ptr_val, in_a_block, nothing, within, shape, Ptr-Good, Bool, true, false, Option, Some, None}
+use lib.Dec.{T as IsTrue}
+use mir.Syntax.{ty_bool, ty_ptr}
+use mir.Val.{has_ty, WT}
+use mathlib.Core.Bool.{◌&&◌}
+use Rattle.std_alloc.proofs.ResultValues.{and_tt}
 use seplogic.Ra.Ura.{Ura}
 use Rattle.std_alloc.specs.Box.Ownership.{box_owns}
 use Rattle.std_heap.specs.declared.Global.{Global}
@@ -10,6 +15,10 @@ use Rattle.stun_state.specs.contracts.handle.Loose as loose
 -- the flag and the pointer, side by side
 abbrev pub word : Bool → Ptr → Val
 word full p = vstruct (vcons (vbool full) (vcons (ptr_val p) vnil))
+
+-- and they are of their types
+pub word_good : (full : Bool) (p : Ptr) → IsTrue (has_ty ty_bool (vbool full) && (has_ty ty_ptr (ptr_val p) && true)) × WT (word full p)
+word_good full p = let at = Ptr-Good p in (and_tt _ at.0, (tt, (at.1, tt)))
 
 module _ (R : RattleType) {M : Type 1} {𝓤 : Ura M} {𝓛 : Logic 𝓤} {K : Type 0} {Γ : List (Item 𝓤)} {G : Goal 𝓤 𝓛.H} where
   -- a handle is its word and what it owns

@@ -5,7 +5,10 @@ ghost use Rattle.std.specs.Prelude.{◌≡◌, Some, None, Option, IfSome, IfNon
 ghost use Rattle.std.specs.Coded.{coded_option};
 ghost use Rattle.stun_state.specs.Handle.{handle_owns};
 
+pub mod agent;
+pub mod client;
 mod parts;
+pub mod server;
 
 use parts::Parts;
 use std::alloc::Global;
@@ -69,5 +72,14 @@ impl<T> Loose<T> {
             Some(parts) => Some(parts.into_box()),
             None => None,
         }
+    }
+
+    /// Lets go of no box.
+    pub fn discard(self, alloc: Global)
+    where
+        T: Drop,
+        requires { self.state ≡ None }
+    {
+        let _none = self.into_box(alloc);
     }
 }

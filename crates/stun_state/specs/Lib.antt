@@ -12,3 +12,5 @@ pub mod Answers
 pub mod Server
 -- what signing makes of a message in a caller's buffer
 pub mod Signing
+-- what the calls on a client answer and leave
+pub mod Client

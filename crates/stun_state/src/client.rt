@@ -1,1 +1,147 @@
-//! What the exports do with a client's authenticator.
+//! What the exports do with a client's authenticator (RFC 8489, sections 9.2.3 and 9.2.5).
+
+ghost use Rattle.std.specs.Prelude.{◌≡◌, ◌≤◌, ⊤, ◌<◌, ◌+◌, ◌-◌, ◌^◌, min, length, take, None, Some, Ok, Err, IfErr, IfOk, OnErr, OnOk};
+ghost use Rattle.stun_types.specs.Message.{refusal};
+ghost use Rattle.stun_auth.specs.Client.{new_client};
+ghost use Rattle.stun_auth.specs.ClientStep.{IsResend};
+ghost use Rattle.stun_state.specs.Answers.{ForRefusal, OrMemory, done_if_given, texts_refusal};
+ghost use Rattle.stun_state.specs.Client.{after_validating, step, validated, validation_answer, with_algorithms, with_credentials, with_feature};
+ghost use Rattle.stun_state.specs.Codes.{algorithms_numbered, feature_numbered};
+ghost use Rattle.stun_state.specs.Signing.{buffer_after, client_signs, length_of, signed_by_client};
+
+use crate::codes::{Refusal, feature_numbered};
+use crate::signing::{base_message, fill, is_too_long, writer_of};
+use crate::text::{copied, text};
+use std::alloc::Global;
+use stun_auth::auth::{LongTermClientAuth, LongTermClientValidation};
+use stun_base::algorithm::IntegrityAlgorithm;
+use stun_base::credentials::LongTermCredentials;
+use stun_types::message::Message;
+use stun_types::prelude::*;
+
+/// A client without credentials.
+pub fn new(alloc: Global) -> LongTermClientAuth<Global>
+    ensures { result ≡ new_client }
+{
+    LongTermClientAuth::new(alloc)
+}
+
+/// Whose name and password are used.
+pub fn set_credentials(
+    alloc: Global,
+    client: &mut LongTermClientAuth<Global>,
+    name: &[u8],
+    password: &[u8],
+) -> Result<(), Refusal>
+    ensures ok { OnOk result (client.new ≡ with_credentials name.now password.now client.old) }
+    ensures accepted { OnOk result (texts_refusal name.now password.now ≡ None) }
+    ensures err { IfErr result (λ refusal. OrMemory result (texts_refusal name.now password.now ≡ Some refusal)
+        (texts_refusal name.now password.now ≡ None)) }
+    ensures refused { OnErr result (client.new ≡ client.old) }
+{
+    let name = text(name)?;
+    let password = text(password)?;
+    let credentials = LongTermCredentials::new(copied(alloc, name)?, copied(alloc, password)?);
+    client.set_credentials(credentials);
+    Ok(())
+}
+
+/// Which algorithms the client supports: 1 is HMAC-SHA1, 2 HMAC-SHA256, 3 both.
+pub fn set_algorithms(
+    client: &mut LongTermClientAuth<Global>,
+    algorithms: u32,
+) -> Result<(), Refusal>
+    ensures answer { result ≡ done_if_given (algorithms_numbered algorithms) }
+    ensures state { client.new ≡ with_algorithms (algorithms_numbered algorithms) client.old }
+{
+    match algorithms {
+        1 => client.set_supported_integrity(IntegrityAlgorithm::Sha1),
+        2 => client.set_supported_integrity(IntegrityAlgorithm::Sha256),
+        3 => {
+            client.set_supported_integrity(IntegrityAlgorithm::Sha256);
+            client.add_supported_integrity(IntegrityAlgorithm::Sha1);
+        }
+        _ => return Err(Refusal::BadArgument),
+    }
+    Ok(())
+}
+
+/// Whether the user's name is sent as its hash: 0 where the server can read that, 1 always, 2 never.
+pub fn set_anonymous_username(
+    client: &mut LongTermClientAuth<Global>,
+    feature: u32,
+) -> Result<(), Refusal>
+    ensures answer { result ≡ done_if_given (feature_numbered feature) }
+    ensures state { client.new ≡ with_feature (feature_numbered feature) client.old }
+{
+    client.set_anonymous_username(feature_numbered(feature)?);
+    Ok(())
+}
+
+/// Signs the message in the first `length` bytes of a buffer. A refusal leaves the buffer.
+pub fn sign(
+    alloc: Global,
+    client: &mut LongTermClientAuth<Global>,
+    buffer: &mut [u8],
+    length: usize,
+) -> Result<usize, Refusal>
+    ensures answer { OrMemory result (result ≡ length_of (signed_by_client client.old.state buffer.old length)) ⊤ }
+    ensures written { OrMemory result
+        (buffer.new ≡ buffer_after (signed_by_client client.old.state buffer.old length) buffer.old)
+        (buffer.new ≡ buffer.old) }
+    ensures state { client.new ≡ client.old }
+    ensures refused { OnErr result (buffer.new ≡ buffer.old) }
+{
+    let message = base_message(buffer, length)?;
+    let signed = sign_message(alloc, client, &message)?;
+    fill(buffer, signed.as_slice())
+}
+
+/// Signs a message.
+fn sign_message(
+    alloc: Global,
+    client: &mut LongTermClientAuth<Global>,
+    message: &Message<'_>,
+) -> Result<Vec<u8, Global>, Refusal>
+    ensures ok { IfOk result (λ signed. client_signs client.old.state message.now ≡ Ok signed.items) }
+    ensures err { IfErr result (λ refusal. ForRefusal refusal (client_signs client.old.state message.now ≡ Err refusal) ⊤) }
+    ensures state { client.new ≡ client.old }
+{
+    let is_long = is_too_long(message, client.message_signature_bytes());
+    let writer = writer_of(alloc, message)?;
+    match client.sign_outgoing_message(writer) {
+        Ok(signed) => Ok(signed.finish()),
+        Err(error) => Err(Refusal::of_write(error, is_long)),
+    }
+}
+
+/// What a response says.
+pub fn validate(
+    client: &mut LongTermClientAuth<Global>,
+    message: &[u8],
+) -> Result<LongTermClientValidation, Refusal>
+    ensures answer { OrMemory result (result ≡ validated client.old message.now)
+        ((refusal message.now ≡ None) × IsResend (step client.old message.now).answer) }
+    ensures state { OrMemory result (client.new ≡ after_validating client.old message.now) (client.new ≡ client.old) }
+    ensures refused { OnErr result (client.new ≡ client.old) }
+{
+    let message = Message::from_bytes(message)?;
+    validate_message(client, &message)
+}
+
+/// What a message says.
+fn validate_message(
+    client: &mut LongTermClientAuth<Global>,
+    message: &Message<'_>,
+) -> Result<LongTermClientValidation, Refusal>
+    ensures answer { OrMemory result (result ≡ validation_answer (step client.old message.now).answer)
+        (IsResend (step client.old message.now).answer) }
+    ensures state { OrMemory result (client.new ≡ record client.old { state = (step client.old message.now).state })
+        (client.new ≡ client.old) }
+    ensures refused { OnErr result (client.new ≡ client.old) }
+{
+    match client.validate_incoming_message(message) {
+        Ok(validation) => Ok(validation),
+        Err(error) => Err(Refusal::from(error.reason())),
+    }
+}

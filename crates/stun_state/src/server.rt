@@ -1,19 +1,22 @@
 //! What the exports do with a server's authenticator (RFC 8489, section 9.2.4).
 
-ghost use Rattle.std.specs.Prelude.{◌≡◌, ◌≤◌, ⊤, length, max, Some, None, Err, IfOk, IfErr, IfNone, IfSome, OnErr, OnOk, option_and_then, option_copied};
+ghost use Rattle.std.specs.Prelude.{◌≡◌, ◌≤◌, ◌<◌, ◌+◌, ◌-◌, ◌^◌, ⊤, nat_lt, true, false, length, take, max, min, Some, None, Ok, Err, IfOk, IfErr, IfNone, IfSome, OnErr, OnOk, option_and_then, option_copied};
 ghost use Rattle.std.specs.FinMap as map;
 ghost use Rattle.std.specs.declared.net.socket_addr.SocketAddr.{SocketAddr as TheAddress};
 ghost use Rattle.stun_auth.specs.Forgetting.{after_forgetting};
-ghost use Rattle.stun_auth.specs.Reading.{reading_of};
+ghost use Rattle.stun_auth.specs.Reading.{class_in, is_response, reading_of};
 ghost use Rattle.stun_auth.specs.Registered.{with_user};
+ghost use Rattle.stun_auth.specs.ServerSigning.{after_signing, server_growth};
 ghost use Rattle.stun_auth.specs.Validation.{ChangesNothing, after_message, answer, new_server, sight};
 ghost use Rattle.stun_state.specs.Addresses.{socket_address};
-ghost use Rattle.stun_state.specs.Answers.{OrMemory, after_address, at_address, done_if_given, text_refusal, texts_refusal};
+ghost use Rattle.stun_state.specs.Answers.{ForRefusal, OrMemory, after_address, at_address, done_if_given, text_refusal, texts_refusal};
 ghost use Rattle.stun_state.specs.Codes.{algorithms_numbered, feature_numbered};
+ghost use Rattle.stun_state.specs.Signing.{buffer_after, is_too_long, length_of, server_signs, signed_by_server};
 ghost use Rattle.stun_state.specs.Server.{after_validating, client_at, client_told, name_written, validated, validation_answer, with_algorithms, with_expiry, with_feature, without_client, without_named};
 
 use crate::address::Address;
 use crate::codes::{Refusal, feature_numbered};
+use crate::signing::{base_message, is_response, is_too_long, put, writer_of};
 use crate::text::{copied, text};
 use std::alloc::Global;
 use std::net::SocketAddr;
@@ -24,6 +27,7 @@ use stun_base::credentials::LongTermCredentials;
 use stun_base::instant::Instant;
 use stun_proto::replay::WordSource;
 use stun_types::message::Message;
+use stun_types::prelude::*;
 
 /// The shortest time that a nonce lasts, in nanoseconds.
 const SHORTEST_EXPIRY: u64 = 30_000_000_000;
@@ -158,6 +162,75 @@ pub fn client(
         name_length: client.len(),
         algorithm,
     }))
+}
+
+/// Signs the message in the first `length` bytes of a buffer, which goes to an address. A refusal leaves the buffer.
+pub fn sign(
+    alloc: Global,
+    server: &mut LongTermServerAuth<Global>,
+    buffer: &mut [u8],
+    length: usize,
+    to: &Address,
+) -> Result<usize, Refusal>
+    ensures answer { OrMemory result
+        (result ≡ length_of (at_address (socket_address to.now) (signed_by_server server.old buffer.old length))) ⊤ }
+    ensures written { OrMemory result
+        (buffer.new ≡ buffer_after (at_address (socket_address to.now) (signed_by_server server.old buffer.old length)) buffer.old)
+        (buffer.new ≡ buffer.old) }
+    ensures state { OnOk result (server.new ≡ after_address (socket_address to.now) server.old
+        (λ to. after_signing server.old to (is_response (class_in (take length buffer.old))))) }
+    ensures refused { OnErr result ((server.new ≡ server.old) × (buffer.new ≡ buffer.old)) }
+{
+    let to = to.socket()?;
+    let message = base_message(buffer, length)?;
+    let signed = sign_message(alloc, server, &message, buffer.len(), to)?;
+    put(buffer, signed.as_slice());
+    Ok(signed.len())
+}
+
+/// Whether a message to an address is too long once it is signed, where a buffer of `room` bytes has room for it then.
+fn measure(
+    server: &LongTermServerAuth<Global>,
+    message: &Message<'_>,
+    room: usize,
+    to: SocketAddr,
+) -> Result<bool, Refusal>
+    requires { room < 2 ^ 63 }
+    ensures fits { let more = server_growth (sight server.now to) (is_response (class_in message.now)) in
+        OnOk result (nat_lt room (length message.now + more) ≡ false) }
+    ensures long { let more = server_growth (sight server.now to) (is_response (class_in message.now)) in
+        IfOk result (λ long. long ≡ is_too_long message.now more) }
+    ensures err { let more = server_growth (sight server.now to) (is_response (class_in message.now)) in
+        IfErr result (λ refusal. (refusal ≡ Refusal.BufferTooSmall) × (nat_lt room (length message.now + more) ≡ true)) }
+{
+    let more = server.message_signature_bytes(to, !is_response(message));
+    if room < message.as_bytes().len().saturating_add(more) {
+        return Err(Refusal::BufferTooSmall);
+    }
+    Ok(is_too_long(message, more))
+}
+
+/// Signs a message to an address, for a buffer of `room` bytes.
+fn sign_message(
+    alloc: Global,
+    server: &mut LongTermServerAuth<Global>,
+    message: &Message<'_>,
+    room: usize,
+    to: SocketAddr,
+) -> Result<Vec<u8, Global>, Refusal>
+    requires { room < 2 ^ 63 }
+    ensures ok { IfOk result (λ signed. server_signs server.old message.now room to ≡ Ok signed.items) }
+    ensures fits { IfOk result (λ signed. length signed.items ≤ room) }
+    ensures err { IfErr result (λ refusal. ForRefusal refusal (server_signs server.old message.now room to ≡ Err refusal) ⊤) }
+    ensures state { OnOk result (server.new ≡ after_signing server.old to (is_response (class_in message.now))) }
+    ensures refused { OnErr result (server.new ≡ server.old) }
+{
+    let is_long = measure(server, message, room, to)?;
+    let writer = writer_of(alloc, message)?;
+    match server.sign_outgoing_message(writer, to) {
+        Ok(signed) => Ok(signed.finish()),
+        Err(error) => Err(Refusal::of_write(error, is_long)),
+    }
 }
 
 /// Who signed a message that came from an address. A refusal may make a nonce for the address.

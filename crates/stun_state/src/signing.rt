@@ -1,10 +1,12 @@
 //! A message in a caller's buffer that is to be signed.
 
-ghost use Rattle.std.specs.Prelude.{◌≡◌, ◌≤◌, ◌++◌, ◌+◌, ◌-◌, ◌^◌, ◌<◌, length, take, drop, find, min, None, Some, IfErr, IfOk, OnOk, is_some};
+ghost use Rattle.std.specs.Prelude.{◌≡◌, ◌≤◌, ◌++◌, ◌+◌, ◌-◌, ◌^◌, ◌<◌, length, take, drop, find, min, None, Some, Ok, IfErr, IfOk, OnOk, is_some};
+ghost use Rattle.stun_base.specs.Header.{BeginsWithHeader};
 ghost use Rattle.stun_types.specs.Message.{IsMessage};
 ghost use Rattle.stun_types.specs.Visible.{visible};
 ghost use Rattle.stun_types.specs.Writing.{is_set_apart};
-ghost use Rattle.stun_state.specs.Signing.{base_refusal, is_closed, is_too_long};
+ghost use Rattle.stun_auth.specs.Reading.{class_in, is_response};
+ghost use Rattle.stun_state.specs.Signing.{base_refusal, buffer_after, fitted, is_closed, is_too_long, length_of};
 
 use crate::codes::Refusal;
 use std::alloc::{AllocError, Global};
@@ -49,6 +51,13 @@ pub fn base_message(buffer: &[u8], count: usize) -> Result<Message<'_>, Refusal>
     Ok(message)
 }
 
+/// Whether a message is a response.
+pub fn is_response(message: &Message<'_>) -> bool
+    ensures { result ≡ is_response (class_in message.now) }
+{
+    message.is_response()
+}
+
 /// Whether a message that grows by so many bytes is longer than the length field can tell.
 pub fn is_too_long(message: &Message<'_>, more: usize) -> bool
     ensures { result ≡ is_too_long message.now more }
@@ -63,6 +72,7 @@ pub fn writer_of(
     message: &Message<'_>,
 ) -> Result<MessageWriteVec<Global>, AllocError>
     ensures message { IfOk result (λ writer. writer.bytes ≡ message.now) }
+    ensures header { IfOk result (λ writer. BeginsWithHeader writer.bytes) }
 {
     let bytes = message.as_bytes();
     let mut writer = MessageWriteVec::new(alloc);
@@ -71,6 +81,18 @@ pub fn writer_of(
     }
     writer.append(bytes);
     Ok(writer)
+}
+
+/// Copies bytes to the front of a buffer and answers their number, or leaves it where it has fewer bytes.
+pub fn fill(buffer: &mut [u8], bytes: &[u8]) -> Result<usize, Refusal>
+    ensures answer { result ≡ length_of (fitted (Ok bytes.now) (length buffer.old)) }
+    ensures written { buffer.new ≡ buffer_after (fitted (Ok bytes.now) (length buffer.old)) buffer.old }
+{
+    if buffer.len() < bytes.len() {
+        return Err(Refusal::BufferTooSmall);
+    }
+    put(buffer, bytes);
+    Ok(bytes.len())
 }
 
 /// Copies bytes to the front of a buffer that has room for them.

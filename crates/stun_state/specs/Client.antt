@@ -1,0 +1,42 @@
+-- What the calls on a client answer and leave, by the definitions of its authenticator (RFC 8489, section 9.2).
+use Rattle.std.specs.Prelude.{ℕ, List, Option, Some, None, Result, Ok, Err}
+use Rattle.stun_types.specs.Message.{refusal}
+use Rattle.stun_auth.specs.declared.algorithm_set.AlgorithmSet.{AlgorithmSet}
+use Rattle.stun_auth.specs.declared.client_answer.LongTermClientValidation.{LongTermClientValidation}
+use Rattle.stun_auth.specs.declared.feature.Feature.{Feature}
+use Rattle.stun_auth.specs.Algorithms.{listed}
+use Rattle.stun_auth.specs.Client.{ClientSide}
+use Rattle.stun_auth.specs.ClientStep.{ClientAnswer, ClientStep, client_step}
+use Rattle.stun_auth.specs.Reading.{reading_of}
+use Rattle.stun_state.specs.Answers.{kept_if_refused, message_refusal, unless_refused}
+use Rattle.stun_state.specs.Codes.{refusal_of_client}
+use Rattle.stun_state.specs.declared.codes.Refusal.{Refusal}
+
+-- the algorithms of a set, the strongest first
+abbrev pub with_algorithms : Option AlgorithmSet → ClientSide → ClientSide
+with_algorithms None c = c
+with_algorithms (Some set) c = record c { settings = record c.settings { supported = listed set } }
+
+abbrev pub with_feature : Option Feature → ClientSide → ClientSide
+with_feature None c = c
+with_feature (Some feature) c = record c { settings = record c.settings { feature = feature } }
+
+abbrev pub with_credentials : List ℕ → List ℕ → ClientSide → ClientSide
+with_credentials name password c =
+    record c { settings = record c.settings { credentials = Some (record { username = name; password = password }) } }
+
+-- what a message comes to
+abbrev pub step : ClientSide → List ℕ → ClientStep
+step c bytes = client_step c.settings c.state (reading_of bytes)
+
+abbrev pub validation_answer : ClientAnswer → Result LongTermClientValidation Refusal
+validation_answer (Ok validation) = Ok validation
+validation_answer (Err reason) = Err (refusal_of_client reason)
+
+-- what is answered to bytes
+abbrev pub validated : ClientSide → List ℕ → Result LongTermClientValidation Refusal
+validated c bytes = unless_refused (message_refusal (refusal bytes)) (validation_answer (step c bytes).answer)
+
+-- the client that they leave
+abbrev pub after_validating : ClientSide → List ℕ → ClientSide
+after_validating c bytes = kept_if_refused (message_refusal (refusal bytes)) c (record c { state = (step c bytes).state })

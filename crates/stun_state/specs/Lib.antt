@@ -6,6 +6,10 @@ pub mod Handle
 pub mod Codes
 -- the addresses that callers give and get
 pub mod Addresses
+-- the numbers that calls answer
+pub mod Numbers
+-- what the calls on an agent answer and leave
+pub mod Agent
 -- what the calls on authenticators share
 pub mod Answers
 -- what the calls on a server answer and leave

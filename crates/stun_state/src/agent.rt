@@ -1,1 +1,324 @@
-//! What the exports do with an agent.
+//! What the exports do with an agent (RFC 8489, section 6.2).
+
+ghost use Rattle.std.specs.Prelude.{◌≡◌, ◌≤◌, ⊤, length, Some, None, Ok, Err, IfOk, IfErr, IfNone, IfSome, OnErr, OnOk};
+ghost use Rattle.stun_agent.specs.Agent.{after_message, after_poll, after_poll_transmit, after_send, after_send_request};
+ghost use Rattle.stun_state.specs.Addresses.{socket_address};
+ghost use Rattle.stun_state.specs.Agent.{counting_agent, refusal_of_agent, settings_of_timeouts, transport_numbered, with_settings};
+
+use crate::address::Address;
+use crate::codes::Refusal;
+use std::alloc::Global;
+use std::time::Duration;
+use stun_agent::agent::{StunAgent, StunAgentPollRet, StunError};
+use stun_agent::stats::StunAgentStats;
+use stun_base::instant::Instant;
+use stun_base::transaction_id::TransactionId;
+use stun_base::transport::TransportType;
+use stun_types::message::Message;
+
+/// How many bytes an id has.
+const ID_LENGTH: usize = 12;
+
+/// When a request is sent again, in nanoseconds.
+#[repr(C)]
+#[derive(Debug, Clone, Copy, PartialEq, Eq)]
+pub struct Timeouts {
+    /// The wait after the first transmission. Each further wait is twice as long.
+    pub initial: u64,
+    /// The longest wait between two transmissions.
+    pub longest: u64,
+    /// The wait after the last transmission.
+    pub last: u64,
+    /// How many transmissions there are over UDP.
+    pub transmissions: u32,
+}
+
+/// What an agent counts. Round trips are in nanoseconds, and 0 where none was measured.
+#[repr(C)]
+#[derive(Debug, Clone, Copy, PartialEq, Eq)]
+pub struct Statistics {
+    pub requests_sent: u64,
+    pub requests_received: u64,
+    pub responses_sent: u64,
+    pub responses_received: u64,
+    pub indications_sent: u64,
+    pub indications_received: u64,
+    pub transactions_timed_out: u64,
+    pub transactions_cancelled: u64,
+    pub bytes_sent: u64,
+    pub bytes_received: u64,
+    pub round_trips: u64,
+    pub round_trip_least: u64,
+    pub round_trip_most: u64,
+    pub round_trip_average: u64,
+}
+
+/// The refusal for an agent's error. An agent answers none of the last four.
+fn refusal_of(error: StunError) -> Refusal
+    ensures { result ≡ refusal_of_agent error }
+{
+    match error {
+        StunError::AlreadyInProgress => Refusal::AlreadyInProgress,
+        StunError::ProtocolViolation => Refusal::ProtocolViolation,
+        StunError::OutOfMemory => Refusal::OutOfMemory,
+        StunError::ParseError(error) => Refusal::from(error),
+        StunError::ResourceNotFound => Refusal::ProtocolViolation,
+        StunError::TimedOut => Refusal::ProtocolViolation,
+        StunError::Aborted => Refusal::ProtocolViolation,
+        StunError::WriteError(_) => Refusal::ProtocolViolation,
+    }
+}
+
+/// The transport of a number, or `BadArgument`.
+fn transport_numbered(number: u32) -> Result<TransportType, Refusal>
+    ensures ok { IfOk result (λ transport. transport_numbered number ≡ Some transport) }
+    ensures err { IfErr result (λ refusal. (transport_numbered number ≡ None) × (refusal ≡ Refusal.BadArgument)) }
+{
+    match number {
+        0 => Ok(TransportType::Udp),
+        1 => Ok(TransportType::Tcp),
+        _ => Err(Refusal::BadArgument),
+    }
+}
+
+/// The id in these bytes, or `BadArgument` where they are not 12.
+fn id_of(bytes: &[u8]) -> Result<TransactionId, Refusal> {
+    if bytes.len() != ID_LENGTH {
+        return Err(Refusal::BadArgument);
+    }
+    let mut number = [0; 16];
+    number[4..].copy_from_slice(bytes);
+    TransactionId::from_u128(u128::from_be_bytes(number)).ok_or(Refusal::BadArgument)
+}
+
+/// An agent that keeps statistics.
+pub fn new(alloc: Global, transport: u32, local: &Address) -> Result<StunAgent<Global>, Refusal> {
+    let transport = transport_numbered(transport)?;
+    let local = local.socket()?;
+    Ok(StunAgent::builder(alloc, transport, local).stats(true).build())
+}
+
+/// The same with other time-outs, and with a remote address where its length is not 0.
+pub fn new_with(
+    alloc: Global,
+    transport: u32,
+    local: &Address,
+    remote: &Address,
+    timeouts: &Timeouts,
+) -> Result<StunAgent<Global>, Refusal> {
+    let transport = transport_numbered(transport)?;
+    let local = local.socket()?;
+    let builder = StunAgent::builder(alloc, transport, local)
+        .stats(true)
+        .request_retransmits(
+            Duration::from_nanos(timeouts.initial),
+            Duration::from_nanos(timeouts.longest),
+            timeouts.transmissions,
+            Duration::from_nanos(timeouts.last),
+        );
+    if remote.length == 0 {
+        return Ok(builder.build());
+    }
+    Ok(builder.remote_addr(remote.socket()?).build())
+}
+
+/// Keeps a request and counts it.
+pub fn send_request(
+    agent: &mut StunAgent<Global>,
+    message: &[u8],
+    to: &Address,
+    now: u64,
+) -> Result<(), Refusal>
+    ensures ok { OnOk result (IfSome (socket_address to.now) (λ to. agent.new ≡ after_send_request agent.old message.now to now)) }
+    ensures err { OnErr result (agent.new ≡ agent.old) }
+{
+    let to = to.socket()?;
+    let _message = Message::from_bytes(message)?;
+    match agent.send_request(message, to, Instant::from_nanos(now)) {
+        Ok(_) => Ok(()),
+        Err(error) => Err(refusal_of(error)),
+    }
+}
+
+/// Counts a response or an indication that is sent.
+pub fn send(agent: &mut StunAgent<Global>, message: &[u8], to: &Address) -> Result<(), Refusal>
+    ensures ok { OnOk result (agent.new ≡ after_send message.now agent.old) }
+    ensures err { OnErr result (agent.new ≡ agent.old) }
+{
+    let to = to.socket()?;
+    let _message = Message::from_bytes(message)?;
+    match agent.send(message, to, Instant::from_nanos(0)) {
+        Ok(_) => Ok(()),
+        Err(error) => Err(refusal_of(error)),
+    }
+}
+
+/// What is to be done at a moment: 0 and until when to wait, 1 or 2 and the id of the request that ended.
+pub fn poll(
+    agent: &mut StunAgent<Global>,
+    now: u64,
+    until: &mut u64,
+    id: &mut [u8],
+) -> Result<u32, Refusal>
+    ensures ok { OnOk result (agent.new ≡ after_poll now agent.old) }
+    ensures err { OnErr result (agent.new ≡ agent.old) }
+{
+    if id.len() < ID_LENGTH {
+        return Err(Refusal::BufferTooSmall);
+    }
+    match agent.poll(Instant::from_nanos(now)) {
+        StunAgentPollRet::WaitUntil(moment) => {
+            *until = moment.as_nanos();
+            Ok(0)
+        }
+        StunAgentPollRet::TransactionTimedOut(ended) => {
+            put_id(id, ended);
+            Ok(1)
+        }
+        StunAgentPollRet::TransactionCancelled(ended) => {
+            put_id(id, ended);
+            Ok(2)
+        }
+    }
+}
+
+/// Writes an id to the front of a buffer that has room for it.
+fn put_id(out: &mut [u8], id: TransactionId)
+    requires { 12 ≤ length out.old }
+{
+    let bytes = id.as_u128().to_be_bytes();
+    out[..ID_LENGTH].copy_from_slice(&bytes[4..]);
+}
+
+/// The request that is to be sent again now, at the front of the buffer, and where to: how many bytes there are.
+pub fn poll_transmit(
+    agent: &mut StunAgent<Global>,
+    now: u64,
+    out: &mut [u8],
+    to: &mut Address,
+) -> Result<usize, Refusal> {
+    let now = Instant::from_nanos(now);
+    if let Some(next) = agent.next_transmit(now) {
+        if out.len() < next.data.len() {
+            return Err(Refusal::BufferTooSmall);
+        }
+    }
+    let Some(again) = agent.poll_transmit(now) else {
+        return Ok(0);
+    };
+    let bytes = again.data;
+    if out.len() < bytes.len() {
+        return Err(Refusal::BufferTooSmall);
+    }
+    out[..bytes.len()].copy_from_slice(bytes);
+    *to = Address::of(again.to);
+    Ok(bytes.len())
+}
+
+/// Takes a message that came from an address: whether it was taken.
+pub fn handle(
+    agent: &mut StunAgent<Global>,
+    message: &[u8],
+    from: &Address,
+    now: u64,
+) -> Result<u32, Refusal>
+    ensures ok { OnOk result (IfSome (socket_address from.now) (λ from. agent.new ≡ after_message (Some now) message.now from agent.old)) }
+    ensures err { OnErr result (agent.new ≡ agent.old) }
+{
+    let from = from.socket()?;
+    let message = Message::from_bytes(message)?;
+    let is_taken = agent.handle_stun_message_with_time(&message, from, Instant::from_nanos(now))?;
+    Ok(u32::from(is_taken))
+}
+
+/// Whether a request of an id is outstanding, and the address that it went to.
+pub fn is_outstanding(
+    agent: &StunAgent<Global>,
+    id: &[u8],
+    peer: &mut Address,
+) -> Result<u32, Refusal> {
+    match agent.request_transaction(id_of(id)?) {
+        Some(request) => {
+            *peer = Address::of(request.peer_address());
+            Ok(1)
+        }
+        None => Ok(0),
+    }
+}
+
+/// Cancels the request of an id.
+pub fn cancel(agent: &mut StunAgent<Global>, id: &[u8]) -> Result<u32, Refusal> {
+    match agent.mut_request_transaction(id_of(id)?) {
+        Some(mut request) => {
+            request.cancel();
+            Ok(1)
+        }
+        None => Ok(0),
+    }
+}
+
+/// Ends the retransmissions of the request of an id.
+pub fn cancel_retransmissions(agent: &mut StunAgent<Global>, id: &[u8]) -> Result<u32, Refusal> {
+    match agent.mut_request_transaction(id_of(id)?) {
+        Some(mut request) => {
+            request.cancel_retransmissions();
+            Ok(1)
+        }
+        None => Ok(0),
+    }
+}
+
+/// Gives the request of an id time-outs of its own.
+pub fn configure(
+    agent: &mut StunAgent<Global>,
+    id: &[u8],
+    timeouts: &Timeouts,
+) -> Result<u32, Refusal> {
+    match agent.mut_request_transaction(id_of(id)?) {
+        Some(mut request) => {
+            request.configure_timeout_with_max(
+                Duration::from_nanos(timeouts.initial),
+                timeouts.transmissions,
+                Duration::from_nanos(timeouts.last),
+                Duration::from_nanos(timeouts.longest),
+            );
+            Ok(1)
+        }
+        None => Ok(0),
+    }
+}
+
+/// Nanoseconds of a span, 0 of none, and the greatest number where there are more.
+fn nanos(span: Option<Duration>) -> u64 {
+    match span {
+        Some(span) => u64::try_from(span.as_nanos()).unwrap_or(u64::MAX),
+        None => 0,
+    }
+}
+
+/// What was counted.
+fn told(stats: &StunAgentStats) -> Statistics {
+    Statistics {
+        requests_sent: stats.requests_sent(),
+        requests_received: stats.requests_received(),
+        responses_sent: stats.responses_sent(),
+        responses_received: stats.responses_received(),
+        indications_sent: stats.indications_sent(),
+        indications_received: stats.indications_received(),
+        transactions_timed_out: stats.transactions_timed_out(),
+        transactions_cancelled: stats.transactions_cancelled(),
+        bytes_sent: stats.bytes_sent(),
+        bytes_received: stats.bytes_received(),
+        round_trips: stats.rtt_count(),
+        round_trip_least: nanos(stats.rtt_min()),
+        round_trip_most: nanos(stats.rtt_max()),
+        round_trip_average: nanos(stats.rtt_average()),
+    }
+}
+
+/// What the agent counted.
+pub fn tell_statistics(agent: &StunAgent<Global>, statistics: &mut Statistics) {
+    if let Some(stats) = agent.stats() {
+        *statistics = told(stats);
+    }
+}

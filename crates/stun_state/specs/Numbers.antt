@@ -1,0 +1,28 @@
+-- The numbers that calls answer.
+use Rattle.std.specs.Prelude.{ℕ, ℤ, pos, Result, Ok, Err}
+use Rattle.stun_auth.specs.declared.client_answer.LongTermClientValidation.{LongTermClientValidation}
+use Rattle.stun_auth.specs.declared.client_answer.LongTermClientValidation.TheVariants.{Validated, ResendRequest}
+use Rattle.stun_base.specs.declared.algorithm.IntegrityAlgorithm.{IntegrityAlgorithm}
+use Rattle.stun_state.specs.Codes.{code_of, algorithm_number}
+use Rattle.stun_state.specs.declared.codes.Refusal.{Refusal}
+
+-- 0, or the refusal's number
+abbrev pub done_answer : Result (Unit {0}) Refusal → ℤ
+done_answer (Ok done) = pos 0
+done_answer (Err refusal) = code_of refusal
+
+-- the number, or the refusal's
+abbrev pub number_answer : Result ℕ Refusal → ℤ
+number_answer (Ok number) = pos number
+number_answer (Err refusal) = code_of refusal
+
+-- the algorithm's number, or the refusal's
+abbrev pub algorithm_answer : Result IntegrityAlgorithm Refusal → ℤ
+algorithm_answer (Ok algorithm) = pos (algorithm_number algorithm)
+algorithm_answer (Err refusal) = code_of refusal
+
+-- the algorithm's number, 3 where another request is asked for, or the refusal's
+abbrev pub reading_answer : Result LongTermClientValidation Refusal → ℤ
+reading_answer (Ok (Validated algorithm)) = pos (algorithm_number algorithm)
+reading_answer (Ok (ResendRequest _)) = pos 3
+reading_answer (Err refusal) = code_of refusal

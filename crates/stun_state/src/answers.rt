@@ -1,0 +1,76 @@
+//! The numbers that calls answer.
+
+ghost use Rattle.std.specs.Prelude.{◌≡◌, ◌<◌, ◌^◌, IfOk};
+ghost use Rattle.stun_state.specs.Numbers.{algorithm_answer, done_answer, number_answer, reading_answer};
+
+use crate::codes::{Refusal, algorithm_number};
+use crate::server::Validated;
+use stun_auth::auth::LongTermClientValidation;
+use stun_base::algorithm::IntegrityAlgorithm;
+
+/// The number of a response that asks for another request.
+const RESEND: i64 = 3;
+
+/// 0, or the refusal.
+pub fn done(answer: Result<(), Refusal>) -> i64
+    ensures { result ≡ done_answer answer }
+{
+    match answer {
+        Ok(()) => 0,
+        Err(refusal) => refusal.code(),
+    }
+}
+
+/// A small number, or the refusal.
+pub fn number(answer: Result<u32, Refusal>) -> i64
+    ensures { result ≡ number_answer answer }
+{
+    match answer {
+        Ok(number) => i64::from(number),
+        Err(refusal) => refusal.code(),
+    }
+}
+
+/// The number of an algorithm, or the refusal.
+pub fn algorithm(answer: Result<IntegrityAlgorithm, Refusal>) -> i64
+    ensures { result ≡ algorithm_answer answer }
+{
+    match answer {
+        Ok(algorithm) => i64::from(algorithm_number(algorithm)),
+        Err(refusal) => refusal.code(),
+    }
+}
+
+/// What a response says, or the refusal.
+pub fn reading(answer: Result<LongTermClientValidation, Refusal>) -> i64
+    ensures { result ≡ reading_answer answer }
+{
+    match answer {
+        Ok(LongTermClientValidation::Validated(algorithm)) => i64::from(algorithm_number(algorithm)),
+        Ok(LongTermClientValidation::ResendRequest(_)) => RESEND,
+        Err(refusal) => refusal.code(),
+    }
+}
+
+/// How many bytes were written, or the refusal.
+pub fn length(answer: Result<usize, Refusal>) -> i64
+    requires { IfOk answer (λ length. length < 2 ^ 63) }
+    ensures { result ≡ number_answer answer }
+{
+    match answer {
+        Ok(length) => length as i64,
+        Err(refusal) => refusal.code(),
+    }
+}
+
+/// The number of a client's algorithm, or 0 of none, and how long its name is.
+pub fn client(answer: Result<Option<Validated>, Refusal>, name_length: &mut usize) -> i64 {
+    match answer {
+        Ok(Some(client)) => {
+            *name_length = client.name_length;
+            i64::from(algorithm_number(client.algorithm))
+        }
+        Ok(None) => 0,
+        Err(refusal) => refusal.code(),
+    }
+}

@@ -13,11 +13,11 @@ use Rattle.stun_types.specs.Attribute.{TypedValue, attribute_length}
 use Rattle.stun_types.specs.Grammar.{spelled_attribute}
 use Rattle.stun_types.specs.Message.{with_length}
 use Rattle.stun_types.specs.Writing.{covered_at_end, integrity_attribute, with_integrity}
-use Rattle.stun_auth.specs.Additions.{Addition, attribute, integrity, Page, growth_of, growth, refusal_of, with_addition, unless_refused, added_one, after, added_all, UnlessMemory, page_in, written}
+use Rattle.stun_auth.specs.Additions.{Addition, attribute, integrity, Page, growth_of, growth, refusal_of, with_addition, unless_refused, added_one, after, added_all, UnlessMemory, WantsMemory, page_in, written}
 use Rattle.stun_auth.specs.Registered.{Registered, key_at}
 use Rattle.stun_auth.specs.Seen.{ClientSeen, PlaceSeen}
 use Rattle.stun_auth.specs.Server.{Sight}
-use Rattle.stun_auth.specs.ServerSigning.{attributes_for, growth_at, protected, protected_for, protection_growth, server_growth, server_signed, signed_at}
+use Rattle.stun_auth.specs.ServerSigning.{additions_at, attributes_for, digest_for, digest_under, growth_at, protected, protected_for, protection_growth, server_additions, server_growth, server_signed, signed_at}
 use Rattle.stun_auth.proofs.AdditionLemmas.{growth-append}
 
 length-with_length : (bytes : List ℕ) (n : ℕ) → 20 ≤ length bytes → length (with_length bytes n) ≡ length bytes
@@ -128,15 +128,41 @@ grown_by_server s response p q long h = grown_at response s.registered s.place p
 refused_not : {V : Type 0} (reason : StunWriteError) (page : Result Page StunWriteError) → Err reason ≡ page → IsOk page → V
 refused_not reason page is ok = absurd (true≢false (sym (ap is_ok is ∙ ok)))
 
+-- where memory is wanting for additions, less than they take is reserved
+pub wants_short : (list : List Addition) (page : Page) (reserved : ℕ) → WantsMemory list page reserved → reserved < growth list
+wants_short list page reserved w =
+    let all : growth list ≡ growth (w.first ++ w.others) = ap growth w.in_order in
+    omega (arith, all, growth-append w.first w.others, w.not_reserved)
+
+digest_short : (a : IntegrityAlgorithm) (key : Option (List ℕ)) → growth (digest_under a key) ≤ attribute_length (digest_length a)
+digest_short a None = omega arith
+digest_short a (Some key) = let sum = sum_by-cons growth_of (integrity a key) [] in omega (arith, sum)
+
+digest_for_short : (users : Registered) (client : Option ClientSeen) → growth (digest_for users client) ≤ protection_growth client
+digest_for_short users None = omega arith
+digest_for_short users (Some c) = digest_short c.algorithm (key_at users c.name c.algorithm)
+
+place_wants_short : (response : Bool) (users : Registered) (place : Option PlaceSeen) (page : Page) (reserved : ℕ)
+    → WantsMemory (additions_at response users place) page reserved → reserved < growth_at response users place
+place_wants_short response users None page reserved w = wants_short [] page reserved w
+place_wants_short response users (Some p) page reserved w =
+    let attributes = attributes_for response users p.nonce p.client in
+    let digest = digest_for users p.client in
+    omega (arith, wants_short (attributes ++ digest) page reserved w, growth-append attributes digest, digest_for_short users p.client)
+
+pub server_wants_short : (s : Sight) (response : Bool) (page : Page) (reserved : ℕ)
+    → WantsMemory (server_additions s response) page reserved → reserved < server_growth s response
+server_wants_short s response page reserved w = place_wants_short response s.registered s.place page reserved w
+
 -- where nothing else refuses and what is taken was reserved, nothing is refused
 pub succeeds_reserved : {V : Type 0} (answer : Result V StunWriteError → Result Page StunWriteError) → ((reason : StunWriteError) → Err reason ≡ answer (Err reason))
-    → (page : Result Page StunWriteError) (reserved taken : ℕ) (result : Result V StunWriteError)
-    → UnlessMemory result (answer result ≡ page) (reserved < taken) → IsOk page → taken ≤ reserved → IsOk result
-succeeds_reserved answer passes page reserved taken (Ok signed) h ok enough = refl
-succeeds_reserved answer passes page reserved taken (Err NotAllowed) h ok enough = refused_not NotAllowed page (passes NotAllowed ∙ h) ok
-succeeds_reserved answer passes page reserved taken (Err MessageIntegrityExists) h ok enough = refused_not MessageIntegrityExists page (passes MessageIntegrityExists ∙ h) ok
-succeeds_reserved answer passes page reserved taken (Err (AttributeExists kind)) h ok enough = refused_not (AttributeExists kind) page (passes (AttributeExists kind) ∙ h) ok
-succeeds_reserved answer passes page reserved taken (Err TooLarge) h ok enough = refused_not TooLarge page (passes TooLarge ∙ h) ok
-succeeds_reserved answer passes page reserved taken (Err TooSmall) h ok enough = refused_not TooSmall page (passes TooSmall ∙ h) ok
-succeeds_reserved answer passes page reserved taken (Err IntegrityFailed) h ok enough = refused_not IntegrityFailed page (passes IntegrityFailed ∙ h) ok
-succeeds_reserved answer passes page reserved taken (Err OutOfMemory) h ok enough = absurd (omega (arith, h, enough))
+    → (page : Result Page StunWriteError) (reserved taken : ℕ) (Q : Type 0) → (Q → reserved < taken) → (result : Result V StunWriteError)
+    → UnlessMemory result (answer result ≡ page) Q → IsOk page → taken ≤ reserved → IsOk result
+succeeds_reserved answer passes page reserved taken Q short (Ok signed) h ok enough = refl
+succeeds_reserved answer passes page reserved taken Q short (Err NotAllowed) h ok enough = refused_not NotAllowed page (passes NotAllowed ∙ h) ok
+succeeds_reserved answer passes page reserved taken Q short (Err MessageIntegrityExists) h ok enough = refused_not MessageIntegrityExists page (passes MessageIntegrityExists ∙ h) ok
+succeeds_reserved answer passes page reserved taken Q short (Err (AttributeExists kind)) h ok enough = refused_not (AttributeExists kind) page (passes (AttributeExists kind) ∙ h) ok
+succeeds_reserved answer passes page reserved taken Q short (Err TooLarge) h ok enough = refused_not TooLarge page (passes TooLarge ∙ h) ok
+succeeds_reserved answer passes page reserved taken Q short (Err TooSmall) h ok enough = refused_not TooSmall page (passes TooSmall ∙ h) ok
+succeeds_reserved answer passes page reserved taken Q short (Err IntegrityFailed) h ok enough = refused_not IntegrityFailed page (passes IntegrityFailed ∙ h) ok
+succeeds_reserved answer passes page reserved taken Q short (Err OutOfMemory) h ok enough = absurd (let less = short h in omega (arith, less, enough))

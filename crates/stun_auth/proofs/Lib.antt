@@ -28,3 +28,4 @@ pub mod Unchanged
 pub mod UserMaps
 pub mod VerdictLemmas
 pub mod VerdictSteps
+pub mod Wanting

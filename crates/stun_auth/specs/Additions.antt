@@ -1,5 +1,5 @@
 -- What signing adds to a message, one after another (RFC 8489, section 9): attributes, and last the integrity attribute.
-use Rattle.std.specs.Prelude.{ℕ, ◌-◌, ◌==◌, nat_lt, Bool, ◌&&◌, ◌||◌, if◌then◌else◌, List, [], ◌∷◌, length, sum_by, Option, Some, None, Result, Ok, Err}
+use Rattle.std.specs.Prelude.{◌≡◌, ◌<◌, ℕ, ◌-◌, ◌==◌, nat_lt, Bool, ◌&&◌, ◌||◌, if◌then◌else◌, List, [], ◌∷◌, ◌++◌, length, sum_by, Option, Some, None, Result, Ok, Err, IsOk}
 use Rattle.stun_base.specs.Algorithm.{digest_length}
 use Rattle.stun_base.specs.Attributes.{USERNAME, REALM, NONCE}
 use Rattle.stun_base.specs.declared.algorithm.IntegrityAlgorithm.{IntegrityAlgorithm}
@@ -61,6 +61,15 @@ after (Ok page) next = next page
 abbrev pub added_all : List Addition → Page → Result Page StunWriteError
 added_all [] page = Ok page
 added_all (addition ∷ others) page = after (added_one addition page) (added_all others)
+
+-- memory is wanting for additions of which so many bytes are reserved: nothing refuses the first of them, up to one, and
+-- these take more than is reserved
+pub record WantsMemory (list : List Addition) (page : Page) (reserved : ℕ) : Type 0 where
+  pub first : List Addition
+  pub others : List Addition
+  pub in_order : list ≡ first ++ others
+  pub not_refused : IsOk (added_all first page)
+  pub not_reserved : reserved < growth first
 
 -- the first fact holds, or the second where memory is wanting
 abbrev pub UnlessMemory : {V : Type 0} → Result V StunWriteError → Type 0 → Type 0 → Type 0

@@ -56,6 +56,23 @@ signed_at response users (Some p) page =
 abbrev pub server_signed : Sight → Bool → Page → Result Page StunWriteError
 server_signed s response page = signed_at response s.registered s.place page
 
+-- the digest under the key of a client, where user and key are there
+abbrev pub digest_under : IntegrityAlgorithm → Option (List ℕ) → List Addition
+digest_under a None = []
+digest_under a (Some key) = integrity a key ∷ []
+
+abbrev pub digest_for : Registered → Option ClientSeen → List Addition
+digest_for users None = []
+digest_for users (Some c) = digest_under c.algorithm (key_at users c.name c.algorithm)
+
+-- all that is added to a message to an address, as far as user and key are there
+abbrev pub additions_at : Bool → Registered → Option PlaceSeen → List Addition
+additions_at response users None = []
+additions_at response users (Some p) = attributes_for response users p.nonce p.client ++ digest_for users p.client
+
+abbrev pub server_additions : Sight → Bool → List Addition
+server_additions s response = additions_at response s.registered s.place
+
 -- how many bytes the digest to a client takes, whether its user is there or not
 abbrev pub protection_growth : Option ClientSeen → ℕ
 protection_growth None = 0

@@ -1,16 +1,16 @@
 -- What adding one attribute after another comes to, as the code tells it.
-use Rattle.std.specs.Prelude.{◌≡◌, ℕ, ◌+◌, ◌<◌, ◌≤◌, List, Result, Ok, Err, OnOk}
+use Rattle.std.specs.Prelude.{◌≡◌, ℕ, ◌+◌, ◌≤◌, List, Result, Ok, Err, OnOk}
 use Rattle.stun_base.specs.declared.error.StunWriteError.{StunWriteError}
-use Rattle.stun_auth.specs.Additions.{Addition, Page, UnlessMemory, added_all, growth}
+use Rattle.stun_auth.specs.Additions.{Addition, Page, UnlessMemory, WantsMemory, added_all, growth}
 
 -- an answer, with the page that success leaves
 abbrev pub outcome_of : {V : Type 0} → Result V StunWriteError → Page → Result Page StunWriteError
 outcome_of (Ok value) page = Ok page
 outcome_of (Err reason) page = Err reason
 
--- a call answers what the additions come to on the page before it, and want of memory only where less than they take was reserved
+-- a call answers what the additions come to on the page before it, and want of memory only where it is wanting for them
 abbrev pub IsOutcome : List Addition → Page → ℕ → Result (Unit {0}) StunWriteError → Page → Type 0
-IsOutcome list page reserved result page_after = UnlessMemory result (outcome_of result page_after ≡ added_all list page) (reserved < growth list)
+IsOutcome list page reserved result page_after = UnlessMemory result (outcome_of result page_after ≡ added_all list page) (WantsMemory list page reserved)
 
 -- it does, and leaves reserved what it does not take
 pub record IsAdded (list : List Addition) (page : Page) (reserved : ℕ) (result : Result (Unit {0}) StunWriteError) (page_after : Page) (reserved_after : ℕ) : Type 0 where

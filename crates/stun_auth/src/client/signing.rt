@@ -6,7 +6,7 @@ ghost use Rattle.stun_base.specs.Header.{BeginsWithHeader, type_field};
 ghost use Rattle.stun_base.specs.MessageType.{class_of};
 ghost use Rattle.stun_types.specs.Attribute.{attribute_length};
 ghost use Rattle.stun_auth.specs.code.AddedAttribute.{attribute_of};
-ghost use Rattle.stun_auth.specs.Additions.{UnlessMemory, added_all, growth, page_in, written};
+ghost use Rattle.stun_auth.specs.Additions.{UnlessMemory, WantsMemory, added_all, growth, page_in, written};
 ghost use Rattle.stun_auth.specs.code.Additions.{IsAdded, IsOutcome};
 ghost use Rattle.stun_auth.specs.code.ClientKept.{challenge_seen, naming_seen, state_seen};
 ghost use Rattle.stun_auth.specs.ClientSigning.{algorithm_choice, challenge_additions, client_additions, identity, is_request, kept_challenge, name_attribute};
@@ -84,8 +84,10 @@ impl<A: Allocator> KeptChallenge<A> {
     {
         if is_request {
             self.add_identity(writer)?;
+            self.add_protection(writer)
+        } else {
+            self.add_protection(writer)
         }
-        self.add_protection(writer)
     }
 
     /// Adds the choice of the algorithm and the integrity attribute.
@@ -172,7 +174,7 @@ impl<A: Allocator> LongTermClientAuth<A> {
     pub fn sign_outgoing_message<W: MessageWrite>(&mut self, writer: W) -> Result<W, StunWriteError>
         requires { BeginsWithHeader (W.bytes writer) }
         ensures answer { let additions = client_additions (is_request (class_of (type_field (W.bytes writer)))) self.old.state in
-            UnlessMemory result (written W.bytes W.room result ≡ added_all additions (page_in W.bytes W.room writer)) (W.reserved writer < growth additions) }
+            UnlessMemory result (written W.bytes W.room result ≡ added_all additions (page_in W.bytes W.room writer)) (WantsMemory additions (page_in W.bytes W.room writer) (W.reserved writer)) }
         ensures grows { IfOk result (λ signed. length (W.bytes signed)
             ≡ length (W.bytes writer) + growth (client_additions (is_request (class_of (type_field (W.bytes writer)))) self.old.state)) }
 
@@ -189,7 +191,7 @@ impl<A: Allocator> LongTermClientAuth<A> {
     fn signed<W: MessageWrite>(&self, writer: W) -> Result<W, StunWriteError>
         requires { BeginsWithHeader (W.bytes writer) }
         ensures { let additions = client_additions (is_request (class_of (type_field (W.bytes writer)))) self.now.state in
-            UnlessMemory result (written W.bytes W.room result ≡ added_all additions (page_in W.bytes W.room writer)) (W.reserved writer < growth additions) }
+            UnlessMemory result (written W.bytes W.room result ≡ added_all additions (page_in W.bytes W.room writer)) (WantsMemory additions (page_in W.bytes W.room writer) (W.reserved writer)) }
     {
         let mut writer = writer;
         if let Some(kept) = self.state.kept() {

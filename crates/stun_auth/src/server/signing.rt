@@ -4,11 +4,11 @@ ghost use Rattle.std.specs.Prelude.{◌≡◌, ◌≤◌, ◌<◌, ◌+◌, ◌-
 ghost use Rattle.std.specs.Option.{option_map};
 ghost use Rattle.stun_base.specs.Header.{BeginsWithHeader, type_field};
 ghost use Rattle.stun_base.specs.MessageType.{class_of};
-ghost use Rattle.stun_auth.specs.Additions.{UnlessMemory, growth, page_in, written};
+ghost use Rattle.stun_auth.specs.Additions.{UnlessMemory, WantsMemory, growth, page_in, written};
 ghost use Rattle.stun_auth.specs.code.Additions.{IsAdded, IsOutcome, outcome_of};
 ghost use Rattle.stun_auth.specs.code.Places.{client_seen, place_seen};
 ghost use Rattle.stun_auth.specs.Reading.{is_response as is_response_class};
-ghost use Rattle.stun_auth.specs.ServerSigning.{after_signing, algorithms_for, attributes_for, challenge, growth_at, named_algorithm, offer, protected_for, protection_growth, server_growth, server_signed, signed_at};
+ghost use Rattle.stun_auth.specs.ServerSigning.{additions_at, after_signing, algorithms_for, attributes_for, challenge, digest_for, growth_at, named_algorithm, offer, protected_for, protection_growth, server_additions, server_growth, server_signed, signed_at};
 ghost use Rattle.stun_auth.specs.Signed.{ServerMaySign};
 ghost use Rattle.stun_auth.specs.Validation.{sight};
 
@@ -63,7 +63,7 @@ impl<A: Allocator + Copy> LongTermServerAuth<A> {
         requires { BeginsWithHeader (W.bytes writer) }
         ensures answer { let response = is_response_class (class_of (type_field (W.bytes writer))) in
             UnlessMemory result (written W.bytes W.room result ≡ server_signed (sight self.old to) response (page_in W.bytes W.room writer))
-            (W.reserved writer < server_growth (sight self.old to) response) }
+            (WantsMemory (server_additions (sight self.old to) response) (page_in W.bytes W.room writer) (W.reserved writer)) }
         ensures grows { IfOk result (λ signed. length (W.bytes signed)
             ≡ length (W.bytes writer) + server_growth (sight self.old to) (is_response_class (class_of (type_field (W.bytes writer))))) }
 
@@ -120,7 +120,7 @@ impl<A: Allocator + Copy> LongTermServerAuth<A> {
     ) -> Result<(), StunWriteError>
         requires { 20 ≤ length (W.bytes writer.old) }
         ensures { UnlessMemory result (outcome_of result (page_in W.bytes W.room writer.new) ≡ server_signed (sight self.now to) is_response (page_in W.bytes W.room writer.old))
-            (W.reserved writer.old < server_growth (sight self.now to) is_response) }
+            (WantsMemory (server_additions (sight self.now to) is_response) (page_in W.bytes W.room writer.old) (W.reserved writer.old)) }
     {
         match self.places.get(to) {
             Some(place) => self.sign_at(writer, place, is_response),
@@ -137,7 +137,7 @@ impl<A: Allocator + Copy> LongTermServerAuth<A> {
     ) -> Result<(), StunWriteError>
         requires { 20 ≤ length (W.bytes writer.old) }
         ensures { UnlessMemory result (outcome_of result (page_in W.bytes W.room writer.new) ≡ signed_at is_response self.now.registered (Some (place_seen place.now)) (page_in W.bytes W.room writer.old))
-            (W.reserved writer.old < growth_at is_response self.now.registered (Some (place_seen place.now))) }
+            (WantsMemory (additions_at is_response self.now.registered (Some (place_seen place.now))) (page_in W.bytes W.room writer.old) (W.reserved writer.old)) }
     {
         self.add_attributes(writer, place, is_response)?;
         match &place.client {
@@ -160,8 +160,25 @@ impl<A: Allocator + Copy> LongTermServerAuth<A> {
     {
         if is_response {
             self.add_challenge(writer, place.nonce.as_str())?;
+            self.add_algorithms(writer, &place.client, true)
+        } else {
+            self.add_algorithms(writer, &place.client, false)
         }
-        match &place.client {
+    }
+
+    /// Adds the algorithm of a client, or to a response without a client the supported ones.
+    fn add_algorithms<W: MessageWrite>(
+        &self,
+        writer: &mut W,
+        client: &Option<Client<A>>,
+        is_response: bool,
+    ) -> Result<(), StunWriteError>
+        requires { 20 ≤ length (W.bytes writer.old) }
+        ensures header { 20 ≤ length (W.bytes writer.new) }
+        ensures added { IsAdded (algorithms_for is_response self.now.registered (option_map client_seen client.now))
+            (page_in W.bytes W.room writer.old) (W.reserved writer.old) result (page_in W.bytes W.room writer.new) (W.reserved writer.new) }
+    {
+        match client {
             Some(client) => add_named_algorithm(writer, client.algorithm),
             None => {
                 if is_response {
@@ -207,7 +224,7 @@ impl<A: Allocator + Copy> LongTermServerAuth<A> {
     ) -> Result<(), StunWriteError>
         requires { 20 ≤ length (W.bytes writer.old) }
         ensures { UnlessMemory result (outcome_of result (page_in W.bytes W.room writer.new) ≡ protected_for self.now.registered (Some (client_seen client.now)) (page_in W.bytes W.room writer.old))
-            (W.reserved writer.old < protection_growth (Some (client_seen client.now))) }
+            (WantsMemory (digest_for self.now.registered (Some (client_seen client.now))) (page_in W.bytes W.room writer.old) (W.reserved writer.old)) }
     {
         match self.registry.key(client.name.as_str(), client.algorithm) {
             Some(key) => add_integrity(writer, key, client.algorithm),

@@ -6,7 +6,7 @@ use Rattle.stun_auth.specs.Additions.{Page, page_in}
 use Rattle.stun_auth.specs.code.Additions.{outcome_of}
 use Rattle.stun_auth.specs.ServerSigning.{server_growth, server_signed}
 use Rattle.stun_auth.specs.Validation.{sight}
-use Rattle.stun_auth.proofs.Growth.{grown_by_server, succeeds_reserved}
+use Rattle.stun_auth.proofs.Growth.{grown_by_server, server_wants_short, succeeds_reserved}
 use Rattle.stun_auth.proofs.server.LongTermServerAuth.sign_outgoing_message.Goals as goal
 
 pub returns-in_err-add_signature-clause-succeeds : goal.returns-in_err-add_signature-clause-succeeds
@@ -21,7 +21,7 @@ returns-in_err-add_signature-clause-succeeds g c = λ may enough.
     let reserved : server_growth s c.is_response-is_response.result ≤ g.W.MessageWrite.reserved c.args.writer =
     subst (λ (response : Bool). server_growth s response ≤ g.W.MessageWrite.reserved c.args.writer) (sym c.is_response-is_response.ensures) enough in
     let added = succeeds_reserved (λ r. outcome_of r (page_in bytes room c.add_signature.new.writer)) (λ reason. refl) (server_signed s c.is_response-is_response.result page)
-    (g.W.MessageWrite.reserved c.args.writer) _ c.add_signature.result c.add_signature.ensures signed reserved in
+    (g.W.MessageWrite.reserved c.args.writer) _ _ (server_wants_short s c.is_response-is_response.result page (g.W.MessageWrite.reserved c.args.writer)) c.add_signature.result c.add_signature.ensures signed reserved in
     absurd (true≢false (sym added ∙ ap is_ok c.in_err-add_signature.was))
 
 pub returns-clause-grows : goal.returns-clause-grows

@@ -1,11 +1,11 @@
 -- What is told of a message, and which of it nothing hides.
-use Rattle.std.proofs.Common.{◌≡◌, ℕ, ◌+◌, Bool, true, false, cond, Option, Some, None, List, [], ◌∷◌, ◌++◌, length, drop, refl, sym, ◌∙◌, ap}
+use Rattle.std.proofs.Common.{◌≡◌, ℕ, Bool, true, false, cond, Some, None, List, [], ◌∷◌, ◌++◌, drop, refl, sym, ap}
 use Rattle.std.specs.Prelude.{◌==◌, ◌&&◌, ◌||◌, not, is_none, map, filter}
 use Rattle.std.proofs.lemmas.List.{map-append}
-use Rattle.stun_base.specs.Attributes.{MESSAGE_INTEGRITY, MESSAGE_INTEGRITY_SHA256, FINGERPRINT}
+use Rattle.stun_base.specs.Attributes.{MESSAGE_INTEGRITY_SHA256, FINGERPRINT}
 use Rattle.stun_base.specs.declared.attribute_type.AttributeType.{AttributeType}
 use Rattle.stun_types.specs.Attribute.{TypedValue, first_attribute}
-use Rattle.stun_types.specs.Walk.{Member, walk, next_place}
+use Rattle.stun_types.specs.Walk.{Member, walk}
 use Rattle.stun_types.specs.Visible.{before, counts, counts_behind, visible}
 use Rattle.stun_types.specs.code.Visible.{HasPassed}
 use Rattle.stun_types.proofs.WalkLemmas.{before-step}

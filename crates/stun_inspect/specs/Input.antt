@@ -1,5 +1,5 @@
 -- Which bytes of an input are a message as they are.
-use Rattle.std.specs.Prelude.{ℕ, Bool, List, length, take, drop, nat_le, nat_lt, ◌==◌, ◌&&◌}
+use Rattle.std.specs.Prelude.{ℕ, Bool, List, length, drop, nat_le, nat_lt, ◌==◌, ◌&&◌}
 use Rattle.byteorder.specs.Endian.{big_number}
 
 -- the most bytes of an input

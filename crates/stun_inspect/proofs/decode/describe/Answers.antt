@@ -6,8 +6,7 @@ use Rattle.stun_inspect.proofs.decode.describe.Goals as goal
 
 pub returns : goal.returns
 returns g c =
-    let lines = string_bytes c.in_ok-lines.lines in
-    (
+    let lines = string_bytes c.in_ok-lines.lines in (
       string_bytes c.in_ok-text.text,
       lines,
       subst (λ told. AreLinesOn told lines) (c.as_slice.ensures.value ∙ c.in_ok-told.ensures.told) c.in_ok-lines.ensures,

@@ -36,7 +36,7 @@ returns-clause-told g c =
     let bytes = c.as_bytes-bytes.result.now in
     let front = before at.place (walk bytes) in
     let whole : front ≡ walk bytes =
-        sym (append-nil front) ∙ (ap (λ ms. front ++ ms) (sym (walk_from-end at.place bytes c.in_default.ensures.none)) ∙ at.invariant.passed.is_place) in
+    sym (append-nil front) ∙ (ap (λ ms. front ++ ms) (sym (walk_from-end at.place bytes c.in_default.ensures.none)) ∙ at.invariant.passed.is_place) in
     rw (sym c.as_bytes-bytes.ensures.bytes) (at.invariant.so_far ∙ ap (map (told_at (walk bytes))) whole)
 
 pub returns-clause-visible : goal.returns-clause-visible

@@ -9,7 +9,7 @@ use seplogic.Ra.Ura.{Ura}
 use Rattle.std_alloc.specs.Box.Ownership.{box_owns}
 use Rattle.std_heap.specs.declared.Global.{Global}
 use Rattle.std_heap.specs.contracts.GlobalAllocator.TheImpl.{ghosts}
-use Rattle.stun_state.specs.Handle.{handle_owns}
+use Rattle.stun_state.specs.Handle.{handle_owns, full_or_empty}
 use Rattle.stun_state.specs.contracts.handle.Loose as loose
 
 -- the flag and the pointer, side by side
@@ -41,7 +41,7 @@ module _ (R : RattleType) {M : Type 1} {𝓤 : Ura M} {𝓛 : Logic 𝓤} {K : T
       → ((g : Global) (b o : ℕ) (x : R.Denot) → full ≡ true → p ≡ block_ptr b o → state ≡ Some x → Seq K 𝓛 (‵ (box_owns (ghosts.dealloc_token g) R (block_ptr b o) x) ∷ Γ) G)
       → (full ≡ false → state ≡ None → Seq K 𝓛 Γ G)
       → Seq K 𝓛 (‵ (handle_owns R full p state) ∷ Γ) G
-  unfolding handle_owns
+  unfolding full_or_empty
   either t true p (Some x) filled empty =
       fpick t (λ g. in_a_block t p (λ q. box_owns (ghosts.dealloc_token g) R q x) (fst∗ 𝓤 (never 𝓤) (sem 𝓛 (ghosts.dealloc_token g (bare (lone R.mir)) null_ptr)))
       (λ b o at. filled g b o x refl at refl))

@@ -19,9 +19,9 @@ mod text;
 use address::Address;
 use agent::{Statistics, Timeouts};
 use codes::Refusal;
-use handle::agent::AgentHandle;
-use handle::client::ClientHandle;
-use handle::server::ServerHandle;
+use handle::agent::{Agent, AgentHandle};
+use handle::client::{Client, ClientHandle};
+use handle::server::{Server, ServerHandle};
 use std::alloc::Global;
 
 /// Fills a handle with an agent of a transport at a local address.
@@ -32,17 +32,17 @@ pub extern "C" fn stun_agent_new(
     transport: u32,
     local: &Address,
 ) -> i64 {
-    if let Some(agent) = handle.take(alloc) {
-        handle.put(alloc, agent);
+    if let Some(kept) = handle.take(alloc) {
+        handle.put(alloc, kept);
         return Refusal::FullHandle.code();
     }
     let agent = match agent::new(alloc, transport, local) {
         Ok(agent) => agent,
         Err(refusal) => return refusal.code(),
     };
-    match Box::new(alloc, agent) {
-        Ok(agent) => {
-            handle.put(alloc, agent);
+    match Box::new(alloc, Agent { agent }) {
+        Ok(kept) => {
+            handle.put(alloc, kept);
             0
         }
         Err(_) => Refusal::OutOfMemory.code(),
@@ -59,17 +59,17 @@ pub extern "C" fn stun_agent_new_with(
     remote: &Address,
     timeouts: &Timeouts,
 ) -> i64 {
-    if let Some(agent) = handle.take(alloc) {
-        handle.put(alloc, agent);
+    if let Some(kept) = handle.take(alloc) {
+        handle.put(alloc, kept);
         return Refusal::FullHandle.code();
     }
     let agent = match agent::new_with(alloc, transport, local, remote, timeouts) {
         Ok(agent) => agent,
         Err(refusal) => return refusal.code(),
     };
-    match Box::new(alloc, agent) {
-        Ok(agent) => {
-            handle.put(alloc, agent);
+    match Box::new(alloc, Agent { agent }) {
+        Ok(kept) => {
+            handle.put(alloc, kept);
             0
         }
         Err(_) => Refusal::OutOfMemory.code(),
@@ -87,11 +87,11 @@ pub extern "C" fn stun_agent_send_request(
 ) -> i64
     ensures empty { IfNone handle.old.agent (handle.new.agent ≡ None) }
 {
-    let Some(mut agent) = handle.take(alloc) else {
+    let Some(mut kept) = handle.take(alloc) else {
         return Refusal::EmptyHandle.code();
     };
-    let answer = answers::done(agent::send_request(&mut agent, message, to, now));
-    handle.put(alloc, agent);
+    let answer = answers::done(agent::send_request(&mut kept.agent, message, to, now));
+    handle.put(alloc, kept);
     answer
 }
 
@@ -105,11 +105,11 @@ pub extern "C" fn stun_agent_send(
 ) -> i64
     ensures empty { IfNone handle.old.agent (handle.new.agent ≡ None) }
 {
-    let Some(mut agent) = handle.take(alloc) else {
+    let Some(mut kept) = handle.take(alloc) else {
         return Refusal::EmptyHandle.code();
     };
-    let answer = answers::done(agent::send(&mut agent, message, to));
-    handle.put(alloc, agent);
+    let answer = answers::done(agent::send(&mut kept.agent, message, to));
+    handle.put(alloc, kept);
     answer
 }
 
@@ -124,11 +124,11 @@ pub extern "C" fn stun_agent_poll(
 ) -> i64
     ensures empty { IfNone handle.old.agent (handle.new.agent ≡ None) }
 {
-    let Some(mut agent) = handle.take(alloc) else {
+    let Some(mut kept) = handle.take(alloc) else {
         return Refusal::EmptyHandle.code();
     };
-    let answer = answers::number(agent::poll(&mut agent, now, until, id));
-    handle.put(alloc, agent);
+    let answer = answers::number(agent::poll(&mut kept.agent, now, until, id));
+    handle.put(alloc, kept);
     answer
 }
 
@@ -143,11 +143,11 @@ pub extern "C" fn stun_agent_poll_transmit(
 ) -> i64
     ensures empty { IfNone handle.old.agent (handle.new.agent ≡ None) }
 {
-    let Some(mut agent) = handle.take(alloc) else {
+    let Some(mut kept) = handle.take(alloc) else {
         return Refusal::EmptyHandle.code();
     };
-    let answer = answers::length(agent::poll_transmit(&mut agent, now, out, to));
-    handle.put(alloc, agent);
+    let answer = answers::length(agent::poll_transmit(&mut kept.agent, now, out, to));
+    handle.put(alloc, kept);
     answer
 }
 
@@ -162,11 +162,11 @@ pub extern "C" fn stun_agent_handle(
 ) -> i64
     ensures empty { IfNone handle.old.agent (handle.new.agent ≡ None) }
 {
-    let Some(mut agent) = handle.take(alloc) else {
+    let Some(mut kept) = handle.take(alloc) else {
         return Refusal::EmptyHandle.code();
     };
-    let answer = answers::number(agent::handle(&mut agent, message, from, now));
-    handle.put(alloc, agent);
+    let answer = answers::number(agent::handle(&mut kept.agent, message, from, now));
+    handle.put(alloc, kept);
     answer
 }
 
@@ -180,11 +180,11 @@ pub extern "C" fn stun_agent_is_outstanding(
 ) -> i64
     ensures empty { IfNone handle.old.agent (handle.new.agent ≡ None) }
 {
-    let Some(mut agent) = handle.take(alloc) else {
+    let Some(mut kept) = handle.take(alloc) else {
         return Refusal::EmptyHandle.code();
     };
-    let answer = answers::number(agent::is_outstanding(&agent, id, peer));
-    handle.put(alloc, agent);
+    let answer = answers::number(agent::is_outstanding(&kept.agent, id, peer));
+    handle.put(alloc, kept);
     answer
 }
 
@@ -197,11 +197,11 @@ pub extern "C" fn stun_agent_cancel(
 ) -> i64
     ensures empty { IfNone handle.old.agent (handle.new.agent ≡ None) }
 {
-    let Some(mut agent) = handle.take(alloc) else {
+    let Some(mut kept) = handle.take(alloc) else {
         return Refusal::EmptyHandle.code();
     };
-    let answer = answers::number(agent::cancel(&mut agent, id));
-    handle.put(alloc, agent);
+    let answer = answers::number(agent::cancel(&mut kept.agent, id));
+    handle.put(alloc, kept);
     answer
 }
 
@@ -214,11 +214,11 @@ pub extern "C" fn stun_agent_cancel_retransmissions(
 ) -> i64
     ensures empty { IfNone handle.old.agent (handle.new.agent ≡ None) }
 {
-    let Some(mut agent) = handle.take(alloc) else {
+    let Some(mut kept) = handle.take(alloc) else {
         return Refusal::EmptyHandle.code();
     };
-    let answer = answers::number(agent::cancel_retransmissions(&mut agent, id));
-    handle.put(alloc, agent);
+    let answer = answers::number(agent::cancel_retransmissions(&mut kept.agent, id));
+    handle.put(alloc, kept);
     answer
 }
 
@@ -232,11 +232,11 @@ pub extern "C" fn stun_agent_configure(
 ) -> i64
     ensures empty { IfNone handle.old.agent (handle.new.agent ≡ None) }
 {
-    let Some(mut agent) = handle.take(alloc) else {
+    let Some(mut kept) = handle.take(alloc) else {
         return Refusal::EmptyHandle.code();
     };
-    let answer = answers::number(agent::configure(&mut agent, id, timeouts));
-    handle.put(alloc, agent);
+    let answer = answers::number(agent::configure(&mut kept.agent, id, timeouts));
+    handle.put(alloc, kept);
     answer
 }
 
@@ -249,11 +249,11 @@ pub extern "C" fn stun_agent_statistics(
 ) -> i64
     ensures empty { IfNone handle.old.agent (handle.new.agent ≡ None) }
 {
-    let Some(mut agent) = handle.take(alloc) else {
+    let Some(mut kept) = handle.take(alloc) else {
         return Refusal::EmptyHandle.code();
     };
-    agent::tell_statistics(&agent, statistics);
-    handle.put(alloc, agent);
+    agent::tell_statistics(&kept.agent, statistics);
+    handle.put(alloc, kept);
     0
 }
 
@@ -272,17 +272,17 @@ pub extern "C" fn stun_server_new(
     handle: &mut ServerHandle,
     realm: &[u8],
 ) -> i64 {
-    if let Some(server) = handle.take(alloc) {
-        handle.put(alloc, server);
+    if let Some(kept) = handle.take(alloc) {
+        handle.put(alloc, kept);
         return Refusal::FullHandle.code();
     }
     let server = match server::new(alloc, realm) {
         Ok(server) => server,
         Err(refusal) => return refusal.code(),
     };
-    match Box::new(alloc, server) {
-        Ok(server) => {
-            handle.put(alloc, server);
+    match Box::new(alloc, Server { server }) {
+        Ok(kept) => {
+            handle.put(alloc, kept);
             0
         }
         Err(_) => Refusal::OutOfMemory.code(),
@@ -298,11 +298,11 @@ pub extern "C" fn stun_server_set_algorithms(
 ) -> i64
     ensures empty { IfNone handle.old.server (handle.new.server ≡ None) }
 {
-    let Some(mut server) = handle.take(alloc) else {
+    let Some(mut kept) = handle.take(alloc) else {
         return Refusal::EmptyHandle.code();
     };
-    let answer = answers::done(server::set_algorithms(&mut server, algorithms));
-    handle.put(alloc, server);
+    let answer = answers::done(server::set_algorithms(&mut kept.server, algorithms));
+    handle.put(alloc, kept);
     answer
 }
 
@@ -315,11 +315,11 @@ pub extern "C" fn stun_server_set_anonymous_username(
 ) -> i64
     ensures empty { IfNone handle.old.server (handle.new.server ≡ None) }
 {
-    let Some(mut server) = handle.take(alloc) else {
+    let Some(mut kept) = handle.take(alloc) else {
         return Refusal::EmptyHandle.code();
     };
-    let answer = answers::done(server::set_anonymous_username(&mut server, feature));
-    handle.put(alloc, server);
+    let answer = answers::done(server::set_anonymous_username(&mut kept.server, feature));
+    handle.put(alloc, kept);
     answer
 }
 
@@ -332,11 +332,11 @@ pub extern "C" fn stun_server_set_nonce_expiry(
 ) -> i64
     ensures empty { IfNone handle.old.server (handle.new.server ≡ None) }
 {
-    let Some(mut server) = handle.take(alloc) else {
+    let Some(mut kept) = handle.take(alloc) else {
         return Refusal::EmptyHandle.code();
     };
-    server::set_nonce_expiry(&mut server, nanoseconds);
-    handle.put(alloc, server);
+    server::set_nonce_expiry(&mut kept.server, nanoseconds);
+    handle.put(alloc, kept);
     0
 }
 
@@ -350,11 +350,11 @@ pub extern "C" fn stun_server_add_user(
 ) -> i64
     ensures empty { IfNone handle.old.server (handle.new.server ≡ None) }
 {
-    let Some(mut server) = handle.take(alloc) else {
+    let Some(mut kept) = handle.take(alloc) else {
         return Refusal::EmptyHandle.code();
     };
-    let answer = answers::done(server::add_user(alloc, &mut server, name, password));
-    handle.put(alloc, server);
+    let answer = answers::done(server::add_user(alloc, &mut kept.server, name, password));
+    handle.put(alloc, kept);
     answer
 }
 
@@ -367,11 +367,11 @@ pub extern "C" fn stun_server_remove_user(
 ) -> i64
     ensures empty { IfNone handle.old.server (handle.new.server ≡ None) }
 {
-    let Some(mut server) = handle.take(alloc) else {
+    let Some(mut kept) = handle.take(alloc) else {
         return Refusal::EmptyHandle.code();
     };
-    let answer = answers::done(server::remove_user(&mut server, name));
-    handle.put(alloc, server);
+    let answer = answers::done(server::remove_user(&mut kept.server, name));
+    handle.put(alloc, kept);
     answer
 }
 
@@ -384,11 +384,11 @@ pub extern "C" fn stun_server_remove_client(
 ) -> i64
     ensures empty { IfNone handle.old.server (handle.new.server ≡ None) }
 {
-    let Some(mut server) = handle.take(alloc) else {
+    let Some(mut kept) = handle.take(alloc) else {
         return Refusal::EmptyHandle.code();
     };
-    let answer = answers::done(server::remove_client(&mut server, at));
-    handle.put(alloc, server);
+    let answer = answers::done(server::remove_client(&mut kept.server, at));
+    handle.put(alloc, kept);
     answer
 }
 
@@ -401,11 +401,11 @@ pub extern "C" fn stun_server_forget_expired(
 ) -> i64
     ensures empty { IfNone handle.old.server (handle.new.server ≡ None) }
 {
-    let Some(mut server) = handle.take(alloc) else {
+    let Some(mut kept) = handle.take(alloc) else {
         return Refusal::EmptyHandle.code();
     };
-    server::forget_expired(&mut server, now);
-    handle.put(alloc, server);
+    server::forget_expired(&mut kept.server, now);
+    handle.put(alloc, kept);
     0
 }
 
@@ -420,11 +420,11 @@ pub extern "C" fn stun_server_client(
 ) -> i64
     ensures empty { IfNone handle.old.server (handle.new.server ≡ None) }
 {
-    let Some(mut server) = handle.take(alloc) else {
+    let Some(mut kept) = handle.take(alloc) else {
         return Refusal::EmptyHandle.code();
     };
-    let answer = answers::client(server::client(&server, at, name), name_length);
-    handle.put(alloc, server);
+    let answer = answers::client(server::client(&kept.server, at, name), name_length);
+    handle.put(alloc, kept);
     answer
 }
 
@@ -440,11 +440,11 @@ pub extern "C" fn stun_server_validate(
 ) -> i64
     ensures empty { IfNone handle.old.server (handle.new.server ≡ None) }
 {
-    let Some(mut server) = handle.take(alloc) else {
+    let Some(mut kept) = handle.take(alloc) else {
         return Refusal::EmptyHandle.code();
     };
-    let answer = answers::algorithm(server::validate(&mut server, message, from, now, words));
-    handle.put(alloc, server);
+    let answer = answers::algorithm(server::validate(&mut kept.server, message, from, now, words));
+    handle.put(alloc, kept);
     answer
 }
 
@@ -459,11 +459,11 @@ pub extern "C" fn stun_server_sign(
 ) -> i64
     ensures empty { IfNone handle.old.server (handle.new.server ≡ None) }
 {
-    let Some(mut server) = handle.take(alloc) else {
+    let Some(mut kept) = handle.take(alloc) else {
         return Refusal::EmptyHandle.code();
     };
-    let answer = answers::length(server::sign(alloc, &mut server, buffer, length, to));
-    handle.put(alloc, server);
+    let answer = answers::length(server::sign(alloc, &mut kept.server, buffer, length, to));
+    handle.put(alloc, kept);
     answer
 }
 
@@ -481,14 +481,14 @@ pub extern "C" fn stun_client_new(
     alloc: Global,
     handle: &mut ClientHandle,
 ) -> i64 {
-    if let Some(client) = handle.take(alloc) {
-        handle.put(alloc, client);
+    if let Some(kept) = handle.take(alloc) {
+        handle.put(alloc, kept);
         return Refusal::FullHandle.code();
     }
     let client = client::new(alloc);
-    match Box::new(alloc, client) {
-        Ok(client) => {
-            handle.put(alloc, client);
+    match Box::new(alloc, Client { client }) {
+        Ok(kept) => {
+            handle.put(alloc, kept);
             0
         }
         Err(_) => Refusal::OutOfMemory.code(),
@@ -505,11 +505,11 @@ pub extern "C" fn stun_client_set_credentials(
 ) -> i64
     ensures empty { IfNone handle.old.client (handle.new.client ≡ None) }
 {
-    let Some(mut client) = handle.take(alloc) else {
+    let Some(mut kept) = handle.take(alloc) else {
         return Refusal::EmptyHandle.code();
     };
-    let answer = answers::done(client::set_credentials(alloc, &mut client, name, password));
-    handle.put(alloc, client);
+    let answer = answers::done(client::set_credentials(alloc, &mut kept.client, name, password));
+    handle.put(alloc, kept);
     answer
 }
 
@@ -522,11 +522,11 @@ pub extern "C" fn stun_client_set_algorithms(
 ) -> i64
     ensures empty { IfNone handle.old.client (handle.new.client ≡ None) }
 {
-    let Some(mut client) = handle.take(alloc) else {
+    let Some(mut kept) = handle.take(alloc) else {
         return Refusal::EmptyHandle.code();
     };
-    let answer = answers::done(client::set_algorithms(&mut client, algorithms));
-    handle.put(alloc, client);
+    let answer = answers::done(client::set_algorithms(&mut kept.client, algorithms));
+    handle.put(alloc, kept);
     answer
 }
 
@@ -539,11 +539,11 @@ pub extern "C" fn stun_client_set_anonymous_username(
 ) -> i64
     ensures empty { IfNone handle.old.client (handle.new.client ≡ None) }
 {
-    let Some(mut client) = handle.take(alloc) else {
+    let Some(mut kept) = handle.take(alloc) else {
         return Refusal::EmptyHandle.code();
     };
-    let answer = answers::done(client::set_anonymous_username(&mut client, feature));
-    handle.put(alloc, client);
+    let answer = answers::done(client::set_anonymous_username(&mut kept.client, feature));
+    handle.put(alloc, kept);
     answer
 }
 
@@ -557,11 +557,11 @@ pub extern "C" fn stun_client_sign(
 ) -> i64
     ensures empty { IfNone handle.old.client (handle.new.client ≡ None) }
 {
-    let Some(mut client) = handle.take(alloc) else {
+    let Some(mut kept) = handle.take(alloc) else {
         return Refusal::EmptyHandle.code();
     };
-    let answer = answers::length(client::sign(alloc, &mut client, buffer, length));
-    handle.put(alloc, client);
+    let answer = answers::length(client::sign(alloc, &mut kept.client, buffer, length));
+    handle.put(alloc, kept);
     answer
 }
 
@@ -574,11 +574,11 @@ pub extern "C" fn stun_client_validate(
 ) -> i64
     ensures empty { IfNone handle.old.client (handle.new.client ≡ None) }
 {
-    let Some(mut client) = handle.take(alloc) else {
+    let Some(mut kept) = handle.take(alloc) else {
         return Refusal::EmptyHandle.code();
     };
-    let answer = answers::reading(client::validate(&mut client, message));
-    handle.put(alloc, client);
+    let answer = answers::reading(client::validate(&mut kept.client, message));
+    handle.put(alloc, kept);
     answer
 }
 

@@ -1,6 +1,6 @@
 //! The handle of an agent.
 ghost use Rattle.std.specs.Prelude.{◌≡◌, Some, None, Option, IfSome, IfNone};
-ghost use Rattle.stun_agent.specs.Agent.{Agent};
+ghost use Rattle.stun_state.specs.declared.handle.agent.Agent.{Agent};
 ghost use Rattle.stun_state.specs.Handle.{handle_owns, agent_row, agent_coded};
 
 use super::Loose;
@@ -8,6 +8,12 @@ use std::alloc::Global;
 use std::marker::Model;
 use std::mem::replace;
 use stun_agent::agent::StunAgent;
+
+/// An agent of the heap.
+#[derive(Drop)]
+pub struct Agent {
+    pub agent: StunAgent<Global>,
+}
 
 /// What a caller keeps of an agent: all zero where it is empty, and else what `put` wrote.
 #[repr(C)]
@@ -22,7 +28,7 @@ impl Model for AgentHandle {
 }
 
 impl AgentHandle {
-    fn of_loose(loose: Loose<StunAgent<Global>>) -> AgentHandle
+    fn of_loose(loose: Loose<Agent>) -> AgentHandle
         ensures { result.agent ≡ loose.state }
     {
         let Loose { is_full, at } = loose;
@@ -30,16 +36,16 @@ impl AgentHandle {
         AgentHandle { is_full, at }
     }
 
-    fn into_loose(self) -> Loose<StunAgent<Global>>
+    fn into_loose(self) -> Loose<Agent>
         ensures { result.state ≡ self.agent }
     {
         let AgentHandle { is_full, at } = self;
-        let at = at as *mut StunAgent<Global>;
+        let at = at as *mut Agent;
         Loose { is_full, at }
     }
 
     /// Takes the agent out, if there is one, and leaves the handle empty.
-    pub fn take(&mut self, alloc: Global) -> Option<Box<StunAgent<Global>, Global>>
+    pub fn take(&mut self, alloc: Global) -> Option<Box<Agent, Global>>
         ensures some { IfSome result (λ agent. self.old.agent ≡ Some agent.value) }
         ensures none { IfNone result (self.old.agent ≡ None) }
         ensures empty { self.new.agent ≡ None }
@@ -49,7 +55,7 @@ impl AgentHandle {
     }
 
     /// Puts an agent into an empty handle.
-    pub fn put(&mut self, alloc: Global, agent: Box<StunAgent<Global>, Global>)
+    pub fn put(&mut self, alloc: Global, agent: Box<Agent, Global>)
         requires { self.old.agent ≡ None }
         ensures { self.new.agent ≡ Some agent.value }
     {

@@ -1,6 +1,6 @@
 //! The handle of a client.
 ghost use Rattle.std.specs.Prelude.{◌≡◌, Some, None, Option, IfSome, IfNone};
-ghost use Rattle.stun_auth.specs.Client.{ClientSide};
+ghost use Rattle.stun_state.specs.declared.handle.client.Client.{Client};
 ghost use Rattle.stun_state.specs.Handle.{handle_owns, client_row, client_coded};
 
 use super::Loose;
@@ -9,12 +9,18 @@ use std::marker::Model;
 use std::mem::replace;
 use stun_auth::auth::LongTermClientAuth;
 
+/// A client of the heap.
+#[derive(Drop)]
+pub struct Client {
+    pub client: LongTermClientAuth<Global>,
+}
+
 /// What a caller keeps of a client: all zero where it is empty, and else what `put` wrote.
 #[repr(C)]
 pub struct ClientHandle {
     is_full: bool,
     at: *mut u8,
-    pub ghost client: { Option ClientSide } by { client_coded },
+    pub ghost client: { Option Client } by { client_coded },
 }
 
 impl Model for ClientHandle {
@@ -22,7 +28,7 @@ impl Model for ClientHandle {
 }
 
 impl ClientHandle {
-    fn of_loose(loose: Loose<LongTermClientAuth<Global>>) -> ClientHandle
+    fn of_loose(loose: Loose<Client>) -> ClientHandle
         ensures { result.client ≡ loose.state }
     {
         let Loose { is_full, at } = loose;
@@ -30,16 +36,16 @@ impl ClientHandle {
         ClientHandle { is_full, at }
     }
 
-    fn into_loose(self) -> Loose<LongTermClientAuth<Global>>
+    fn into_loose(self) -> Loose<Client>
         ensures { result.state ≡ self.client }
     {
         let ClientHandle { is_full, at } = self;
-        let at = at as *mut LongTermClientAuth<Global>;
+        let at = at as *mut Client;
         Loose { is_full, at }
     }
 
     /// Takes the client out, if there is one, and leaves the handle empty.
-    pub fn take(&mut self, alloc: Global) -> Option<Box<LongTermClientAuth<Global>, Global>>
+    pub fn take(&mut self, alloc: Global) -> Option<Box<Client, Global>>
         ensures some { IfSome result (λ client. self.old.client ≡ Some client.value) }
         ensures none { IfNone result (self.old.client ≡ None) }
         ensures empty { self.new.client ≡ None }
@@ -49,7 +55,7 @@ impl ClientHandle {
     }
 
     /// Puts a client into an empty handle.
-    pub fn put(&mut self, alloc: Global, client: Box<LongTermClientAuth<Global>, Global>)
+    pub fn put(&mut self, alloc: Global, client: Box<Client, Global>)
         requires { self.old.client ≡ None }
         ensures { self.new.client ≡ Some client.value }
     {

@@ -1,6 +1,6 @@
 //! The handle of a server.
 ghost use Rattle.std.specs.Prelude.{◌≡◌, Some, None, Option, IfSome, IfNone};
-ghost use Rattle.stun_auth.specs.Validation.{ServerSeen};
+ghost use Rattle.stun_state.specs.declared.handle.server.Server.{Server};
 ghost use Rattle.stun_state.specs.Handle.{handle_owns, server_row, server_coded};
 
 use super::Loose;
@@ -9,12 +9,18 @@ use std::marker::Model;
 use std::mem::replace;
 use stun_auth::auth::LongTermServerAuth;
 
+/// A server of the heap.
+#[derive(Drop)]
+pub struct Server {
+    pub server: LongTermServerAuth<Global>,
+}
+
 /// What a caller keeps of a server: all zero where it is empty, and else what `put` wrote.
 #[repr(C)]
 pub struct ServerHandle {
     is_full: bool,
     at: *mut u8,
-    pub ghost server: { Option ServerSeen } by { server_coded },
+    pub ghost server: { Option Server } by { server_coded },
 }
 
 impl Model for ServerHandle {
@@ -22,7 +28,7 @@ impl Model for ServerHandle {
 }
 
 impl ServerHandle {
-    fn of_loose(loose: Loose<LongTermServerAuth<Global>>) -> ServerHandle
+    fn of_loose(loose: Loose<Server>) -> ServerHandle
         ensures { result.server ≡ loose.state }
     {
         let Loose { is_full, at } = loose;
@@ -30,16 +36,16 @@ impl ServerHandle {
         ServerHandle { is_full, at }
     }
 
-    fn into_loose(self) -> Loose<LongTermServerAuth<Global>>
+    fn into_loose(self) -> Loose<Server>
         ensures { result.state ≡ self.server }
     {
         let ServerHandle { is_full, at } = self;
-        let at = at as *mut LongTermServerAuth<Global>;
+        let at = at as *mut Server;
         Loose { is_full, at }
     }
 
     /// Takes the server out, if there is one, and leaves the handle empty.
-    pub fn take(&mut self, alloc: Global) -> Option<Box<LongTermServerAuth<Global>, Global>>
+    pub fn take(&mut self, alloc: Global) -> Option<Box<Server, Global>>
         ensures some { IfSome result (λ server. self.old.server ≡ Some server.value) }
         ensures none { IfNone result (self.old.server ≡ None) }
         ensures empty { self.new.server ≡ None }
@@ -49,7 +55,7 @@ impl ServerHandle {
     }
 
     /// Puts a server into an empty handle.
-    pub fn put(&mut self, alloc: Global, server: Box<LongTermServerAuth<Global>, Global>)
+    pub fn put(&mut self, alloc: Global, server: Box<Server, Global>)
         requires { self.old.server ≡ None }
         ensures { self.new.server ≡ Some server.value }
     {

@@ -1,14 +1,14 @@
 -- No box: the flag and the pointer are zero, and nothing is owned.
 use Rattle.stun_state.proofs.Steps.{◌≡◌, [], ◌∷◌, refl, lit<, proved_at, leaves, emp, id⊢, fact, fact_i, tables, a_type, inst_fn, Val, ‵, raw, ◌⊛◌, ◌$◌, ◌∵◌, !, qed, by, keep, use0, use1, split, agg, enter, lit, false_lit, no_more, and_then, returns, alloc_all, pass_all, free_all, look_at, sets, env, param, layouts, RattleType, owns, null_ptr, types_at, type_at, nothing, alive, Stays, false, None}
 use Rattle.stun_state.proofs.Words.{word, closed}
-use Rattle.stun_state.specs.Handle.{handle_owns}
+use Rattle.stun_state.specs.Handle.{handle_owns, full_or_empty}
 use Rattle.stun_state.specs.contracts.handle.Loose.none.{ended, clauses}
 use Rattle.stun_state.specs.contracts.handle.Loose.none.Key.{name as #self}
 use Rattle.stun_state.proofs.handle.Loose.none.Statement.{statement}
 use Rattle.stun_state.proofs.handle.Loose.none.Code as code
 
 pub none_spec : {M : Type 1} → statement M
-unfolding handle_owns
+unfolding full_or_empty
 none_spec 𝓤 𝓛 𝓜 𝓡 wired T L =
     let H = 𝓛.H in let 𝓣 = tables 𝓤 H 𝓜 𝓡 𝓡.env in let R : RattleType = param 0 T in let En = ended T in let c = clauses T 𝓛 𝓜.mem 𝓡.returns in
     let inst = layouts (a_type ∷ []) (T, tt) in let fn = inst_fn inst code.function in let hs : Stays En.signature.params En.kept = tt in

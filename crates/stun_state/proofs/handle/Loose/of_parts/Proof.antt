@@ -7,7 +7,7 @@ use Rattle.std_heap.specs.declared.Global.{Global}
 use Rattle.std_heap.specs.contracts.GlobalAllocator.TheImpl.{ghosts}
 use Rattle.stun_state.proofs.AsBox.{as_box, Heap}
 use Rattle.stun_state.proofs.Words.{word, closed}
-use Rattle.stun_state.specs.Handle.{handle_owns}
+use Rattle.stun_state.specs.Handle.{handle_owns, full_or_empty}
 use Rattle.stun_state.specs.contracts.handle.parts.Parts as parts
 use Rattle.stun_state.specs.contracts.handle.Loose.of_parts.{ended, clauses}
 use Rattle.stun_state.specs.contracts.handle.Loose.of_parts.Key.{name as #self}
@@ -15,7 +15,7 @@ use Rattle.stun_state.proofs.handle.Loose.of_parts.Statement.{statement}
 use Rattle.stun_state.proofs.handle.Loose.of_parts.Code as code
 
 pub of_parts_spec : {M : Type 1} → statement M
-unfolding handle_owns
+unfolding full_or_empty
 of_parts_spec 𝓤 𝓛 𝓜 𝓡 wired T L =
     let H = 𝓛.H in let 𝓣 = tables 𝓤 H 𝓜 𝓡 𝓡.env in let R : RattleType = param 0 T in let En = ended T in let c = clauses T 𝓛 𝓜.mem 𝓡.returns in
     let inst = layouts (a_type ∷ []) (T, tt) in let fn = inst_fn inst code.function in let E = as_box T L in let From : RattleType = parts.the_row R Heap ghosts in

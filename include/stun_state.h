@@ -91,8 +91,8 @@ typedef struct {
  * STUN_TRUNCATED, STUN_NOT_STUN and STUN_TOO_LARGE of a message that is passed are those of stun_parse. An id of another
  * length than 12 is refused as STUN_BAD_ARGUMENT. */
 
-/* Fills a handle with an agent of a transport at a local address, with the time-outs of section 6.2.1: 500 ms, doubled up
- * to 8 s between two, 7 transmissions, and 8 s at the end; over TCP 39.5 s.
+/* Fills a handle with an agent of a transport at a local address, with the time-outs of section 6.2.1: 500 ms, then
+ * twice as long each time, 7 transmissions, and 8 s at the end; over TCP 39.5 s.
  *
  * Answers 0, or refuses: STUN_FULL_HANDLE, STUN_BAD_ARGUMENT (transport or address), STUN_OUT_OF_MEMORY. */
 int64_t stun_agent_new(stun_agent *agent, uint32_t transport, const stun_address *local);

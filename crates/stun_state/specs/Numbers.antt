@@ -1,5 +1,5 @@
 -- The numbers that calls answer.
-use Rattle.std.specs.Prelude.{ℕ, ℤ, pos, Result, Ok, Err}
+use Rattle.std.specs.Prelude.{ℕ, ℤ, pos, min, Result, Ok, Err}
 use Rattle.stun_auth.specs.declared.client_answer.LongTermClientValidation.{LongTermClientValidation}
 use Rattle.stun_auth.specs.declared.client_answer.LongTermClientValidation.TheVariants.{Validated, ResendRequest}
 use Rattle.stun_base.specs.declared.algorithm.IntegrityAlgorithm.{IntegrityAlgorithm}
@@ -15,6 +15,11 @@ done_answer (Err refusal) = code_of refusal
 abbrev pub number_answer : Result ℕ Refusal → ℤ
 number_answer (Ok number) = pos number
 number_answer (Err refusal) = code_of refusal
+
+-- how many bytes there are, which is below 2^63 of any buffer, or the refusal's number
+abbrev pub length_answer : Result ℕ Refusal → ℤ
+length_answer (Ok length) = pos (min length 9223372036854775807)
+length_answer (Err refusal) = code_of refusal
 
 -- the algorithm's number, or the refusal's
 abbrev pub algorithm_answer : Result IntegrityAlgorithm Refusal → ℤ

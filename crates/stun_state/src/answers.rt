@@ -1,7 +1,7 @@
 //! The numbers that calls answer.
 
-ghost use Rattle.std.specs.Prelude.{◌≡◌, ◌<◌, ◌^◌, IfOk};
-ghost use Rattle.stun_state.specs.Numbers.{algorithm_answer, done_answer, number_answer, reading_answer};
+ghost use Rattle.std.specs.Prelude.{◌≡◌};
+ghost use Rattle.stun_state.specs.Numbers.{algorithm_answer, done_answer, length_answer, number_answer, reading_answer};
 
 use crate::codes::{Refusal, algorithm_number};
 use crate::server::Validated;
@@ -10,6 +10,9 @@ use stun_base::algorithm::IntegrityAlgorithm;
 
 /// The number of a response that asks for another request.
 const RESEND: i64 = 3;
+
+/// The greatest number that a call answers.
+const MOST: usize = 9_223_372_036_854_775_807;
 
 /// 0, or the refusal.
 pub fn done(answer: Result<(), Refusal>) -> i64
@@ -54,11 +57,10 @@ pub fn reading(answer: Result<LongTermClientValidation, Refusal>) -> i64
 
 /// How many bytes were written, or the refusal.
 pub fn length(answer: Result<usize, Refusal>) -> i64
-    requires { IfOk answer (λ length. length < 2 ^ 63) }
-    ensures { result ≡ number_answer answer }
+    ensures { result ≡ length_answer answer }
 {
     match answer {
-        Ok(length) => length as i64,
+        Ok(length) => length.min(MOST) as i64,
         Err(refusal) => refusal.code(),
     }
 }

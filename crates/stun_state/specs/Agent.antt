@@ -1,14 +1,10 @@
 -- What the calls on an agent answer and leave.
-use Rattle.std.specs.Prelude.{ℕ, ◌==◌, if◌then◌else◌, true, Option, Some, None}
-use Rattle.std.specs.declared.net.socket_addr.SocketAddr.{SocketAddr}
-use Rattle.stun_agent.specs.Agent.{Agent, new_agent, statistics_if}
-use Rattle.stun_agent.specs.Timing.{Settings}
+use Rattle.std.specs.Prelude.{ℕ, ◌==◌, if◌then◌else◌, Option, Some, None}
 use Rattle.stun_agent.specs.declared.error.StunError.{StunError}
 use Rattle.stun_agent.specs.declared.error.StunError.TheVariants as Error
 use Rattle.stun_base.specs.declared.transport.TransportType.{TransportType}
 use Rattle.stun_base.specs.declared.transport.TransportType.TheVariants.{Udp, Tcp}
 use Rattle.stun_state.specs.Codes.{refusal_of_parse}
-use Rattle.stun_state.specs.declared.agent.Timeouts.{Timeouts}
 use Rattle.stun_state.specs.declared.codes.Refusal.{Refusal}
 use Rattle.stun_state.specs.declared.codes.Refusal.TheVariants.{AlreadyInProgress, ProtocolViolation, OutOfMemory}
 
@@ -26,15 +22,3 @@ refusal_of_agent (Error.WriteError _) = ProtocolViolation
 -- the transport of a number, if it has one
 abbrev pub transport_numbered : ℕ → Option TransportType
 transport_numbered number = if number == 0 then Some Udp else if number == 1 then Some Tcp else None
-
--- an agent that has sent nothing and counts
-abbrev pub counting_agent : TransportType → SocketAddr → Agent
-counting_agent transport local = record (new_agent transport local) { statistics = statistics_if true }
-
--- the settings that a caller means
-abbrev pub settings_of_timeouts : Timeouts → Settings
-settings_of_timeouts t = record { initial = t.initial; maximum = t.longest; transmissions = t.transmissions; last_wait = t.last }
-
--- an agent with settings of its own
-abbrev pub with_settings : Settings → Agent → Agent
-with_settings settings agent = record agent { settings = settings }

@@ -1,9 +1,9 @@
 //! What the exports do with an agent (RFC 8489, section 6.2).
 
 ghost use Rattle.std.specs.Prelude.{◌≡◌, ◌≤◌, ⊤, length, Some, None, Ok, Err, IfOk, IfErr, IfNone, IfSome, OnErr, OnOk};
-ghost use Rattle.stun_agent.specs.Agent.{after_message, after_poll, after_poll_transmit, after_send, after_send_request};
+ghost use Rattle.stun_agent.specs.Agent.{after_message, after_poll, after_send, after_send_request};
 ghost use Rattle.stun_state.specs.Addresses.{socket_address};
-ghost use Rattle.stun_state.specs.Agent.{counting_agent, refusal_of_agent, settings_of_timeouts, transport_numbered, with_settings};
+ghost use Rattle.stun_state.specs.Agent.{refusal_of_agent, transport_numbered};
 
 use crate::address::Address;
 use crate::codes::Refusal;
@@ -95,7 +95,11 @@ fn id_of(bytes: &[u8]) -> Result<TransactionId, Refusal> {
 pub fn new(alloc: Global, transport: u32, local: &Address) -> Result<StunAgent<Global>, Refusal> {
     let transport = transport_numbered(transport)?;
     let local = local.socket()?;
-    Ok(StunAgent::builder(alloc, transport, local).stats(true).build())
+    Ok(
+        StunAgent::builder(alloc, transport, local)
+            .stats(true)
+            .build(),
+    )
 }
 
 /// The same with other time-outs, and with a remote address where its length is not 0.

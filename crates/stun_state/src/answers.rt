@@ -49,7 +49,9 @@ pub fn reading(answer: Result<LongTermClientValidation, Refusal>) -> i64
     ensures { result ≡ reading_answer answer }
 {
     match answer {
-        Ok(LongTermClientValidation::Validated(algorithm)) => i64::from(algorithm_number(algorithm)),
+        Ok(LongTermClientValidation::Validated(algorithm)) => i64::from(algorithm_number(
+            algorithm,
+        )),
         Ok(LongTermClientValidation::ResendRequest(_)) => RESEND,
         Err(refusal) => refusal.code(),
     }

@@ -190,11 +190,7 @@ pub extern "C" fn stun_agent_is_outstanding(
 
 /// Cancels the request of an id.
 #[unsafe(no_mangle)]
-pub extern "C" fn stun_agent_cancel(
-    alloc: Global,
-    handle: &mut AgentHandle,
-    id: &[u8],
-) -> i64
+pub extern "C" fn stun_agent_cancel(alloc: Global, handle: &mut AgentHandle, id: &[u8]) -> i64
     ensures empty { IfNone handle.old.agent (handle.new.agent ≡ None) }
 {
     let Some(mut kept) = handle.take(alloc) else {
@@ -267,11 +263,7 @@ pub extern "C" fn stun_agent_free(alloc: Global, handle: &mut AgentHandle)
 
 /// Fills a handle with a server of a realm.
 #[unsafe(no_mangle)]
-pub extern "C" fn stun_server_new(
-    alloc: Global,
-    handle: &mut ServerHandle,
-    realm: &[u8],
-) -> i64 {
+pub extern "C" fn stun_server_new(alloc: Global, handle: &mut ServerHandle, realm: &[u8]) -> i64 {
     if let Some(kept) = handle.take(alloc) {
         handle.put(alloc, kept);
         return Refusal::FullHandle.code();
@@ -477,10 +469,7 @@ pub extern "C" fn stun_server_free(alloc: Global, handle: &mut ServerHandle)
 
 /// Fills a handle with a client without credentials.
 #[unsafe(no_mangle)]
-pub extern "C" fn stun_client_new(
-    alloc: Global,
-    handle: &mut ClientHandle,
-) -> i64 {
+pub extern "C" fn stun_client_new(alloc: Global, handle: &mut ClientHandle) -> i64 {
     if let Some(kept) = handle.take(alloc) {
         handle.put(alloc, kept);
         return Refusal::FullHandle.code();

@@ -9,7 +9,7 @@ use seplogic.Ra.Ura.{Ura}
 use Rattle.std_alloc.specs.Box.Ownership.{box_owns}
 use Rattle.std_heap.specs.declared.Global.{Global}
 use Rattle.std_heap.specs.contracts.GlobalAllocator.TheImpl.{ghosts}
-use Rattle.stun_state.specs.Handle.{handle_owns, full_or_empty}
+use Rattle.stun_state.specs.code.Handle.{handle_owns, full_or_empty}
 use Rattle.stun_state.specs.contracts.handle.Loose as loose
 
 -- the flag and the pointer, side by side

@@ -1,7 +1,5 @@
 -- What the contracts of this crate say, in the order to read it.
 
--- what a handle owns
-pub mod Handle
 -- the numbers that callers get and give
 pub mod Codes
 -- the addresses that callers give and get
@@ -18,3 +16,5 @@ pub mod Server
 pub mod Signing
 -- what the calls on a client answer and leave
 pub mod Client
+-- what no clause of a public call says: what private functions alone cite
+pub mod code

@@ -54,7 +54,7 @@ pub struct Statistics {
 }
 
 /// The refusal for an agent's error. An agent answers none of the last four.
-fn refusal_of(error: StunError) -> Refusal
+pub fn refusal_of(error: StunError) -> Refusal
     ensures { result ≡ refusal_of_agent error }
 {
     match error {
@@ -70,7 +70,7 @@ fn refusal_of(error: StunError) -> Refusal
 }
 
 /// The transport of a number, or `BadArgument`.
-fn transport_numbered(number: u32) -> Result<TransportType, Refusal>
+pub fn transport_numbered(number: u32) -> Result<TransportType, Refusal>
     ensures ok { IfOk result (λ transport. transport_numbered number ≡ Some transport) }
     ensures err { IfErr result (λ refusal. (transport_numbered number ≡ None) × (refusal ≡ Refusal.BadArgument)) }
 {

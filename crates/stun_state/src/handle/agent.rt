@@ -1,7 +1,7 @@
 //! The handle of an agent.
 ghost use Rattle.std.specs.Prelude.{◌≡◌, Some, None, Option, IfSome, IfNone};
 ghost use Rattle.stun_state.specs.declared.handle.agent.Agent.{Agent};
-ghost use Rattle.stun_state.specs.Handle.{handle_owns, agent_row, agent_coded};
+ghost use Rattle.stun_state.specs.code.Handle.{handle_owns, agent_row, agent_coded};
 
 use super::Loose;
 use std::alloc::Global;

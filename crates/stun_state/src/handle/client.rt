@@ -1,7 +1,7 @@
 //! The handle of a client.
 ghost use Rattle.std.specs.Prelude.{◌≡◌, Some, None, Option, IfSome, IfNone};
 ghost use Rattle.stun_state.specs.declared.handle.client.Client.{Client};
-ghost use Rattle.stun_state.specs.Handle.{handle_owns, client_row, client_coded};
+ghost use Rattle.stun_state.specs.code.Handle.{handle_owns, client_row, client_coded};
 
 use super::Loose;
 use std::alloc::Global;

@@ -1,7 +1,7 @@
 //! The handle of a server.
 ghost use Rattle.std.specs.Prelude.{◌≡◌, Some, None, Option, IfSome, IfNone};
 ghost use Rattle.stun_state.specs.declared.handle.server.Server.{Server};
-ghost use Rattle.stun_state.specs.Handle.{handle_owns, server_row, server_coded};
+ghost use Rattle.stun_state.specs.code.Handle.{handle_owns, server_row, server_coded};
 
 use super::Loose;
 use std::alloc::Global;

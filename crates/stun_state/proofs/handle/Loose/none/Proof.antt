@@ -1,7 +1,7 @@
 -- No box: the flag and the pointer are zero, and nothing is owned.
 use Rattle.stun_state.proofs.Steps.{◌≡◌, [], ◌∷◌, refl, lit<, proved_at, leaves, emp, id⊢, fact, fact_i, tables, a_type, inst_fn, Val, ‵, raw, ◌⊛◌, ◌$◌, ◌∵◌, !, qed, by, keep, use0, use1, split, agg, enter, lit, false_lit, no_more, and_then, returns, alloc_all, pass_all, free_all, look_at, sets, env, param, layouts, RattleType, owns, null_ptr, types_at, type_at, nothing, alive, Stays, false, None}
 use Rattle.stun_state.proofs.Words.{word, closed}
-use Rattle.stun_state.specs.Handle.{handle_owns, full_or_empty}
+use Rattle.stun_state.specs.code.Handle.{handle_owns, full_or_empty}
 use Rattle.stun_state.specs.contracts.handle.Loose.none.{ended, clauses}
 use Rattle.stun_state.specs.contracts.handle.Loose.none.Key.{name as #self}
 use Rattle.stun_state.proofs.handle.Loose.none.Statement.{statement}

@@ -7,7 +7,7 @@ use Rattle.std_heap.specs.declared.Global.{Global}
 use Rattle.std_heap.specs.contracts.GlobalAllocator.TheImpl.{ghosts}
 use Rattle.stun_state.proofs.AsBox.{as_box, Heap}
 use Rattle.stun_state.proofs.Words.{word, closed}
-use Rattle.stun_state.specs.Handle.{handle_owns, full_or_empty}
+use Rattle.stun_state.specs.code.Handle.{handle_owns, full_or_empty}
 use Rattle.stun_state.specs.contracts.handle.parts.Parts as parts
 use Rattle.stun_state.specs.contracts.handle.Loose.of_parts.{ended, clauses}
 use Rattle.stun_state.specs.contracts.handle.Loose.of_parts.Key.{name as #self}

@@ -1,6 +1,6 @@
 -- The flag and the pointer move, and what they own with them.
 use Rattle.stun_state.proofs.Steps.{◌≡◌, List, [], ◌∷◌, ◌++◌, refl, sym, subst, proved_at, leaves, SProp, ent, emp, id⊢, fact, fact_i, tables, WpFn, Val, ‵, raw, ◌⊛◌, ◌$◌, ◌∵◌, !, qed, by, move, keep, use0, use1, split, fsplit, fjoin, suffices, agg, sub, whole, enter, of_opd, stop, fld, no_more, and_then, returns, alloc_all, pass_all, free_all, look_at, get, get_in, sets, env, yes, RattleType, owns, types_at, plain, nothing, alive, Stays, stay_dropped, walk_of, Goes-dropped, Ptr-Good}
-use Rattle.stun_state.specs.Handle.{agent_row as Kept}
+use Rattle.stun_state.specs.code.Handle.{agent_row as Kept}
 use Rattle.stun_state.proofs.Words.{word, word_good, opened, closed}
 use Rattle.stun_state.specs.contracts.handle.Loose as loose
 use Rattle.stun_state.specs.contracts.handle.agent.AgentHandle as handle

@@ -1,0 +1,3 @@
+-- Definitions that no clause of a public call says: what private functions and representations alone cite.
+-- what a handle owns
+pub mod Handle

@@ -110,6 +110,7 @@ def turnserver(*words):
 def stunclient(host, *words):
     with check.Server(SERVER, "-v") as server:
         out, _ = run("turnutils_stunclient", "-p", server.port, *words, host, timeout=6)
+        time.sleep(0.2)
         address = next(line for line in server.lines if line.endswith(" 200")).split()[0]
         wants(address.replace("[", "").replace("]", "") in out, (out, server.lines))
         if words:

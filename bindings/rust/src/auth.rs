@@ -8,7 +8,7 @@ use std::net::SocketAddr;
 use std::time::Duration;
 use IntegrityAlgorithm::{Sha1, Sha256};
 
-/// What an authenticator does with a user's name: `Auto` hides it behind USERHASH where the peer can do so too,
+/// What an authenticator does with a user's name: `Auto` sends USERHASH in its place where the peer can do so too,
 /// `Required` refuses a server that cannot, and `Disabled` never hides it.
 #[derive(Debug, Default, Clone, Copy, PartialEq, Eq, Hash)]
 pub enum Feature {

@@ -4,6 +4,7 @@
 
 enum { CUT = 19, ID = STUN_ID_LENGTH, ID_AT = 8 };
 
+static const uint32_t other_words[16] = {1, 2, 3, 4};
 static const stun_address nowhere = {{1, 2, 3, 4}, 5, 6}; /* of no length that an address has */
 
 /* The refusals of a message in their order: cut, no STUN, and with bytes after its end. */
@@ -176,6 +177,7 @@ static void change(void) {
     want("configure", stun_agent_configure(&agent, third.bytes + ID_AT, ID, &timeouts), 1);
     const uint64_t due[] = {1, 3, 5};
     for (int i = 0; i < 3; i++) {
+        want("not due", stun_agent_poll_transmit(&agent, due[i] * SECOND - 1, out, sizeof out, &to), 0);
         want("poll", stun_agent_poll(&agent, due[i] * SECOND - 1, &until, id, ID), 0);
         want("due", (int64_t)(until / SECOND), (int64_t)due[i]);
         want("sent again", stun_agent_poll_transmit(&agent, until, out, sizeof out, &to), 20);
@@ -183,9 +185,15 @@ static void change(void) {
         want("alone", stun_agent_poll_transmit(&agent, until, out, sizeof out, &to), 0);
     }
     want("timed out", stun_agent_poll(&agent, 15 * SECOND, &until, id, ID), STUN_TIMED_OUT);
-    want("poll", stun_agent_poll(&agent, 15 * SECOND, &until, id, ID), 0);
-    want("the silent one waits", (int64_t)(until / 1000000), 39500);
-    want("and ends", stun_agent_poll(&agent, until, &until, id, ID), STUN_CANCELLED);
+    int64_t ended = 0;
+    for (uint64_t now = 15 * SECOND; ended == 0; now = until) {
+        want("silent", stun_agent_poll_transmit(&agent, now, out, sizeof out, &to), 0);
+        ended = stun_agent_poll(&agent, now, &until, id, ID);
+        want("no busy waits", ended != 0 || until > now, 1);
+    }
+    want("the silent one ends", ended, STUN_CANCELLED);
+    want_same("its id", id, second.bytes + ID_AT, ID);
+    want("after its last wait", until >= 39500 * (SECOND / 1000), 1);
     stun_statistics counts;
     want("statistics", stun_agent_statistics(&agent, &counts), 0);
     want("cancelled two", (int64_t)counts.transactions_cancelled, 2);
@@ -286,7 +294,7 @@ static void negotiate(uint32_t algorithms, int64_t strongest) {
     /* The nonce expires: a 438, a new nonce, and again. */
     struct message request = request_of(&pair, 3);
     uint64_t late = 3602 * SECOND;
-    int64_t verdict = stun_server_validate(&pair.server, request.bytes, request.length, &from, late, some_words + 0);
+    int64_t verdict = stun_server_validate(&pair.server, request.bytes, request.length, &from, late, other_words);
     want("a nonce that expired", verdict, STUN_STALE_NONCE);
     struct message answer = answer_of(&pair, 3, 438, &from);
     want("a 438", stun_client_validate(&pair.client, answer.bytes, answer.length), STUN_RESEND);

@@ -142,9 +142,9 @@ fn a_silenced_request_waits_for_its_response() {
     agent.mut_request_transaction(id).unwrap().cancel_retransmissions();
     let mut now = at(0);
     while let StunAgentPollRet::WaitUntil(until) = agent.poll(now) {
-        assert!(agent.poll_transmit(now).is_none());
         assert!(until > now, "no busy waits");
         now = until;
+        assert!(agent.poll_transmit(now).is_none());
     }
     assert_eq!(now, at(39500));
     assert!(!is_taken(&mut agent, &success(&bytes), remote(), now));

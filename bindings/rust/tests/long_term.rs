@@ -173,7 +173,7 @@ fn nonces_last_thirty_seconds_at_least() {
     both.is_validated(Instant::ZERO + Duration::from_secs(29), Sha1);
     let request = both.request();
     let late = Instant::ZERO + Duration::from_secs(31);
-    assert_eq!(both.answer(&request, late, &WORDS).0, Err(LongTermServerAuthErrorReason::StaleNonce));
+    assert_eq!(both.answer(&request, late, &OTHER_WORDS).0, Err(LongTermServerAuthErrorReason::StaleNonce));
 }
 
 #[test]
@@ -217,7 +217,7 @@ fn addresses_are_apart_and_forgotten() {
     both.is_challenged(Instant::ZERO);
     let signed = both.request();
     both.from = "[2001:db8::1]:12345".parse().unwrap();
-    let (verdict, _) = both.answer(&signed, Instant::ZERO, &WORDS);
+    let (verdict, _) = both.answer(&signed, Instant::ZERO, &OTHER_WORDS);
     assert_eq!(verdict, Err(LongTermServerAuthErrorReason::StaleNonce), "the nonce is another address's");
     both.server.forget_expired(Instant::MAX);
     let other = Message::builder_request(BINDING, TransactionId([99; 12])).finish();

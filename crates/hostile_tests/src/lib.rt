@@ -2,6 +2,10 @@
 #![tactic(auto)]
 
 #[cfg(test)]
+mod bid_down;
+#[cfg(test)]
+mod long;
+#[cfg(test)]
 mod server;
 #[cfg(test)]
 mod texts;

@@ -154,7 +154,7 @@ fn a_request_is_signed_or_not(rt: HostRuntime) -> Result<(), Fail> {
     heap.each_refusal(|nth| request(&rt, (rt.alloc(), &heap), nth))
 }
 
-/// Verdicts and refusals take no memory.
+/// Verdicts and refusals do not allocate.
 #[test]
 fn verdicts_take_no_memory(rt: HostRuntime) -> Result<(), Fail> {
     let alloc = rt.alloc();

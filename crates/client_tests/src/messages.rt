@@ -428,7 +428,7 @@ fn nothing_else_confirms(rt: HostRuntime) -> Result<(), Fail> {
     )
 }
 
-/// Either digest may stand under the key.
+/// Either digest may verify under the key.
 #[test]
 fn a_stronger_digest_stands(rt: HostRuntime) -> Result<(), Fail> {
     let mut client = asked_client(&rt, rt.alloc())?;

@@ -291,7 +291,7 @@ fn another_writer_takes_the_signed_message(rt: HostRuntime) -> Result<(), Fail> 
     Ok(())
 }
 
-/// Signing into a slice and checking take no memory.
+/// Signing into a slice and checking do not allocate.
 #[test]
 fn a_slice_and_a_verdict_take_no_memory(rt: HostRuntime) -> Result<(), Fail> {
     let heap = RefusingAllocator::new(rt.alloc());

@@ -203,7 +203,7 @@ fn client_of_long_name(
 #[test]
 fn a_name_is_within_its_limit(rt: HostRuntime) -> Result<(), Fail> {
     let mut client = client_of_long_name(&rt, rt.alloc(), 513)?;
-    // NONCE 8, REALM 12, USERNAME 520, MESSAGE-INTEGRITY 24, behind a header of 20.
+    // NONCE 8, REALM 12, USERNAME 520, MESSAGE-INTEGRITY 24, after a header of 20.
     assert_eq!(rt; client.message_signature_bytes(), 564);
     let bytes = signed_bytes(rt.alloc(), &mut client, MessageClass::Request)?;
     assert_eq!(rt; bytes.len(), 584);

@@ -1,7 +1,7 @@
 //! Malformed, repeated and forged messages at a server (RFC 8489, sections 9.2.4 and 14), spelled byte by byte.
 //!
 //! Of two attributes of one type the last counts, and one that is malformed counts as none. The digests are those of Python's
-//! module `hmac`, over the messages as they stand here.
+//! module `hmac`, over the messages as they are here.
 use std::alloc::Global;
 use std::process::Abort;
 use std::test::Fail;

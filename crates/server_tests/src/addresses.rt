@@ -1,4 +1,4 @@
-//! How long a server's nonces stand, and for whom; its users, and the responses of its clients.
+//! How long a server's nonces last, and for whom; its users, and the responses of its clients.
 use crate::expect::{expect_answer, expect_nonce};
 use std::alloc::{Allocator, Global};
 use std::process::Abort;
@@ -16,7 +16,7 @@ use test_support::server::{
 /// What signs a response.
 const DIGEST: Part<'static> = Part::Sha1(&MD5_KEY);
 
-/// Checks the answer to a request at a moment, at a server whose nonces stand for 30 seconds.
+/// Checks the answer to a request at a moment, at a server whose nonces last 30 seconds.
 fn expect_at(
     rt: &impl Abort,
     alloc: Global,
@@ -54,7 +54,7 @@ fn a_nonce_stands_up_to_its_end(rt: HostRuntime) -> Result<(), Fail> {
     expect_at(&rt, rt.alloc(), &FULL_REQUEST, 30_000_000_001, STALE_NONCE)
 }
 
-/// Where nothing is set, a nonce stands for an hour.
+/// Where nothing is set, a nonce lasts an hour.
 #[test]
 fn a_nonce_stands_for_an_hour(rt: HostRuntime) -> Result<(), Fail> {
     let bytes = message(rt.alloc(), MessageClass::Request, &PLAIN_REQUEST)?;

@@ -111,7 +111,7 @@ fn late_request(
     if !is_last {
         assert_eq!(rt; answer, OUT_OF_MEMORY);
         expect_nonce(rt, &server, Some(FULL_NONCE));
-        // Up to its end the old nonce stands, with the list that was offered.
+        // Up to its end the old nonce is current, with the list that was offered.
         let again = asked(&mut server, bytes, (address(1), LATE - 1), ONES)?;
         assert_eq!(rt; again, SHA256);
     }
@@ -264,7 +264,7 @@ fn a_success_is_signed_or_not(rt: HostRuntime) -> Result<(), Fail> {
     heap.each_refusal(|nth| success(&rt, (rt.alloc(), &heap), bytes.as_slice(), nth))
 }
 
-/// Where a nonce stands, or none is needed, a refusal of the message takes no memory.
+/// Where a nonce is current, or none is needed, a refusal of the message does not allocate.
 #[test]
 fn refusals_take_no_memory(rt: HostRuntime) -> Result<(), Fail> {
     let alloc = rt.alloc();
@@ -296,7 +296,7 @@ fn refusals_take_no_memory(rt: HostRuntime) -> Result<(), Fail> {
     Ok(())
 }
 
-/// A client who is kept already takes no memory. The same user with another algorithm does, and is another client.
+/// A client who is kept already does not allocate. The same user with another algorithm does, and is another client.
 #[test]
 fn a_kept_client_takes_no_memory(rt: HostRuntime) -> Result<(), Fail> {
     let alloc = rt.alloc();
@@ -315,7 +315,7 @@ fn a_kept_client_takes_no_memory(rt: HostRuntime) -> Result<(), Fail> {
     Ok(())
 }
 
-/// The settings and a response take no memory, nor does signing into a slice.
+/// The settings and a response do not allocate, nor does signing into a slice.
 #[test]
 fn settings_and_responses_take_no_memory(rt: HostRuntime) -> Result<(), Fail> {
     let heap = RefusingAllocator::new(rt.alloc());

@@ -164,7 +164,7 @@ fn a_list_that_was_not_offered_makes_a_nonce(rt: HostRuntime) -> Result<(), Fail
 fn another_nonce_is_stale(rt: HostRuntime) -> Result<(), Fail> {
     let parts = [Part::Nonce("BBBBBBBBBBBBBBBB"), REALM, NAME, DIGEST];
     expect_plain(&rt, rt.alloc(), &parts, STALE_NONCE)?;
-    // This nonce has security bits, and the one that stands has none.
+    // This nonce has security bits, and the current one has none.
     let parts = [Part::Nonce(HASHED_NONCE), REALM, NAME, DIGEST];
     expect_plain(&rt, rt.alloc(), &parts, STALE_NONCE)?;
     let nonce = Part::Nonce("obMatJos2wAAABBBBBBBBBBBBBBBB");

@@ -25,7 +25,7 @@ const INDICATION: &str = "00110000 2112a442 000000000000000000000001";
 
 const SUCCESS: &str = "01010000 2112a442 000000000000000000000001";
 
-/// A 401 to an address without a client: NONCE, REALM and PASSWORD-ALGORITHMS behind its code.
+/// A 401 to an address without a client: NONCE, REALM and PASSWORD-ALGORITHMS after its code.
 const CHALLENGE: &str = "0111004c 2112a442 000000000000000000000001
     00090010 00000401 556e617574686f72697a6564
     0015001d 6f624d61744a6f73325141414141414141414141414141414141414141000000
@@ -88,7 +88,7 @@ fn expect_refused<A: Allocator + Copy>(
     assert_eq!(rt; answer.err(), Some(expected));
 }
 
-/// A server with HMAC-SHA1 alone, whose nonce stands for the first address.
+/// A server with HMAC-SHA1 alone, whose nonce is current for the first address.
 fn challenging_server(alloc: Global) -> Result<LongTermServerAuth, Fail> {
     let mut server = sha1_server(alloc, Feature::Auto)?;
     let _challenged = knocked(alloc, &mut server, address(1), ZEROS)?;
@@ -312,7 +312,7 @@ fn realm_of(alloc: Global, count: usize) -> Result<String, Fail> {
 fn a_realm_is_within_its_limit(rt: HostRuntime) -> Result<(), Fail> {
     let mut server = LongTermServerAuth::new(rt.alloc(), realm_of(rt.alloc(), 763)?);
     let _challenged = knocked(rt.alloc(), &mut server, address(1), ZEROS)?;
-    // NONCE 36, REALM 768, PASSWORD-ALGORITHMS 8, behind a header of 20.
+    // NONCE 36, REALM 768, PASSWORD-ALGORITHMS 8, after a header of 20.
     expect_sizes(&rt, &server, (0, 812));
     let bytes = signed_bytes(rt.alloc(), &mut server, MessageClass::Success, &[])?;
     assert_eq!(rt; bytes.len(), 832);

@@ -116,7 +116,7 @@ entry_there d p (y ∷ ys) h = by (p y) h (entry_there d p ys)
     by true h rest = let same : y ≡ d = cc in (0, omega arith, λ x. same)
     by false h rest = let found = rest h in (suc found.0, further found.0 (length ys) found.1, found.2)
 
--- its place is where it stands
+-- its place is where it is
 place_is : (d : Deadline) (ds : List Deadline) (i : ℕ) → IsInOrder ds → entries_at d.id ds ≡ d ∷ [] → IsPlace d.moment d.id ds i → (i < length ds) × ((x : Deadline) → (get_or ds i x).id ≡ d.id)
 place_is d ds i up entry place =
     let there = entry_there d (λ (x : Deadline). d.id == x.id) ds entry in

@@ -43,7 +43,7 @@ total-cons tally tallies =
     let e9 = sum_by-cons {X = Tally} (λ t. t.bytes_received) tally tallies in
     cc
 
--- nothing more to count, behind something that was counted
+-- nothing more to count, after something that was counted
 counted-counted-nothing : (tally : Tally) (s : Statistics) → counted no_tally (counted tally s) ≡ counted tally s
 counted-counted-nothing tally s =
     let e0 : raised (raised s.requests_sent tally.requests_sent) 0 ≡ raised s.requests_sent tally.requests_sent = omega arith in
@@ -83,7 +83,7 @@ leaves_outstanding-counted tally s before after held room same =
 min-is_one : (m n : ℕ) → (min m n ≡ m) ⊎ (min m n ≡ n)
 min-is_one m n = elim (cases_lt m n) [ inl less ↦ inl (omega arith) | inr more ↦ inr (omega arith) ]
 
--- where min x m stood for both
+-- where min x m was for both
 Contains-min : (x m : ℕ) (xs : List ℕ) (found : ℕ) → Contains (min x m ∷ xs) found → Contains (m ∷ x ∷ xs) found
 Contains-min x m xs found (zero, within, is) =
     elim (min-is_one x m) [ inl first ↦ (1, omega arith, sym first ∙ is) | inr second ↦ (0, omega arith, sym second ∙ is) ]
@@ -119,7 +119,7 @@ IsLeast-none (x ∷ xs) = let all = least-from x xs in rw all.is (all.member, al
 max-is_one : (m n : ℕ) → (max m n ≡ m) ⊎ (max m n ≡ n)
 max-is_one m n = elim (cases_lt m n) [ inl less ↦ inr (omega arith) | inr more ↦ inl (omega arith) ]
 
--- where max x m stood for both
+-- where max x m was for both
 Contains-max : (x m : ℕ) (xs : List ℕ) (found : ℕ) → Contains (max x m ∷ xs) found → Contains (m ∷ x ∷ xs) found
 Contains-max x m xs found (zero, within, is) =
     elim (max-is_one x m) [ inl first ↦ (1, omega arith, sym first ∙ is) | inr second ↦ (0, omega arith, sym second ∙ is) ]

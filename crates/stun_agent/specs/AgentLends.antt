@@ -17,6 +17,6 @@ abbrev pub ends_if_ok_as : {T E : Type 0} → (A : RattleType) → alloc.Ghosts 
 ends_if_ok_as A heap agent answer after =
     follows_so (the_row A heap) (the_row A heap) agent.ghost_name none (λ _ _. ⊤) (λ n. MatchResult answer (λ _. n ≡ after) (λ _. n ≡ agent.now))
 
--- the agent ends with the statistics that are left behind what it lent, and as it was where it has none
+-- the agent ends with the statistics that are left after what it lent, and as it was where it has none
 abbrev pub lends_statistics : (A : RattleType) → alloc.Ghosts A.Denot → MutBor Agent → Option (MutBor Statistics) → Fml
 lends_statistics A heap agent lent = LendsIf (the_row A heap) stats_row agent lent (λ stats. record agent.now { statistics = Some stats }) agent.now

@@ -36,7 +36,7 @@ after_step (cancel_retransmissions id) agent = with_transactions agent (changed 
 after_step (cancel id) agent = with_transactions agent (changed cancelled id agent.transactions)
 after_step (configure id settings) agent = with_transactions agent (changed (configured settings) id agent.transactions)
 
--- the agent after calls, one behind the other
+-- the agent after calls, one after the other
 abbrev pub after_steps : List Step → Agent → Agent
 after_steps [] agent = agent
 after_steps (step ∷ steps) agent = after_steps steps (after_step step agent)

@@ -120,7 +120,7 @@ impl<A: Allocator + Copy> StunAgent<A> {
     ghost use Rattle.stun_agent.specs.AgentLends.{lends_statistics};
 
     /// A builder of an agent. Where nothing is set, the agent has no fixed peer, the timeouts of
-    /// `RequestRto::default()` and no statistics. Takes no memory; what the agent takes later it asks of `alloc`.
+    /// `RequestRto::default()` and no statistics. Does not allocate; what the agent takes later it asks of `alloc`.
     pub fn builder(
         alloc: A,
         transport: TransportType,

@@ -125,7 +125,7 @@ impl<A: Allocator> DeadlineIndex<A> {
         take_out(&mut self.entries, moment, id);
     }
 
-    /// Puts another deadline of a request in place of the one that it has at this moment. Takes no memory.
+    /// Puts another deadline of a request in place of the one that it has at this moment. Does not allocate.
     pub(crate) fn replace(&mut self, moment: Instant, deadline: Deadline)
         requires order { IsInOrder self.old }
         requires entry { HasEntry moment deadline.id self.old }

@@ -27,7 +27,7 @@ pub enum StunError {
     /// Never answered by an agent.
     #[error(transparent)]
     WriteError(StunWriteError),
-    /// Memory is wanting.
+    /// An allocation failed.
     #[error("Out of memory")]
     OutOfMemory,
 }

@@ -66,7 +66,8 @@ pub fn statistics_tell_how_many_requests_are_outstanding()
 pub fn validating_adds_one_peer()
     ensures added { (address other : SocketAddr) (peers : Peers) → is_peer other (with_peer address peers)
         ≡ (same_address other address || is_peer other peers) }
-    ensures exact { (address other : SocketAddr) → (same_address address other ≡ true) ↔ (address ≡ other) }
+    ensures exact { (address other : SocketAddr)
+        → (same_address address other ≡ true) ↔ (address ≡ other) }
 {}
 
 /// Settings of which nothing is said are those of RFC 8489, section 6.2.1.
@@ -83,7 +84,7 @@ pub fn default_statistics() -> StunAgentStats
     StunAgentStats::default()
 }
 
-/// Copies of statistics are the same values, and take no memory.
+/// Copies of statistics are the same values, and do not allocate.
 pub fn copied_statistics(statistics: &StunAgentStats) -> Result<StunAgentStats, AllocError>
     ensures { result ≡ Ok statistics.now }
 {

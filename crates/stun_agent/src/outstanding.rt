@@ -109,7 +109,8 @@ impl<A: Allocator + Copy> Outstanding<A> {
         blank: Blank,
     ) -> (Option<(TransactionId, bool)>, Reads<L>)
         requires { IsUnused blank.name blank.parts L.name L.parts }
-        ensures answer { result.0 ≡ option_map told_of_end (first_over self.now.transport now self.now.requests) }
+        ensures answer { result.0 ≡ option_map told_of_end
+            (first_over self.now.transport now self.now.requests) }
         ensures work { result.1 ≤ early_requests self.now.transport now self.now.requests + 1 }
     {
         let (ended, reads) = self.deadlines.least_ended::<L>(now, blank);
@@ -135,7 +136,8 @@ impl<A: Allocator + Copy> Outstanding<A> {
 
     /// Passes the slots that are due, and tells of the request that is to be sent again its id and how many bytes it has.
     pub(crate) fn pass_due_slots(&mut self, now: Instant) -> Option<(TransactionId, usize)>
-        ensures sent { result ≡ option_map (λ e. (e.0, length e.1.bytes)) (next_sent self.old.transport now self.old.requests) }
+        ensures sent { result ≡ option_map (λ e. (e.0, length e.1.bytes))
+            (next_sent self.old.transport now self.old.requests) }
         ensures after { self.new ≡ record self.old {
           requests = after_slots self.old.transport now
               (option_map (λ s. s.0) result) self.old.requests;
@@ -152,7 +154,8 @@ impl<A: Allocator + Copy> Outstanding<A> {
 
     /// The request that `pass_due_slots` would send again.
     pub(crate) fn next_sent(&self, now: Instant) -> Option<&Transaction<A>>
-        ensures { option_copied result ≡ option_map (λ e. e.1) (next_sent self.now.transport now self.now.requests) }
+        ensures { option_copied result ≡ option_map (λ e. e.1)
+            (next_sent self.now.transport now self.now.requests) }
     {
         if !self.deadlines.has_come(now) {
             return None;
@@ -192,7 +195,10 @@ impl<A: Allocator + Copy> Outstanding<A> {
 
     /// Replaces the timeouts of a request, where it is there.
     pub(crate) fn configure(&mut self, id: TransactionId, settings: RequestRto)
-        ensures { self.new ≡ record self.old { requests = changed (configured (settings_of settings)) id self.old.requests } }
+        ensures { self.new ≡ record self.old {
+          requests = changed
+              (configured (settings_of settings)) id self.old.requests;
+        } }
     {
         let Some(before) = transactions::deadline_at(&self.requests, self.transport, id) else {
             return;

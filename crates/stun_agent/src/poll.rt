@@ -23,7 +23,7 @@ impl<A: Allocator + Copy> StunAgent<A> {
 
     /// Ends at most one request, the one of the least id among those that are cancelled or past their end, and
     /// else says when to poll again: at the least moment that a request awaits, at most an hour from `now`, and
-    /// never before `now`. Poll again after an end, after each other call, and at that moment. Takes no memory.
+    /// never before `now`. Poll again after an end, after each other call, and at that moment. Does not allocate.
     pub fn poll(&mut self, now: Instant) -> StunAgentPollRet
         ensures answer { result ≡ poll_answer now self.old }
         ensures after { self.new ≡ after_poll now self.old }
@@ -77,7 +77,7 @@ impl<A: Allocator + Copy> StunAgent<A> {
     }
 
     /// The least moment that a request which is not cancelled awaits, to be sent again or to end, if there is any.
-    /// Takes no memory.
+    /// Does not allocate.
     pub fn next_awaited(&self) -> Option<Instant>
         ensures least { result ≡ next_awaited self.now.transport self.now.transactions }
         ensures kept { AreKept self.now.transactions }
@@ -86,10 +86,12 @@ impl<A: Allocator + Copy> StunAgent<A> {
     }
 
     /// Lends the bytes of at most one request that is to be sent again: of the least id among those whose timeout
-    /// has passed and that are still sent. Ask again until it answers `None`. Takes no memory and copies nothing.
+    /// has passed and that are still sent. Ask again until it answers `None`. Does not allocate and copies nothing.
     pub fn poll_transmit(&mut self, now: Instant) -> Option<Transmit<&[u8]>>
-        ensures* after { sem 𝓛 (ends_as A.row A.Allocator self.entry (after_poll_transmit now self.old)) }
-        ensures sent { option_map lent_datagram result ≡ option_map (λ e. datagram_of self.old e.1) (sent_by_poll now self.old) }
+        ensures* after { sem 𝓛 (ends_as A.row A.Allocator self.entry
+            (after_poll_transmit now self.old)) }
+        ensures sent { option_map lent_datagram result
+            ≡ option_map (λ e. datagram_of self.old e.1) (sent_by_poll now self.old) }
         ensures request { IfSome (sent_by_poll now self.old) IsNamed }
     {
         let id = self.pass_and_count(now)?;
@@ -107,9 +109,10 @@ impl<A: Allocator + Copy> StunAgent<A> {
     }
 
     /// What `poll_transmit` would lend at this moment, with the agent left as it is: for a caller that has to know the
-    /// length before it takes the bytes, as for a buffer of its own. Takes no memory and copies nothing.
+    /// length before it takes the bytes, as for a buffer of its own. Does not allocate and copies nothing.
     pub fn next_transmit(&self, now: Instant) -> Option<Transmit<&[u8]>>
-        ensures sent { option_map lent_datagram result ≡ option_map (λ e. datagram_of self.now e.1) (sent_by_poll now self.now) }
+        ensures sent { option_map lent_datagram result
+            ≡ option_map (λ e. datagram_of self.now e.1) (sent_by_poll now self.now) }
     {
         let request = self.outstanding.next_sent(now)?;
         Some(Transmit {

@@ -22,7 +22,7 @@ impl<A: Allocator + Copy> StunAgent<A> {
         self.peers.contains(&addr)
     }
 
-    /// Names an address as one whose messages were taken. Where memory is wanting, the agent is as before; an
+    /// Names an address as one whose messages were taken. Where an allocation fails, the agent is as before; an
     /// address that is there already takes none.
     pub fn validated_peer(&mut self, addr: SocketAddr) -> Result<(), AllocError>
         ensures ok { OnOk result (self.new ≡ with_validated addr self.old) }
@@ -40,10 +40,10 @@ impl<A: Allocator + Copy> StunAgent<A> {
     /// changes nothing. A request or an indication is taken, and its address validated.
     ///
     /// Ask the authenticator before: the agent checks no digest. Whoever can send from the address that was asked and
-    /// knows the id of the request, which stands in the clear, else ends it by a forged response.
+    /// knows the id of the request, which is in the clear, else ends it by a forged response.
     ///
-    /// Where memory is wanting to note the address, the agent is as before, and a response's request is still
-    /// outstanding. An address that is noted already, and a message that is not taken, take no memory.
+    /// Where an allocation fails to note the address, the agent is as before, and a response's request is still
+    /// outstanding. An address that is noted already, and a message that is not taken, do not allocate.
     pub fn handle_stun_message(
         &mut self,
         msg: &Message<'_>,
@@ -52,7 +52,8 @@ impl<A: Allocator + Copy> StunAgent<A> {
         ensures answer { IfOk result (λ taken. taken ≡ takes_message msg.now from self.old) }
         ensures ok { OnOk result (self.new ≡ after_message None msg.now from self.old) }
         ensures err { OnErr result (self.new ≡ self.old) }
-        ensures no_memory { IsTrue (is_peer from self.old.peers || not (takes_message msg.now from self.old)) → IsOk result }
+        ensures no_memory { IsTrue (is_peer from self.old.peers || not
+            (takes_message msg.now from self.old)) → IsOk result }
     {
         self.receive(msg, from, None)
     }
@@ -67,7 +68,8 @@ impl<A: Allocator + Copy> StunAgent<A> {
         ensures answer { IfOk result (λ taken. taken ≡ takes_message msg.now from self.old) }
         ensures ok { OnOk result (self.new ≡ after_message (Some now) msg.now from self.old) }
         ensures err { OnErr result (self.new ≡ self.old) }
-        ensures no_memory { IsTrue (is_peer from self.old.peers || not (takes_message msg.now from self.old)) → IsOk result }
+        ensures no_memory { IsTrue (is_peer from self.old.peers || not
+            (takes_message msg.now from self.old)) → IsOk result }
     {
         self.receive(msg, from, Some(now))
     }
@@ -81,7 +83,8 @@ impl<A: Allocator + Copy> StunAgent<A> {
         ensures answer { IfOk result (λ taken. taken ≡ takes_message msg.now from self.old) }
         ensures ok { OnOk result (self.new ≡ after_message moment msg.now from self.old) }
         ensures err { OnErr result (self.new ≡ self.old) }
-        ensures no_memory { IsTrue (is_peer from self.old.peers || not (takes_message msg.now from self.old)) → IsOk result }
+        ensures no_memory { IsTrue (is_peer from self.old.peers || not
+            (takes_message msg.now from self.old)) → IsOk result }
     {
         let count = msg.as_bytes().len();
         match msg.class() {
@@ -109,7 +112,8 @@ impl<A: Allocator + Copy> StunAgent<A> {
         ensures answer { IfOk result (λ taken. taken ≡ is_some (answered msg.now from self.old)) }
         ensures ok { OnOk result (self.new ≡ after_response moment msg.now from self.old) }
         ensures err { OnErr result (self.new ≡ self.old) }
-        ensures no_memory { IsTrue (is_peer from self.old.peers || not (is_some (answered msg.now from self.old))) → IsOk result }
+        ensures no_memory { IsTrue (is_peer from self.old.peers || not
+            (is_some (answered msg.now from self.old))) → IsOk result }
     {
         let id = msg.transaction_id();
         let round_trip = match self.outstanding.get(id) {

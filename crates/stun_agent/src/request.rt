@@ -36,7 +36,7 @@ pub struct StunRequestMut<'a, A: Allocator = Global> {
 }
 
 impl<A: Allocator + Copy> StunAgent<A> {
-    /// The request of a transaction, while it is outstanding. Takes no memory.
+    /// The request of a transaction, while it is outstanding. Does not allocate.
     pub fn request_transaction(&self, id: TransactionId) -> Option<StunRequest<'_, A>>
         ensures request { option_map (λ r. (r.peer_address, r.integrity)) result
             ≡ option_map peer_and_integrity (at id self.now.transactions) }
@@ -50,7 +50,7 @@ impl<A: Allocator + Copy> StunAgent<A> {
         })
     }
 
-    /// The request of a transaction, to be changed, while it is outstanding. Takes no memory.
+    /// The request of a transaction, to be changed, while it is outstanding. Does not allocate.
     pub fn mut_request_transaction(&mut self, id: TransactionId) -> Option<StunRequestMut<'_, A>>
         ensures* lends { sem 𝓛 (rests A.row A.Allocator self.entry result) }
         ensures request { option_map (λ r. (r.peer_address, r.integrity)) result
@@ -76,19 +76,22 @@ impl<A: Allocator + Copy> StunAgent<A> {
     }
 
     fn cancel_retransmissions(&mut self, id: TransactionId)
-        ensures { self.new ≡ with_transactions self.old (changed silenced id self.old.transactions) }
+        ensures { self.new ≡ with_transactions self.old
+            (changed silenced id self.old.transactions) }
     {
         self.outstanding.cancel_retransmissions(id);
     }
 
     fn cancel(&mut self, id: TransactionId)
-        ensures { self.new ≡ with_transactions self.old (changed cancelled id self.old.transactions) }
+        ensures { self.new ≡ with_transactions self.old
+            (changed cancelled id self.old.transactions) }
     {
         self.outstanding.cancel(id);
     }
 
     fn configure(&mut self, id: TransactionId, settings: RequestRto)
-        ensures { self.new ≡ with_transactions self.old (changed (configured (settings_of settings)) id self.old.transactions) }
+        ensures { self.new ≡ with_transactions self.old
+            (changed (configured (settings_of settings)) id self.old.transactions) }
     {
         self.outstanding.configure(id, settings);
     }
@@ -117,7 +120,7 @@ impl<'a, A: Allocator + Copy> StunRequest<'a, A> {
     }
 }
 
-/// Takes no memory.
+/// Does not allocate.
 impl<'a, A: Allocator> Clone for StunRequest<'a, A> {
     ghost use Rattle.std.specs.Prelude.{◌≡◌, ⊤};
 
@@ -165,7 +168,7 @@ impl<'a, A: Allocator + Copy> StunRequestMut<'a, A> {
     }
 
     /// Sends the request no more. It is still waited for, until its last wait is over, and then ends as cancelled.
-    /// Takes no memory, and does nothing where the request is no longer outstanding.
+    /// Does not allocate, and does nothing where the request is no longer outstanding.
     pub fn cancel_retransmissions(&mut self)
         ensures { StaysWith self.old self.new (changed silenced self.old.id self.old.agent.now.transactions) }
     {
@@ -173,7 +176,7 @@ impl<'a, A: Allocator + Copy> StunRequestMut<'a, A> {
     }
 
     /// Sends the request no more, and ends it at the next `poll` that reaches it; a response that comes before is
-    /// still taken. Takes no memory, and does nothing where the request is no longer outstanding.
+    /// still taken. Does not allocate, and does nothing where the request is no longer outstanding.
     pub fn cancel(&mut self)
         ensures { StaysWith self.old self.new (changed cancelled self.old.id self.old.agent.now.transactions) }
     {
@@ -183,7 +186,7 @@ impl<'a, A: Allocator + Copy> StunRequestMut<'a, A> {
     /// Replaces the timeouts of the request: the wait after the first transmission, how many transmissions there
     /// are over UDP, and the wait after the last one. Waits between transmissions have no maximum. The timeouts
     /// that have passed, and the moment of the last one, stay.
-    /// Takes no memory, and does nothing where the request is no longer outstanding.
+    /// Does not allocate, and does nothing where the request is no longer outstanding.
     pub fn configure_timeout(
         &mut self,
         initial: Duration,

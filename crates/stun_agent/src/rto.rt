@@ -90,7 +90,8 @@ impl RequestRto {
 
     // From transmission `DOUBLINGS` on the timeouts are all alike, so that few turns add them up.
     fn sum_of_timeouts(&self) -> u128
-        ensures value { result ≡ sum_of_timeouts (settings_of self.now) (repetitions (settings_of self.now)) }
+        ensures value { result ≡ sum_of_timeouts (settings_of self.now)
+            (repetitions (settings_of self.now)) }
         ensures bound { result ≤ 2 ^ 32 * max_nanos }
     {
         let all = self.repetitions();

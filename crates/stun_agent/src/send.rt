@@ -33,7 +33,8 @@ impl<A: Allocator + Copy> StunAgent<A> {
         to: SocketAddr,
     ) -> Result<Transmit<T>, StunError>
         ensures refused { MatchOption (address_refusal self.now to) (IsOk result) (IsErrOf result) }
-        ensures sent { IfOk result (λ t. parts t ≡ (bytes, self.now.transport, self.now.local_addr, to)) }
+        ensures sent { IfOk result (λ t. parts t
+            ≡ (bytes, self.now.transport, self.now.local_addr, to)) }
     {
         self.check_address(to)?;
         Ok(Transmit::new(bytes, self.outstanding.transport(), self.local_addr, to))
@@ -41,7 +42,8 @@ impl<A: Allocator + Copy> StunAgent<A> {
 
     // Refuses every address but the one that the agent is to speak to, where there is one.
     fn check_address(&self, to: SocketAddr) -> Result<(), StunError>
-        ensures { MatchOption (address_refusal self.now to) (result ≡ Ok tt) (λ error. result ≡ Err error) }
+        ensures { MatchOption (address_refusal self.now to) (result ≡ Ok tt)
+            (λ error. result ≡ Err error) }
     {
         match self.remote_addr {
             Some(peer) => {
@@ -59,17 +61,19 @@ impl<A: Allocator + Copy> StunAgent<A> {
     ///
     /// The errors, in the order in which they are looked for: `ParseError` where the bytes do not begin with a
     /// header, `ProtocolViolation` for a request, `ProtocolViolation` where the agent is to speak to another
-    /// address. After an error the agent is as before, and the message is dropped. Takes no memory.
+    /// address. After an error the agent is as before, and the message is dropped. Does not allocate.
     pub fn send<T: OwnedBytes + Drop>(
         &mut self,
         msg: T,
         to: SocketAddr,
         _now: Instant,
     ) -> Result<Transmit<T>, StunError>
-        ensures refused { MatchOption (sending_refusal self.old (T.contents msg) to) (IsOk result) (IsErrOf result) }
+        ensures refused { MatchOption (sending_refusal self.old (T.contents msg) to) (IsOk result)
+            (IsErrOf result) }
         ensures ok { OnOk result (self.new ≡ after_send (T.contents msg) self.old) }
         ensures err { OnErr result (self.new ≡ self.old) }
-        ensures sent { IfOk result (λ t. parts t ≡ (msg, self.old.transport, self.old.local_addr, to)) }
+        ensures sent { IfOk result (λ t. parts t
+            ≡ (msg, self.old.transport, self.old.local_addr, to)) }
     {
         let bytes = msg.bytes();
         let class = self.class_to_send(bytes, to)?;
@@ -94,7 +98,8 @@ impl<A: Allocator + Copy> StunAgent<A> {
             (after_send_request self.old (T.contents msg) to now)) }
         ensures refused { MatchOption (request_refusal self.old (T.contents msg) to)
             (IsOkUnless result StunError.OutOfMemory) (IsErrOf result) }
-        ensures sent { IfOk result (λ t. lent_datagram t ≡ (T.contents msg, self.old.transport, self.old.local_addr, to)) }
+        ensures sent { IfOk result (λ t. lent_datagram t
+            ≡ (T.contents msg, self.old.transport, self.old.local_addr, to)) }
     {
         let id = self.keep_request(msg.bytes(), to, now)?;
         let transport = self.outstanding.transport();
@@ -120,7 +125,8 @@ impl<A: Allocator + Copy> StunAgent<A> {
         ensures taken { OnOk result (request_refusal self.old bytes.now to ≡ None) }
         ensures ok { OnOk result (self.new ≡ after_send_request self.old bytes.now to now) }
         ensures err { OnErr result (self.new ≡ self.old) }
-        ensures kept { IfOk result (λ id. at id self.new.transactions ≡ Some (request_of self.old bytes.now to now)) }
+        ensures kept { IfOk result (λ id. at id self.new.transactions
+            ≡ Some (request_of self.old bytes.now to now)) }
     {
         let id = self.id_to_ask(bytes, to)?;
         let kept = Vec::from_slice(self.alloc, bytes)?;
@@ -134,7 +140,8 @@ impl<A: Allocator + Copy> StunAgent<A> {
     fn class_to_send(&self, bytes: &[u8], to: SocketAddr) -> Result<MessageClass, StunError>
         ensures accepted { OnOk result (sending_refusal self.now bytes.now to ≡ None) }
         ensures class { IfOk result (λ class. class ≡ class_of_bytes bytes.now) }
-        ensures refused { IfErr result (λ error. sending_refusal self.now bytes.now to ≡ Some error) }
+        ensures refused { IfErr result (λ error. sending_refusal self.now bytes.now to
+            ≡ Some error) }
     {
         let class = class_of_answerless(bytes)?;
         self.check_address(to)?;
@@ -163,7 +170,8 @@ impl<A: Allocator + Copy> StunAgent<A> {
 
 /// The class of a message that wants no answer.
 fn class_of_answerless(bytes: &[u8]) -> Result<MessageClass, StunError>
-    ensures { MatchOption (class_refusal bytes.now) (result ≡ Ok (class_of_bytes bytes.now)) (λ error. result ≡ Err error) }
+    ensures { MatchOption (class_refusal bytes.now) (result ≡ Ok (class_of_bytes bytes.now))
+        (λ error. result ≡ Err error) }
 {
     let class = MessageHeader::from_bytes(bytes)?.get_type().class();
     if class == MessageClass::Request {

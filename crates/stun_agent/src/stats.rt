@@ -234,13 +234,14 @@ impl StunAgentStats {
     }
 }
 
-/// Counting is adding: one tally behind another counts as both together, from the start any list
+/// Counting is adding: one tally after another counts as both together, from the start any list
 /// of tallies counts as its sums, each capped once, with its shortest and longest round trip, and
 /// a full counter stays full.
 pub fn counting_is_adding()
     ensures both { (first second : Tally) (statistics : Statistics)
         → counted second (counted first statistics) ≡ counted (together first second) statistics }
-    ensures all { (tallies : List Tally) → counted_in_turn tallies new_statistics ≡ counted (total tallies) new_statistics }
+    ensures all { (tallies : List Tally) → counted_in_turn tallies new_statistics
+        ≡ counted (total tallies) new_statistics }
     ensures shortest { (tallies : List Tally)
         → IsLeast (total tallies).round_trips (counted_in_turn tallies new_statistics).rtt_min }
     ensures longest { (tallies : List Tally)
@@ -252,7 +253,8 @@ pub fn counting_is_adding()
 /// response, nor a time-out, nor a cancellation. Before anything is counted there are none.
 pub fn outstanding_requests_are_those_left()
     ensures none { LeavesOutstanding new_statistics 0 }
-    ensures left { (statistics : Statistics) (n : ℕ) → LeavesOutstanding statistics n → outstanding_requests statistics ≡ n }
+    ensures left { (statistics : Statistics) (n : ℕ) → LeavesOutstanding statistics n
+        → outstanding_requests statistics ≡ n }
     ensures kept { (tally : Tally) (statistics : Statistics) (before after : ℕ)
         → LeavesOutstanding statistics before → IsNotFull (counted tally statistics)
         → before + tally.requests_sent ≡ after + (tally.responses_received + tally.timed_out + tally.cancelled)

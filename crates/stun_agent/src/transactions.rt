@@ -56,8 +56,10 @@ pub(crate) fn pass_slots<A: Allocator>(
 ) -> Option<(TransactionId, usize)>
     requires index { IsIndexOf transport all.old.entries deadlines.old }
     requires ascending { IsAscending all.old.entries }
-    ensures sent { result ≡ option_map (λ e. (e.0, length e.1.bytes)) (next_sent transport now all.old.entries) }
-    ensures after { all.new.entries ≡ after_slots transport now (option_map (λ s. s.0) result) all.old.entries }
+    ensures sent { result ≡ option_map (λ e. (e.0, length e.1.bytes))
+        (next_sent transport now all.old.entries) }
+    ensures after { all.new.entries ≡ after_slots transport now
+        (option_map (λ s. s.0) result) all.old.entries }
     ensures kept { IfSome result (λ s. option_map contents (get nat_cmp all.new s.0)
         ≡ option_map (λ e. contents e.1) (next_sent transport now all.old.entries)) }
     ensures index { IsIndexOf transport all.new.entries deadlines.new }
@@ -82,7 +84,8 @@ fn pass_slot<A: Allocator>(
 ) -> Option<usize>
     requires index { IsIndexOf transport all.old.entries deadlines.old }
     requires due { IfSome (at id all.old.entries) (λ t. IsTrue (is_due transport now t)) }
-    ensures sent { MatchOption (at id all.old.entries) (result ≡ None) (λ t. result ≡ length_sent t) }
+    ensures sent { MatchOption (at id all.old.entries) (result ≡ None)
+        (λ t. result ≡ length_sent t) }
     ensures after { all.new.entries ≡ changed (after_slot now) id all.old.entries }
     ensures index { IsIndexOf transport all.new.entries deadlines.new }
 {
@@ -100,7 +103,8 @@ fn take_slot<A: Allocator>(
     id: TransactionId,
 ) -> Option<usize>
     requires { IfSome (at id all.old.entries) (λ t. IsTrue (is_due transport now t)) }
-    ensures sent { MatchOption (at id all.old.entries) (result ≡ None) (λ t. result ≡ length_sent t) }
+    ensures sent { MatchOption (at id all.old.entries) (result ≡ None)
+        (λ t. result ≡ length_sent t) }
     ensures after { all.new.entries ≡ changed (after_slot now) id all.old.entries }
 {
     let transaction = all.get_mut(&id)?;

@@ -43,7 +43,7 @@ front_true : (a b : Bool) → (a && b) ≡ true → a ≡ true
 front_true true b h = refl
 front_true false b h = cc
 
--- a key that a digest stands under is that of a present user for a supported algorithm
+-- a key that a digest verifies under is that of a present user for a supported algorithm
 pub record HasKey (users : Registered) (r : Reading) (name : List ℕ) (a : IntegrityAlgorithm) : Type 0 where
   pub password : List ℕ
   pub present : fin.get users.passwords name ≡ Some password
@@ -111,7 +111,7 @@ module _ (users : Registered) (feature : Feature) (ours : List ℕ) (offered : O
 
 -- ---- to the verdict
 
--- a digest that stands is there
+-- a digest that verifies is there
 protected : (o : Option (List ℕ → Option IntegrityAlgorithm)) (key : List ℕ)
     → IsSome (option_and_then (λ (verify : List ℕ → Option IntegrityAlgorithm). verify key) o) → is_some o ≡ true
 protected None key h = cc

@@ -38,7 +38,7 @@ length-with_attribute message a n long =
     let both = length-append (with_length message n) (spelled_attribute a) in
     both ∙ (rw (front, back) refl)
 
--- the integrity attribute stands behind the message with its length raised
+-- the integrity attribute is after the message with its length raised
 pub length-with_integrity : (message : List ℕ) (algorithm : IntegrityAlgorithm) (key : List ℕ) → 20 ≤ length message
     → length (with_integrity message algorithm key) ≡ length message + attribute_length (digest_length algorithm)
 length-with_integrity message algorithm key long =
@@ -128,7 +128,7 @@ grown_by_server s response p q long h = grown_at response s.registered s.place p
 refused_not : {V : Type 0} (reason : StunWriteError) (page : Result Page StunWriteError) → Err reason ≡ page → IsOk page → V
 refused_not reason page is ok = absurd (true≢false (sym (ap is_ok is ∙ ok)))
 
--- where memory is wanting for additions, less than they take is reserved
+-- where an allocation fails for additions, less than they take is reserved
 pub wants_short : (list : List Addition) (page : Page) (reserved : ℕ) → WantsMemory list page reserved → reserved < growth list
 wants_short list page reserved w =
     let all : growth list ≡ growth (w.first ++ w.others) = ap growth w.in_order in

@@ -1,4 +1,4 @@
--- What additions leave, one after another: each adds its attribute, and nothing is added behind a digest.
+-- What additions leave, one after another: each adds its attribute, and nothing is added after a digest.
 use Rattle.std.proofs.Common.{◌≡◌, ℕ, ◌-◌, ◌≤◌, Bool, true, false, List, [], ◌∷◌, ◌++◌, length, Ok, refl, sym, ◌∙◌, ap, subst, arith}
 use Rattle.std.specs.Prelude.{Option, Some, None, nat_lt, find, ◌==◌, ◌||◌, if◌then◌else◌}
 use Rattle.std.specs.List.{AllByRecursion}
@@ -89,7 +89,7 @@ taken_digest message room algorithm none =
     let signed = unrefused (has_integrity_attribute message) MessageIntegrityExists size none in
     record { unsigned = signed.0; fits = fitting message room (digest_length algorithm) signed.1; enough = roomy message room (digest_length algorithm) signed.1 }
 
--- nothing is added behind a digest
+-- nothing is added after a digest
 refused_behind : (addition : Addition) (message : List ℕ) (room : ℕ) → has_integrity_attribute message ≡ true
     → refusal_of addition (record { bytes = message; room = room }) ≡ None → ⊥
 refused_behind (attribute a) message room signed none =

@@ -25,11 +25,11 @@ up_to_none [] (suc i) h = refl
 up_to_none (y ∷ ys) zero h = cc
 up_to_none (y ∷ ys) (suc i) h = ap (λ zs. y ∷ zs) (up_to_none ys i h)
 
--- what stands from an index on begins with its element
+-- what is from an index on begins with its element
 pub drop-at : {X : Type 0} (xs : List X) (i : ℕ) (x : X) → slice_get xs i ≡ Some x → drop i xs ≡ x ∷ drop (i + 1) xs
 drop-at xs i x h = rw (add-one i) (from_at xs i x h)
 
--- what stands up to an index ends with its element
+-- what is up to an index ends with its element
 pub take-at : {X : Type 0} (xs : List X) (i : ℕ) (x : X) → slice_get xs i ≡ Some x → take (i + 1) xs ≡ take i xs ++ x ∷ []
 take-at xs i x h = rw (add-one i) (up_to_at xs i x h)
 

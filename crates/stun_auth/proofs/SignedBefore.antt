@@ -1,4 +1,4 @@
--- What was signed with success was signable: each addition was taken behind those before it.
+-- What was signed with success was signable: each addition was taken after those before it.
 use Rattle.std.proofs.Common.{◌≡◌, ℕ, ◌+◌, ◌-◌, ◌≤◌, false, List, [], ◌∷◌, ◌++◌, length, Ok, refl, sym, ◌∙◌, ap, arith}
 use Rattle.std.specs.Prelude.{Some, None, ◌==◌}
 use Rattle.std.specs.List.{AllByRecursion}
@@ -17,7 +17,7 @@ use Rattle.stun_auth.proofs.JoinedLemmas.{WritingLaws, all_refused_behind, or_no
 use Rattle.stun_auth.proofs.SignedReading.{typed-additions, written-within}
 use Rattle.stun_auth.proofs.SignedRoom.{IsReady, length-one_more}
 
--- types that are not there behind one attribute more were not there before it
+-- types that are not there after one attribute more were not there before it
 fresh_before : (message longer : List ℕ) (a : TypedValue) (kinds : List ℕ) → walk longer ≡ walk message ++ (length message, a) ∷ []
     → AllByRecursion (λ kind. has_kind kind (walk longer) ≡ false) kinds → AllByRecursion (λ kind. has_kind kind (walk message) ≡ false) kinds
 fresh_before message longer a [] walked fresh = tt

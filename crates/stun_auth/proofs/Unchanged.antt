@@ -84,7 +84,7 @@ needless-unchanged s now words r needless = record {
   same_place = ap (λ b. cond b (Some (with_accepted (standing s now words) (verdict_at s (standing s now words) r))) s.place) needless;
 }
 
--- where a nonce stands, a verdict that leaves its place
+-- where a nonce is current, a verdict that leaves its place
 pub kept-unchanged : (s : Sight) (now : ℕ) (words : List ℕ) (r : Reading) (place : PlaceSeen) → s.place ≡ Some place → stands_at now (Some place) ≡ true
     → with_accepted place (verdict_at s place r) ≡ place → ChangesNothing s now words r
 kept-unchanged s now words r place there stands same =

@@ -50,7 +50,7 @@ wants_later xs ys page next reserved left done kept w = record {
   not_reserved = omega (arith, growth-append xs w.first, kept, w.not_reserved);
 }
 
--- memory is wanting for one addition that is not refused and takes more than is reserved
+-- an allocation fails for one addition that is not refused and takes more than is reserved
 pub wants_one : (x : Addition) (page next : Page) (reserved : ℕ) → added_one x page ≡ Ok next → reserved < growth_of x → WantsMemory (x ∷ []) page reserved
 wants_one x page next reserved accepted short = record {
   first = x ∷ [];
@@ -101,7 +101,7 @@ added_refused xs ys page now end reserved left last reason h = record { outcome 
 
 -- ---- one addition
 
--- what is refused by the first reason that holds is refused by none where memory is wanting
+-- what is refused by the first reason that holds is refused by none where an allocation fails
 if_not : (b : Bool) (reason : StunWriteError) (rest : Option StunWriteError) → (reason ≡ OutOfMemory → ⊥) → (rest ≡ Some OutOfMemory → ⊥)
     → (if b then Some reason else rest) ≡ Some OutOfMemory → ⊥
 if_not true reason rest not others is = not (let h : Some reason ≡ Some OutOfMemory = is in cc)

@@ -13,7 +13,7 @@ pub data Addition : Type 0 where
   attribute : TypedValue → Addition
   integrity : IntegrityAlgorithm → List ℕ → Addition
 
--- a message in a writer: its bytes, and the room behind them
+-- a message in a writer: its bytes, and the room after them
 pub record Page : Type 0 where
   pub bytes : List ℕ
   pub room : ℕ
@@ -62,7 +62,7 @@ abbrev pub added_all : List Addition → Page → Result Page StunWriteError
 added_all [] page = Ok page
 added_all (addition ∷ others) page = after (added_one addition page) (added_all others)
 
--- memory is wanting for additions of which so many bytes are reserved: nothing refuses the first of them, up to one, and
+-- an allocation fails for additions of which so many bytes are reserved: nothing refuses the first of them, up to one, and
 -- these take more than is reserved
 pub record WantsMemory (list : List Addition) (page : Page) (reserved : ℕ) : Type 0 where
   pub first : List Addition
@@ -71,7 +71,7 @@ pub record WantsMemory (list : List Addition) (page : Page) (reserved : ℕ) : T
   pub not_refused : IsOk (added_all first page)
   pub not_reserved : reserved < growth first
 
--- the first fact holds, or the second where memory is wanting
+-- the first fact holds, or the second where an allocation fails
 abbrev pub UnlessMemory : {V : Type 0} → Result V StunWriteError → Type 0 → Type 0 → Type 0
 UnlessMemory (Ok value) P Q = P
 UnlessMemory (Err NotAllowed) P Q = P

@@ -107,7 +107,7 @@ abbrev pub reason_of : Refusal → LongTermClientAuthErrorReason
 reason_of Refused.Unauthorized = Unauthorized
 reason_of Refused.UnsupportedFeature = UnsupportedFeature
 
--- the algorithm whose digest stands under the kept key
+-- the algorithm whose digest verifies under the kept key
 abbrev pub standing_digest : ClientState → Reading → Option IntegrityAlgorithm
 standing_digest initial r = None
 standing_digest (authenticating c) r = stands_under r c.key
@@ -171,7 +171,7 @@ IsResend (Ok (ResendRequest algorithm)) = ⊤
 IsResend (Ok (Validated algorithm)) = ⊥
 IsResend (Err reason) = ⊥
 
--- the first fact holds, or the second where memory is wanting
+-- the first fact holds, or the second where an allocation fails
 abbrev pub ForReason : LongTermClientAuthErrorReason → Type 0 → Type 0 → Type 0
 ForReason Unauthorized P Q = P
 ForReason IntegrityFailed P Q = P

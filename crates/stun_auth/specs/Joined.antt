@@ -1,4 +1,4 @@
--- What a message says after additions (RFC 8489, sections 14.5, 14.6 and 9.2): the attributes that count, and whose digest stands.
+-- What a message says after additions (RFC 8489, sections 14.5, 14.6 and 9.2): the attributes that count, and whose digest verifies.
 use Rattle.std.specs.Prelude.{◌≡◌, ℕ, ◌-◌, ◌<◌, ◌^◌, ◌==◌, false, if◌then◌else◌, List, [], ◌∷◌, ◌++◌, length, Option, Some, None}
 use Rattle.std.specs.Option.{is_some, option_map, option_or}
 use Rattle.stun_base.specs.Header.{type_field, transaction_id_field}
@@ -22,7 +22,7 @@ abbrev pub written_attribute : List ℕ → Addition → TypedValue
 written_attribute message (attribute a) = a
 written_attribute message (integrity algorithm key) = integrity_attribute message algorithm key
 
--- the attributes that additions write, each behind what is there
+-- the attributes that additions write, each after what is there
 abbrev pub added_members : List ℕ → List Addition → List Member
 added_members message [] = []
 added_members message (addition ∷ others) =
@@ -59,7 +59,7 @@ pub record HasAdded (before : List ℕ) (list : List Addition) (after : List ℕ
   pub integrity_is : has_integrity after ≡ is_some (protection_in list)
   -- without a digest more can be added
   pub is_open : protection_in list ≡ None → IsOpen after
-  -- with one, it stands under its key
+  -- with one, it verifies under its key
   pub digest_stands : (p : Protection) → protection_in list ≡ Some p → stands after p.key ≡ Some p.algorithm
 
 -- of each type, the attribute that was added is read, or else the one that was there

@@ -24,7 +24,7 @@ abbrev pub three_bytes : Result (List ℕ) DecodeError → Option (List ℕ)
 three_bytes (Ok bytes) = if length bytes == 3 then Some bytes else None
 three_bytes (Err e) = None
 
--- the 24 security bits of a nonce: its four letters behind the cookie, where they are base64 of three bytes
+-- the 24 security bits of a nonce: its four letters after the cookie, where they are base64 of three bytes
 unfoldable pub security_bits : List ℕ → Option (List ℕ)
 security_bits text = if begins_with_cookie text && nat_le 13 (length text) then three_bytes (decode_of standard (take 4 (drop 9 text))) else None
 

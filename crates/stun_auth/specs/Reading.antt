@@ -66,10 +66,10 @@ pub record Reading : Type 0 where
   -- the algorithms whose keys the listed, and the chosen, password algorithms make
   pub algorithms : Option (List IntegrityAlgorithm)
   pub algorithm : Option IntegrityAlgorithm
-  -- where an integrity attribute is visible and well formed, the algorithm whose digest stands under a key
+  -- where an integrity attribute is visible and well formed, the algorithm whose digest verifies under a key
   pub integrity : Option (List ℕ → Option IntegrityAlgorithm)
 
--- the algorithm whose digest stands under a key
+-- the algorithm whose digest verifies under a key
 abbrev pub stands_under : Reading → List ℕ → Option IntegrityAlgorithm
 stands_under r key = option_and_then (λ (verify : List ℕ → Option IntegrityAlgorithm). verify key) r.integrity
 

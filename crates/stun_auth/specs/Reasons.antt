@@ -25,7 +25,7 @@ ForReason BadRequest P Q = P
 ForReason StaleNonce P Q = P
 ForReason OutOfMemory P Q = Q
 
--- the first fact holds, or the second where memory was wanting
+-- the first fact holds, or the second where an allocation failed
 abbrev pub OrMemory : {V : Type 0} → Result V LongTermServerAuthErrorReason → Type 0 → Type 0 → Type 0
 OrMemory (Ok v) P Q = P
 OrMemory (Err reason) P Q = ForReason reason P Q

@@ -31,17 +31,17 @@ pub record Sight : Type 0 where
 
 -- ---- nonces
 
--- whether a nonce stands at a moment: a nonce is kept up to its end
+-- whether a nonce is current at a moment: a nonce is kept up to its end
 abbrev pub stands_at : ℕ → Option PlaceSeen → Bool
 stands_at now None = false
 stands_at now (Some place) = nat_le now place.expires
 
--- the place where a nonce stands, or else the place with a new nonce
+-- the place where a nonce is current, or else the place with a new nonce
 abbrev pub standing_of : Option PlaceSeen → List ℕ → ℕ → ℕ → PlaceSeen
 standing_of None nonce now end = renewed None nonce end None
 standing_of (Some place) nonce now end = if nat_le now place.expires then place else renewed (Some place) nonce end None
 
--- the place once a nonce is needed: the standing one stays, else one is made of the random words
+-- the place once a nonce is needed: the current one stays, else one is made of the random words
 abbrev pub standing : Sight → ℕ → List ℕ → PlaceSeen
 standing s now words = standing_of s.place (nonce_of s.registered.algorithms s.feature words) now (moment_after now s.expiry)
 
@@ -91,15 +91,15 @@ bits_differ None theirs = false
 bits_differ (Some ours) None = false
 bits_differ (Some ours) (Some theirs) = not (bytes_eq ours theirs)
 
--- how a nonce that is not the standing one is refused: forged security bits are not stale
+-- how a nonce that is not the current one is refused: forged security bits are not stale
 abbrev pub nonce_refusal : List ℕ → List ℕ → Refusal
 nonce_refusal ours theirs = if bits_differ (security_bits ours) (security_bits theirs) then Unauthorized else StaleNonce
 
--- the algorithm whose digest stands under the key that a user has for an algorithm
+-- the algorithm whose digest verifies under the key that a user has for an algorithm
 abbrev pub stands_for : Registered → Reading → IntegrityAlgorithm → NameAndPassword → Option IntegrityAlgorithm
 stands_for users r a user = option_and_then (stands_under r) (key_of users user a)
 
--- the algorithm whose digest stands, of the user who is named and the algorithm that both sides mean
+-- the algorithm whose digest verifies, of the user who is named and the algorithm that both sides mean
 abbrev pub proven : Registered → Feature → Reading → Option IntegrityAlgorithm → Option IntegrityAlgorithm
 proven users feature r chosen = option_and_then (λ a. option_and_then (stands_for users r a) (named users feature r)) chosen
 
@@ -133,6 +133,6 @@ abbrev pub or_refused : Option Refusal → ClientSeen → Result ClientSeen Refu
 or_refused None client = Ok client
 or_refused (Some refusal) client = Err refusal
 
--- who is accepted where this nonce stands and these algorithms were offered, or the first refusal that holds
+-- who is accepted where this nonce is current and these algorithms were offered, or the first refusal that holds
 abbrev pub verdict : Registered → Feature → List ℕ → Option AlgorithmSet → Reading → Result ClientSeen Refusal
 verdict users feature ours offered r = or_refused (refusal users feature ours offered r) (client_of users feature ours offered r)

@@ -28,7 +28,7 @@ abbrev pub short_term_refusal : Option Secret → List ℕ → ℕ → Option St
 short_term_refusal None message room = None
 short_term_refusal (Some secret) message room = signing_refusal message room secret.algorithm
 
--- the integrity attribute of an algorithm can stand behind a message in a writer with so much room
+-- the integrity attribute of an algorithm can be after a message in a writer with so much room
 pub record HasRoomFor (algorithm : IntegrityAlgorithm) (message : List ℕ) (room : ℕ) : Type 0 where
   pub unsigned : has_integrity message ≡ false
   pub short : length_with message (digest_length algorithm) ≤ max_length
@@ -39,7 +39,7 @@ abbrev pub ShortTermMaySign : Option Secret → List ℕ → ℕ → Type 0
 ShortTermMaySign None message room = ⊤
 ShortTermMaySign (Some secret) message room = HasRoomFor secret.algorithm message room
 
--- the algorithm whose digest stands, or why none does
+-- the algorithm whose digest verifies, or why none does
 abbrev pub verdict_of : Option IntegrityAlgorithm → ValidateError → Result (Option IntegrityAlgorithm) ValidateError
 verdict_of None refusal = Err refusal
 verdict_of (Some algorithm) refusal = Ok (Some algorithm)

@@ -22,7 +22,7 @@ use Rattle.stun_auth.specs.Registered.{Registered, key_at}
 use Rattle.stun_auth.specs.Seen.{ClientSeen, PlaceSeen}
 use Rattle.stun_auth.specs.Server.{Sight}
 
--- what is added, in the order in which it stands in the message
+-- what is added, in the order in which it is in the message
 pub record Added : Type 0 where
   pub nonce : Option (List ℕ)
   pub realm : Option (List ℕ)
@@ -102,7 +102,7 @@ pub record IsBuilt (message : List ℕ) (class : MessageClass) (error : Option �
 abbrev pub error_attribute : CodeAndReason → TypedValue
 error_attribute error = record { kind = ERROR_CODE; value = error_value error }
 
--- the additions fit the length field behind a message, and the room of its writer
+-- the additions fit the length field after a message, and the room of its writer
 pub record HasRoomFor (a : Added) (message : List ℕ) (room : ℕ) : Type 0 where
   pub field : length message - HEADER_LENGTH + growth (additions_of a) ≤ max_length
   pub enough : growth (additions_of a) ≤ room

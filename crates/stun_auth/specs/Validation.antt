@@ -38,7 +38,7 @@ sight s a = record { registered = s.registered; feature = s.feature; expiry = s.
 abbrev pub Answer : Type 0
 Answer = Result LongTermServerValidation LongTermServerAuthErrorReason
 
--- the algorithm whose digest stands under the key that the present user of a client has for the client's algorithm
+-- the algorithm whose digest verifies under the key that the present user of a client has for the client's algorithm
 abbrev pub client_stands : Registered → Reading → ClientSeen → Option IntegrityAlgorithm
 client_stands users r c = option_and_then (stands_under r) (key_at users c.name c.algorithm)
 
@@ -87,7 +87,7 @@ place_after s now words r =
     if needs_nonce r then Some (with_accepted (standing s now words) (verdict_at s (standing s now words) r))
     else s.place
 
--- whether the words are drawn: where a nonce is needed and none stands
+-- whether the words are drawn: where a nonce is needed and none is current
 abbrev pub draws : Sight → ℕ → Reading → Bool
 draws s now r = needs_nonce r && not (stands_at now s.place)
 
@@ -104,7 +104,7 @@ put_place places a (Some place) = map.insert places a place
 abbrev pub after_message : ServerSeen → SocketAddr → ℕ → List ℕ → Reading → ServerSeen
 after_message s from now words r = record s { places = put_place s.places from (place_after (sight s from) now words r) }
 
--- a message is accepted with an algorithm: someone is accepted with it at the place where a nonce stands
+-- a message is accepted with an algorithm: someone is accepted with it at the place where a nonce is current
 abbrev pub AcceptedWith : Sight → ℕ → List ℕ → Reading → IntegrityAlgorithm → Type 0
 AcceptedWith s now words r a =
     (name : List ℕ) × IsAccepted s.registered s.feature (standing s now words).nonce (standing s now words).offered r (record { name = name; algorithm = a })

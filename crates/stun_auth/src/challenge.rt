@@ -54,7 +54,8 @@ pub(crate) struct Offer<'a, 'm> {
 impl<A: Allocator + Copy> UserNaming<A> {
     /// The name of a user at a realm, as it is or hashed.
     fn new(alloc: A, hashes: bool, username: &str, realm: &str) -> Result<Self, AllocError>
-        ensures { IfOk result (λ naming. naming_seen naming ≡ naming_of hashes username.now realm.now) }
+        ensures { IfOk result (λ naming. naming_seen naming
+            ≡ naming_of hashes username.now realm.now) }
     {
         if hashes {
             Ok(UserNaming::Hashed(userhash(username, realm)))
@@ -101,7 +102,8 @@ fn copied<A: Allocator>(
     alloc: A,
     list: &Option<PasswordAlgorithms>,
 ) -> Result<Vec<PasswordAlgorithmValue, A>, AllocError>
-    ensures { IfOk result (λ copy. map integrity_of copy.items ≡ list_or_none (option_map (map integrity_of) list.now)) }
+    ensures { IfOk result (λ copy. map integrity_of copy.items
+        ≡ list_or_none (option_map (map integrity_of) list.now)) }
 {
     match list {
         Some(list) => listed(alloc, list),
@@ -152,7 +154,8 @@ fn choose_by_list(
     asks: bool,
     list: &Option<PasswordAlgorithms>,
 ) -> Result<IntegrityAlgorithm, Refusal>
-    ensures { result ≡ choose_by_list (in_order supported) asks (option_map (map integrity_of) list.now) }
+    ensures { result ≡ choose_by_list (in_order supported) asks
+        (option_map (map integrity_of) list.now) }
 {
     match list {
         Some(list) => match first_supported(supported, list) {
@@ -209,7 +212,8 @@ pub(crate) fn choose(
     nonce: &str,
     list: &Option<PasswordAlgorithms>,
 ) -> Result<IntegrityAlgorithm, Refusal>
-    ensures { result ≡ choose (in_order supported) feature nonce.now (option_map (map integrity_of) list.now) }
+    ensures { result ≡ choose (in_order supported) feature nonce.now
+        (option_map (map integrity_of) list.now) }
 {
     match NonceSecurityBits::from_nonce(nonce) {
         Some(bits) => {

@@ -37,7 +37,8 @@ impl<A: Allocator> State<A> {
 
     /// Replaces the kept realm and nonce. The key stays.
     fn renew(&mut self, realm: String<A>, nonce: String<A>)
-        ensures { state_seen self.new ≡ renewed (state_seen self.old) (string_bytes realm) (string_bytes nonce) }
+        ensures { state_seen self.new ≡ renewed (state_seen self.old) (string_bytes realm)
+            (string_bytes nonce) }
     {
         match self {
             State::Initial => {}
@@ -111,10 +112,12 @@ impl<A: Allocator> fmt::Debug for LongTermClientAuth<A> {
     ghost debug_output = { λ _. Some (codes "LongTermClientAuth { .. }") };
 
     fn fmt<W: fmt::Write>(&self, f: &mut fmt::Formatter<W>) -> fmt::Result
-        ensures writes { WritesOnOk W.write_str_gives f.old result (codes "LongTermClientAuth { .. }") f.new }
+        ensures writes { WritesOnOk W.write_str_gives f.old result
+            (codes "LongTermClientAuth { .. }") f.new }
 
         // So it is whatever width, precision or other option is asked.
-        ensures styled { WritesStyledOnOk W.write_str_gives f.old result (codes "LongTermClientAuth { .. }") f.new }
+        ensures styled { WritesStyledOnOk W.write_str_gives f.old result
+            (codes "LongTermClientAuth { .. }") f.new }
     {
         f.write_str("LongTermClientAuth { .. }")
     }
@@ -123,7 +126,7 @@ impl<A: Allocator> fmt::Debug for LongTermClientAuth<A> {
 impl<A: Allocator> LongTermClientAuth<A> {
     /// A client that supports SHA-1 alone, sends its name as the server allows and has no credentials.
     ///
-    /// It takes no memory. What is kept later stands in memory of this allocator.
+    /// It does not allocate. What is kept later is in memory of this allocator.
     pub fn new(alloc: A) -> Self
         ensures { result ≡ new_client }
     {
@@ -191,7 +194,7 @@ impl<A: Allocator> LongTermClientAuth<A> {
         matches!(&self.state, State::Authenticated(_))
     }
 
-    /// The algorithm whose digest stands under the kept key.
+    /// The algorithm whose digest verifies under the kept key.
     fn standing_digest(&self, reading: &Reading<'_, '_>) -> Option<IntegrityAlgorithm>
         ensures { result ≡ standing_digest self.now.state (reading_seen reading.now) }
     {
@@ -253,7 +256,10 @@ impl<A: Allocator> LongTermClientAuth<A> {
         digest: Option<IntegrityAlgorithm>,
     ) -> Result<LongTermClientValidation, LongTermClientAuthError>
         ensures answer { result ≡ (after_digest self.old.state is_success digest).answer }
-        ensures state { self.new ≡ record self.old { state = (after_digest self.old.state is_success digest).state } }
+        ensures state { self.new ≡ record self.old {
+          state =
+              (after_digest self.old.state is_success digest).state;
+        } }
         ensures refused { OnErr result (self.new ≡ self.old) }
     {
         match digest {

@@ -14,7 +14,7 @@ pub enum LongTermClientValidation {
     ///
     /// The algorithm is there if the message itself was signed under the key that was kept before it.
     ResendRequest(Option<IntegrityAlgorithm>),
-    /// The digest of this algorithm stands under the kept key.
+    /// The digest of this algorithm verifies under the kept key.
     Validated(IntegrityAlgorithm),
 }
 
@@ -25,13 +25,13 @@ pub enum LongTermClientAuthErrorReason {
     /// was answered already.
     #[error("The message is not sufficiently authenticated")]
     Unauthorized,
-    /// No digest stands under the kept key.
+    /// No digest verifies under the kept key.
     #[error("The message failed integrity checks")]
     IntegrityFailed,
     /// A challenge without a supported algorithm, or without the hashed user names that are required.
     #[error("A required feature is not supported")]
     UnsupportedFeature,
-    /// Memory is wanting for what a challenge asks to keep.
+    /// An allocation fails for what a challenge asks to keep.
     #[error("Out of memory")]
     OutOfMemory,
 }

@@ -36,7 +36,7 @@ use crate::server_reason::{LongTermServerAuthErrorReason, LongTermServerValidati
 use std::alloc::AllocError;
 
 /// What was added is what is read: after successful additions to an open message, its own attributes count as before and
-/// then the added ones, and the digest that was added last stands under its key.
+/// then the added ones, and the digest that was added last verifies under its key.
 pub fn additions_are_read_back()
     ensures added { (list : List Addition) (message : List ℕ) (room : ℕ) (page : Page) → IsOpen message → AllByRecursion IsTyped list
         → added_all list (record { bytes = message; room = room }) ≡ Ok page → HasAdded message list page.bytes }
@@ -48,7 +48,7 @@ pub fn additions_are_read_back()
 }
 
 /// What is read of a signed message is its class, its error code, and each attribute that signing added; an attribute that
-/// it did not add is not there, and the digest stands under the key that it was made with.
+/// it did not add is not there, and the digest verifies under the key that it was made with.
 pub fn signed_messages_are_read()
     ensures { (a : Added) (message : List ℕ) (room : ℕ) (page : Page) → IsUnsigned message → IsWritable a
         → added_all (additions_of a) (record { bytes = message; room = room }) ≡ Ok page
@@ -61,13 +61,15 @@ pub fn signed_messages_are_read()
 /// The answer to a request or an indication is `Validated` with an algorithm exactly where the message is accepted with it
 /// (RFC 8489, section 9.2.4).
 pub fn accepted_messages_are_validated()
-    ensures { (s : Sight) (now : ℕ) (words : List ℕ) (r : Reading) → ValidatesAccepted s now words r (answer s now words r) }
+    ensures { (s : Sight) (now : ℕ) (words : List ℕ) (r : Reading)
+        → ValidatesAccepted s now words r (answer s now words r) }
 {}
 
 /// A response and a message without all of realm, nonce and name, though it has integrity, change nothing; at a nonce that
-/// stands, neither does a message that is refused, nor one of the client who is kept there already.
+/// is current, neither does a message that is refused, nor one of the client who is kept there already.
 pub fn messages_that_change_nothing()
-    ensures needless { (s : Sight) (now : ℕ) (words : List ℕ) (r : Reading) → needs_nonce r ≡ false → ChangesNothing s now words r }
+    ensures needless { (s : Sight) (now : ℕ) (words : List ℕ) (r : Reading) → needs_nonce r ≡ false
+        → ChangesNothing s now words r }
     ensures refused { (s : Sight) (now : ℕ) (words : List ℕ) (r : Reading) (place : PlaceSeen) (e : ServerRefusal) → s.place ≡ Some place → stands_at now (Some place) ≡ true
         → verdict_at s place r ≡ Err e → ChangesNothing s now words r }
     ensures repeated { (s : Sight) (now : ℕ) (words : List ℕ) (r : Reading) (place : PlaceSeen) (client : ClientSeen) → s.place ≡ Some place → stands_at now (Some place) ≡ true
@@ -90,7 +92,8 @@ pub fn expired_nonces_are_forgotten()
 /// A built message without attributes, and one with an error code alone, can be signed, and are read as what they were
 /// built with.
 pub fn built_messages_can_be_signed()
-    ensures bare { (message_type transaction_id : ℕ) → message_type < 2 ^ 14 → IsBuilt (spelled message_type transaction_id []) (class_of message_type) None }
+    ensures bare { (message_type transaction_id : ℕ) → message_type < 2 ^ 14
+        → IsBuilt (spelled message_type transaction_id []) (class_of message_type) None }
     ensures error { (message_type transaction_id : ℕ) (error : CodeAndReason) → message_type < 2 ^ 14 → IsError error
         → IsBuilt (spelled message_type transaction_id (error_attribute error ∷ [])) (class_of message_type) (if is_error (class_of message_type) then Some error.code else None) }
 {
@@ -101,7 +104,8 @@ pub fn built_messages_can_be_signed()
 /// What signing added is within its limits. Signing succeeds where texts are so, and message and writer have room for what it
 /// adds: 2,148 bytes where at most two algorithms are listed.
 pub fn signing_succeeds_with_room()
-    ensures within { (a : Added) (page signed : Page) → added_all (additions_of a) page ≡ Ok signed → IsWithinLimits a }
+    ensures within { (a : Added) (page signed : Page) → added_all (additions_of a) page ≡ Ok signed
+        → IsWithinLimits a }
     ensures growth { (a : Added) → IsSmall a → growth (additions_of a) ≤ 2148 }
     ensures room { (a : Added) (message : List ℕ) (room : ℕ) (class : MessageClass) (error : Option ℕ) → IsBuilt message class error → IsSmall a → 2148 ≤ room
         → HasRoomFor a message room }
@@ -116,22 +120,31 @@ pub fn signing_succeeds_with_room()
 
 /// What each side adds, by attribute; a server that signs has something to add.
 pub fn sides_add_by_attribute()
-    ensures client { (request : Bool) (state : ClientState) → client_additions request state ≡ additions_of (added_by_client request state) }
+    ensures client { (request : Bool) (state : ClientState)
+        → client_additions request state ≡ additions_of (added_by_client request state) }
     ensures server { (s : Sight) (response : Bool) (page : Page) (a : Added) → added_by_server s response ≡ Some a
         → server_signed s response page ≡ added_all (additions_of a) page }
-    ensures there { (s : Sight) (response : Bool) (page : Page) → IsOk (server_signed s response page) → IsSome (added_by_server s response) }
+    ensures there { (s : Sight) (response : Bool) (page : Page)
+        → IsOk (server_signed s response page) → IsSome (added_by_server s response) }
 {}
 
 /// The nonces that a server makes are texts. They ask for password algorithms exactly where HMAC-SHA256 is supported, and for
 /// a hashed user name exactly where that is possible; they have security bits where they ask for either, and those of the
 /// same settings have the same ones (RFC 8489, section 9.2).
 pub fn nonces_ask_for_what_is_supported()
-    ensures text { (set : AlgorithmSet) (feature : TheFeature) (words : List ℕ) → IsUtf8 (nonce_of set feature words) }
-    ensures algorithms { (set : AlgorithmSet) (feature : TheFeature) (words : List ℕ) → asks_for_algorithms (nonce_of set feature words) ≡ contains Sha256 set }
-    ensures userhash { (set : AlgorithmSet) (feature : TheFeature) (words : List ℕ) → asks_for_userhash (nonce_of set feature words) ≡ is_possible feature }
-    ensures there { (set : AlgorithmSet) (feature : TheFeature) (words : List ℕ) → is_some (security_bits (nonce_of set feature words)) ≡ (contains Sha256 set || is_possible feature) }
-    ensures alike { (set : AlgorithmSet) (feature : TheFeature) (words others : List ℕ) → security_bits (nonce_of set feature words) ≡ security_bits (nonce_of set feature others) }
-    ensures short { (set : AlgorithmSet) (feature : TheFeature) (words : List ℕ) → length (nonce_of set feature words) ≤ 13 + length words }
+    ensures text { (set : AlgorithmSet) (feature : TheFeature) (words : List ℕ)
+        → IsUtf8 (nonce_of set feature words) }
+    ensures algorithms { (set : AlgorithmSet) (feature : TheFeature) (words : List ℕ)
+        → asks_for_algorithms (nonce_of set feature words) ≡ contains Sha256 set }
+    ensures userhash { (set : AlgorithmSet) (feature : TheFeature) (words : List ℕ)
+        → asks_for_userhash (nonce_of set feature words) ≡ is_possible feature }
+    ensures there { (set : AlgorithmSet) (feature : TheFeature) (words : List ℕ)
+        → is_some (security_bits (nonce_of set feature words))
+        ≡ (contains Sha256 set || is_possible feature) }
+    ensures alike { (set : AlgorithmSet) (feature : TheFeature) (words others : List ℕ)
+        → security_bits (nonce_of set feature words) ≡ security_bits (nonce_of set feature others) }
+    ensures short { (set : AlgorithmSet) (feature : TheFeature) (words : List ℕ)
+        → length (nonce_of set feature words) ≤ 13 + length words }
 {}
 
 /// Both sides sign what they may sign: nothing but want of memory refuses it.

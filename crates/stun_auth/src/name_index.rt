@@ -48,7 +48,7 @@ impl<A: Allocator + Copy> NameIndex<A> {
         Ok(())
     }
 
-    /// Removes a name with its hash. It takes no memory.
+    /// Removes a name with its hash. It does not allocate.
     pub(crate) fn remove(&mut self, hash: [u8; 32], name: String<A>)
         ensures { self.new ≡ set.remove self.old (hash, string_bytes name) }
     {

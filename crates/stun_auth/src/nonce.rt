@@ -18,7 +18,7 @@ use stun_base::algorithm::IntegrityAlgorithm;
 /// What a nonce begins with that carries security bits (RFC 8489, section 9.2).
 pub const LONG_TERM_RFC8489_NONCE_COOKIE: &str = "obMatJos2";
 
-/// The bytes of the cookie and of the four letters behind it.
+/// The bytes of the cookie and of the four letters after it.
 const FRONT_LENGTH: usize = 13;
 
 /// The bit of the first byte that means password algorithms (section 18.1).
@@ -27,7 +27,7 @@ const PASSWORD_ALGORITHMS: u8 = 0x80;
 /// The bit of the first byte that means anonymous user names (section 18.1).
 const USERNAME_ANONYMITY: u8 = 0x40;
 
-/// The 24 security bits of a nonce, as three bytes in the order in which they stand there.
+/// The 24 security bits of a nonce, as three bytes in the order in which they are there.
 ///
 /// Contracts see the three bytes.
 #[derive(Clone, Copy, Debug, Default, PartialEq, Eq, Hash)]
@@ -63,7 +63,7 @@ impl NonceSecurityBits {
         self.bytes
     }
 
-    /// The bits of a nonce: the four letters behind the cookie, where they are base64 of three bytes.
+    /// The bits of a nonce: the four letters after the cookie, where they are base64 of three bytes.
     #[tactic(auto, unfolding(crate::specs::Nonces::security_bits))]
     pub fn from_nonce(nonce: &str) -> Option<NonceSecurityBits>
         ensures { result ≡ security_bits nonce.now }
@@ -232,9 +232,12 @@ pub(crate) fn make_nonce<A: Allocator + Copy, R: Rng>(
     feature: Feature,
     rng: &mut R,
 ) -> Result<String<A>, AllocError>
-    ensures nonce { IfOk result (λ text. string_bytes text ≡ nonce_of algorithms feature (next_words 16 (R.stream rng.old))) }
-    ensures asks_for_algorithms { IfOk result (λ text. asks_for_algorithms (string_bytes text) ≡ contains IntegrityAlgorithm.Sha256 algorithms) }
-    ensures asks_for_userhash { IfOk result (λ text. asks_for_userhash (string_bytes text) ≡ is_possible feature) }
+    ensures nonce { IfOk result (λ text. string_bytes text
+        ≡ nonce_of algorithms feature (next_words 16 (R.stream rng.old))) }
+    ensures asks_for_algorithms { IfOk result (λ text. asks_for_algorithms (string_bytes text)
+        ≡ contains IntegrityAlgorithm.Sha256 algorithms) }
+    ensures asks_for_userhash { IfOk result (λ text. asks_for_userhash (string_bytes text)
+        ≡ is_possible feature) }
     ensures source { R.stream rng.new ≡ after_words 16 (R.stream rng.old) }
 {
     let words = draw_words(rng);

@@ -33,7 +33,8 @@ impl<A: Allocator> Client<A> {
         name: &str,
         algorithm: IntegrityAlgorithm,
     ) -> Result<Self, AllocError>
-        ensures { IfOk result (λ client. client_seen client ≡ record { name = name.now; algorithm = algorithm }) }
+        ensures { IfOk result (λ client. client_seen client
+            ≡ record { name = name.now; algorithm = algorithm }) }
     {
         let name = String::from_str(alloc, name)?;
         Ok(Client { name, algorithm })
@@ -57,7 +58,8 @@ impl<A: Allocator> Place<A> {
 
     /// The place of an address that had none.
     fn new(nonce: String<A>, expires: Instant, client: Option<Client<A>>) -> Self
-        ensures { place_seen result ≡ renewed None (string_bytes nonce) expires (option_map client_seen client) }
+        ensures { place_seen result ≡ renewed None (string_bytes nonce) expires
+            (option_map client_seen client) }
     {
         Place {
             nonce,
@@ -69,7 +71,8 @@ impl<A: Allocator> Place<A> {
 
     /// Whether its client has this name and this algorithm.
     pub(crate) fn has_client(&self, name: &str, algorithm: IntegrityAlgorithm) -> bool
-        ensures { IsTrue result ↔ ((place_seen self.now).client ≡ Some (record { name = name.now; algorithm = algorithm })) }
+        ensures { IsTrue result ↔ ((place_seen self.now).client
+            ≡ Some (record { name = name.now; algorithm = algorithm })) }
     {
         match &self.client {
             Some(client) => client.algorithm == algorithm && client.name.as_str() == name,
@@ -95,7 +98,8 @@ impl<A: Allocator> Place<A> {
 
     /// Gives the place another nonce, and another client if there is one.
     fn renew(&mut self, nonce: String<A>, expires: Instant, client: Option<Client<A>>)
-        ensures { place_seen self.new ≡ renewed (Some (place_seen self.old)) (string_bytes nonce) expires (option_map client_seen client) }
+        ensures { place_seen self.new ≡ renewed (Some (place_seen self.old))
+            (string_bytes nonce) expires (option_map client_seen client) }
     {
         self.nonce = nonce;
         self.expires = expires;
@@ -146,7 +150,8 @@ impl<A: Allocator + Copy> Places<A> {
 
     /// Sets the client of an address that has a nonce.
     pub(crate) fn set_client(&mut self, address: SocketAddr, client: Option<Client<A>>)
-        ensures { self.new ≡ with_change self.old address (with_client (option_map client_seen client)) }
+        ensures { self.new ≡ with_change self.old address
+            (with_client (option_map client_seen client)) }
     {
         match self.by_address.get_mut(&address) {
             Some(place) => {

@@ -19,7 +19,7 @@ use stun_base::algorithm::IntegrityAlgorithm;
 use stun_base::credentials::LongTermCredentials;
 use stun_base::key::{IntegrityKey, long_term_key, userhash};
 
-/// A user with a key for each supported algorithm. The keys stand inline.
+/// A user with a key for each supported algorithm. The keys are inline.
 #[derive(Drop)]
 pub(crate) struct User<A: Allocator> {
     password: String<A>,
@@ -61,7 +61,7 @@ impl<A: Allocator + Copy> User<A> {
         user
     }
 
-    /// Makes the keys anew. It takes no memory.
+    /// Makes the keys anew. It does not allocate.
     fn set_keys(&mut self, name: &str, realm: &str, supported: AlgorithmSet)
         ensures keys { HasKeys realm.now supported name.now self.new }
         ensures password { string_bytes self.new.password ≡ string_bytes self.old.password }
@@ -180,7 +180,8 @@ impl<A: Allocator + Copy> Registry<A> {
     }
 
     fn insert(&mut self, name: String<A>, password: String<A>) -> Result<(), AllocError>
-        ensures ok { OnOk result (self.new ≡ with_user self.old (record { username = string_bytes name; password = string_bytes password })) }
+        ensures ok { OnOk result (self.new ≡ with_user self.old
+            (record { username = string_bytes name; password = string_bytes password })) }
         ensures err { OnErr result (self.new ≡ self.old) }
     {
         let hash = userhash(name.as_str(), self.realm.as_str());
@@ -215,7 +216,7 @@ impl<A: Allocator + Copy> Registry<A> {
     }
 }
 
-/// Puts a user under a name, in the place of the one before. A new name comes back where memory is wanting.
+/// Puts a user under a name, in the place of the one before. A new name comes back where an allocation fails.
 fn put_user<A: Allocator + Copy>(
     users: &mut BTreeMap<String<A>, User<A>, A>,
     name: String<A>,
@@ -235,20 +236,21 @@ fn put_user<A: Allocator + Copy>(
     }
 }
 
-/// Takes out the user of a name, whose kept name comes back. It takes no memory.
+/// Takes out the user of a name, whose kept name comes back. It does not allocate.
 fn take_user<A: Allocator + Copy>(
     users: &mut BTreeMap<String<A>, User<A>, A>,
     name: &str,
 ) -> Option<String<A>>
     ensures name { IfSome result (λ kept. string_bytes kept ≡ name.now) }
-    ensures updates { UpdatesBy string_cmp (λ k. slice_cmp nat_cmp name.now (string_bytes k)) users.old users.new None }
+    ensures updates { UpdatesBy string_cmp (λ k. slice_cmp nat_cmp name.now
+        (string_bytes k)) users.old users.new None }
     ensures same { IfNone result (users.new.entries ≡ users.old.entries) }
 {
     let (name, _) = users.remove_entry(name)?;
     Some(name)
 }
 
-/// Makes the keys of all users anew. It takes no memory.
+/// Makes the keys of all users anew. It does not allocate.
 fn make_keys<A: Allocator, B: Allocator + Copy>(
     users: &mut BTreeMap<String<A>, User<B>, A>,
     realm: &str,

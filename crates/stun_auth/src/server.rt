@@ -29,13 +29,13 @@ use stun_base::instant::Instant;
 mod signing;
 mod validation;
 
-/// The seconds that a nonce may stand at the least.
+/// The seconds that a nonce may last at the least.
 const MINIMUM_NONCE_EXPIRY_SECONDS: u64 = 30;
 
-/// The seconds that a nonce stands where nothing else is set.
+/// The seconds that a nonce lasts where nothing else is set.
 const DEFAULT_NONCE_EXPIRY_SECONDS: u64 = 3600;
 
-/// The shortest time that a nonce may stand: 30 seconds.
+/// The shortest time that a nonce may last: 30 seconds.
 pub fn minimum_nonce_expiry_duration() -> Duration
     ensures { as_nanos result ≡ 30000000000 }
 {
@@ -76,18 +76,20 @@ impl<A: Allocator> fmt::Debug for LongTermServerAuth<A> {
     ghost debug_output = { λ _. Some (codes "LongTermServerAuth { .. }") };
 
     fn fmt<W: fmt::Write>(&self, f: &mut fmt::Formatter<W>) -> fmt::Result
-        ensures writes { WritesOnOk W.write_str_gives f.old result (codes "LongTermServerAuth { .. }") f.new }
+        ensures writes { WritesOnOk W.write_str_gives f.old result
+            (codes "LongTermServerAuth { .. }") f.new }
 
         // So it is whatever width, precision or other option is asked.
-        ensures styled { WritesStyledOnOk W.write_str_gives f.old result (codes "LongTermServerAuth { .. }") f.new }
+        ensures styled { WritesStyledOnOk W.write_str_gives f.old result
+            (codes "LongTermServerAuth { .. }") f.new }
     {
         f.write_str("LongTermServerAuth { .. }")
     }
 }
 
 impl<A: Allocator + Copy> LongTermServerAuth<A> {
-    /// A server of a realm without users: HMAC-SHA1 alone, hashed names where a client wants them, and nonces that stand for
-    /// 3600 seconds. It takes no memory.
+    /// A server of a realm without users: HMAC-SHA1 alone, hashed names where a client wants them, and nonces that last
+    /// 3600 seconds. It does not allocate.
     pub fn new(alloc: A, realm: String<A>) -> Self
         ensures { result ≡ new_server (string_bytes realm) }
     {
@@ -121,9 +123,10 @@ impl<A: Allocator + Copy> LongTermServerAuth<A> {
         self.feature
     }
 
-    /// The last nonce that was made for an address, whether it still stands or not.
+    /// The last nonce that was made for an address, whether it has expired or not.
     pub fn nonce_for_client(&self, address: SocketAddr) -> Option<&str>
-        ensures { option_copied result ≡ option_map (λ (p : PlaceSeen). p.nonce) (map.get self.now.places address) }
+        ensures { option_copied result ≡ option_map (λ (p : PlaceSeen). p.nonce)
+            (map.get self.now.places address) }
     {
         match self.places.get(address) {
             Some(place) => Some(place.nonce.as_str()),
@@ -149,7 +152,7 @@ impl<A: Allocator + Copy> LongTermServerAuth<A> {
 
     /// Adds a user, or gives a present one another password and the keys of it.
     ///
-    /// The one error is that memory is wanting; the server is then as before.
+    /// The one error is that an allocation fails; the server is then as before.
     pub fn add_user(&mut self, credentials: LongTermCredentials<A>) -> Result<(), AllocError>
         ensures ok { OnOk result (self.new ≡ record self.old { registered = with_user self.old.registered credentials }) }
         ensures err { OnErr result (self.new ≡ self.old) }
@@ -157,7 +160,7 @@ impl<A: Allocator + Copy> LongTermServerAuth<A> {
         self.registry.add_user(credentials)
     }
 
-    /// Supports one algorithm more. All users get a key for it. It takes no memory.
+    /// Supports one algorithm more. All users get a key for it. It does not allocate.
     pub fn add_supported_integrity(&mut self, algorithm: IntegrityAlgorithm)
         ensures { self.new ≡ record self.old { registered = record self.old.registered { algorithms = with_algorithm algorithm self.old.registered.algorithms } } }
     {
@@ -165,7 +168,7 @@ impl<A: Allocator + Copy> LongTermServerAuth<A> {
         self.registry.set_supported(supported);
     }
 
-    /// Supports this algorithm alone. All users have a key for just it. It takes no memory.
+    /// Supports this algorithm alone. All users have a key for just it. It does not allocate.
     pub fn set_supported_integrity(&mut self, algorithm: IntegrityAlgorithm)
         ensures { self.new ≡ record self.old { registered = record self.old.registered { algorithms = only algorithm } } }
     {
@@ -182,16 +185,19 @@ impl<A: Allocator + Copy> LongTermServerAuth<A> {
         Ok(())
     }
 
-    /// Removes a user and the user's keys: clients of that name are authenticated no more. It takes no memory.
+    /// Removes a user and the user's keys: clients of that name are authenticated no more. It does not allocate.
     pub fn remove_user(&mut self, name: &str)
         ensures { self.new ≡ record self.old { registered = without_user self.old.registered name.now } }
     {
         self.registry.remove_user(name);
     }
 
-    /// Forgets the client of an address. The nonce stays. It takes no memory.
+    /// Forgets the client of an address. The nonce stays. It does not allocate.
     pub fn remove_client(&mut self, address: SocketAddr)
-        ensures { self.new ≡ record self.old { places = with_change self.old.places address (with_client None) } }
+        ensures { self.new ≡ record self.old {
+          places = with_change self.old.places address
+              (with_client None);
+        } }
     {
         self.places.set_client(address, None);
     }
@@ -208,7 +214,7 @@ impl<A: Allocator + Copy> LongTermServerAuth<A> {
         self.places.forget_expired(now);
     }
 
-    /// Sets how long nonces stand that are made from here on: at least `minimum_nonce_expiry_duration()`, which is 30 seconds.
+    /// Sets how long nonces last that are made from here on: at least `minimum_nonce_expiry_duration()`, which is 30 seconds.
     pub fn set_nonce_expiry_duration(&mut self, expiry: Duration)
         requires { 30000000000 ≤ as_nanos expiry }
         ensures { self.new ≡ record self.old { expiry = as_nanos expiry } }

@@ -12,17 +12,17 @@ use thiserror::Error;
 #[derive(Clone, Copy, Debug, PartialEq, Eq)]
 pub enum LongTermServerValidation {
     /// Of a request or an indication the algorithm that both sides agreed on, whose key the digest was made under; of a
-    /// response the algorithm whose digest stands.
+    /// response the algorithm whose digest verifies.
     Validated(IntegrityAlgorithm),
 }
 
 /// Why a server refuses a message (RFC 8489, section 9.2.4).
 #[derive(Clone, Copy, Debug, PartialEq, Eq, Error)]
 pub enum LongTermServerAuthErrorReason {
-    /// The message has no integrity attribute, no present user, or no digest that stands. A challenge may be sent (401).
+    /// The message has no integrity attribute, no present user, or no digest that verifies. A challenge may be sent (401).
     #[error("The message is not sufficiently authenticated")]
     Unauthorized,
-    /// No digest of a response stands under the key of the address's client.
+    /// No digest of a response verifies under the key of the address's client.
     #[error("The message failed integrity checks")]
     IntegrityFailed,
     /// Kept from the Rust crate: no call of a server answers it.
@@ -31,10 +31,10 @@ pub enum LongTermServerAuthErrorReason {
     /// The realm, the nonce, the name or an agreed algorithm is missing (400).
     #[error("The request message is not well-formed")]
     BadRequest,
-    /// The nonce is not the one that stands for the address (438).
+    /// The nonce is not the current one of the address (438).
     #[error("The request presented with an out of date nonce.")]
     StaleNonce,
-    /// Memory is wanting.
+    /// An allocation failed.
     #[error("Out of memory")]
     OutOfMemory,
 }

@@ -46,17 +46,19 @@ impl<A: Allocator> fmt::Debug for ShortTermAuth<A> {
     ghost debug_output = { λ _. Some (codes "ShortTermAuth { .. }") };
 
     fn fmt<W: fmt::Write>(&self, f: &mut fmt::Formatter<W>) -> fmt::Result
-        ensures writes { WritesOnOk W.write_str_gives f.old result (codes "ShortTermAuth { .. }") f.new }
+        ensures writes { WritesOnOk W.write_str_gives f.old result
+            (codes "ShortTermAuth { .. }") f.new }
 
         // So it is whatever width, precision or other option is asked.
-        ensures styled { WritesStyledOnOk W.write_str_gives f.old result (codes "ShortTermAuth { .. }") f.new }
+        ensures styled { WritesStyledOnOk W.write_str_gives f.old result
+            (codes "ShortTermAuth { .. }") f.new }
     {
         f.write_str("ShortTermAuth { .. }")
     }
 }
 
 impl<A: Allocator> ShortTermAuth<A> {
-    /// Without credentials. It takes no memory.
+    /// Without credentials. It does not allocate.
     pub fn new(_alloc: A) -> Self
         ensures { result ≡ None }
     {
@@ -65,7 +67,8 @@ impl<A: Allocator> ShortTermAuth<A> {
 
     /// The credentials that were set, and the algorithm to sign with.
     pub fn credentials(&self) -> Option<(&ShortTermCredentials<A>, IntegrityAlgorithm)>
-        ensures { option_map (λ pair. record { password = pair.0.now; algorithm = pair.1 }) result ≡ self.now }
+        ensures { option_map (λ pair. record { password = pair.0.now; algorithm = pair.1 }) result
+            ≡ self.now }
     {
         self.kept
             .as_ref()
@@ -99,14 +102,18 @@ impl<A: Allocator> ShortTermAuth<A> {
     #[tactic(auto, using(crate::proofs::Growth::length_of_signed))]
     pub fn sign_outgoing_message<W: MessageWrite>(&mut self, writer: W) -> Result<W, StunWriteError>
         requires { 20 ≤ length (W.bytes writer) }
-        ensures signed { IfOk result (λ signed. W.bytes signed ≡ short_term_signed self.old (W.bytes writer)) }
-        ensures grows { IfOk result (λ signed. length (W.bytes signed) ≡ length (W.bytes writer) + short_term_growth self.old) }
-        ensures room { IfOk result (λ signed. W.room signed + short_term_growth self.old ≡ W.room writer) }
+        ensures signed { IfOk result (λ signed. W.bytes signed
+            ≡ short_term_signed self.old (W.bytes writer)) }
+        ensures grows { IfOk result (λ signed. length (W.bytes signed)
+            ≡ length (W.bytes writer) + short_term_growth self.old) }
+        ensures room { IfOk result (λ signed. W.room signed + short_term_growth self.old
+            ≡ W.room writer) }
         ensures refused { MatchOption (short_term_refusal self.old (W.bytes writer) (W.room writer))
             (IsOkUnless result StunWriteError.OutOfMemory) (λ reason. result ≡ Err reason) }
 
-        // What is reserved already takes no memory.
-        ensures succeeds { short_term_refusal self.old (W.bytes writer) (W.room writer) ≡ None → short_term_growth self.old ≤ W.reserved writer → IsOk result }
+        // What is reserved already does not allocate.
+        ensures succeeds { short_term_refusal self.old (W.bytes writer) (W.room writer) ≡ None
+            → short_term_growth self.old ≤ W.reserved writer → IsOk result }
         ensures stays { self.new ≡ self.old }
     {
         let mut writer = writer;
@@ -124,9 +131,12 @@ impl<A: Allocator> ShortTermAuth<A> {
     ) -> Result<W, AllocError>
         requires header { 20 ≤ length (W.bytes writer) }
         requires signable { ShortTermMaySign self.old (W.bytes writer) (W.room writer) }
-        ensures signed { IfOk result (λ signed. W.bytes signed ≡ short_term_signed self.old (W.bytes writer)) }
-        ensures grows { IfOk result (λ signed. length (W.bytes signed) ≡ length (W.bytes writer) + short_term_growth self.old) }
-        ensures room { IfOk result (λ signed. W.room signed + short_term_growth self.old ≡ W.room writer) }
+        ensures signed { IfOk result (λ signed. W.bytes signed
+            ≡ short_term_signed self.old (W.bytes writer)) }
+        ensures grows { IfOk result (λ signed. length (W.bytes signed)
+            ≡ length (W.bytes writer) + short_term_growth self.old) }
+        ensures room { IfOk result (λ signed. W.room signed + short_term_growth self.old
+            ≡ W.room writer) }
         ensures succeeds { short_term_growth self.old ≤ W.reserved writer → IsOk result }
         ensures stays { self.new ≡ self.old }
     {
@@ -137,9 +147,9 @@ impl<A: Allocator> ShortTermAuth<A> {
         Ok(writer)
     }
 
-    /// The algorithm whose digest stands under the password's bytes, or the refusal of `Message::validate_integrity`.
+    /// The algorithm whose digest verifies under the password's bytes, or the refusal of `Message::validate_integrity`.
     ///
-    /// Without credentials nothing is checked and the answer is `None`. It takes no memory.
+    /// Without credentials nothing is checked and the answer is `None`. It does not allocate.
     pub fn validate_incoming_message(
         &mut self,
         message: &Message,
@@ -163,7 +173,8 @@ impl<A: Allocator + Copy> ShortTermAuth<A> {
         credentials: ShortTermCredentials<A>,
         algorithm: IntegrityAlgorithm,
     ) -> Result<(), AllocError>
-        ensures ok { OnOk result (self.new ≡ Some (record { password = credentials; algorithm = algorithm })) }
+        ensures ok { OnOk result (self.new ≡ Some
+            (record { password = credentials; algorithm = algorithm })) }
         ensures err { OnErr result (self.new ≡ self.old) }
         ensures succeeds_inline { length credentials ≤ 32 → IsOk result }
     {

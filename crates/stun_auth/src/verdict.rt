@@ -97,7 +97,7 @@ fn bits_differ(ours: &str, theirs: &str) -> bool
     }
 }
 
-/// How a nonce is refused that is not the standing one.
+/// How a nonce is refused that is not the current one.
 fn nonce_refusal(ours: &str, theirs: &str) -> Refusal
     ensures { result ≡ nonce_refusal ours.now theirs.now }
 {
@@ -145,7 +145,8 @@ pub(crate) fn verdict<'a, A: Allocator + Copy>(
     nonce: &str,
     offered: Option<AlgorithmSet>,
 ) -> Result<Accepted<'a>, Refusal>
-    ensures { judged result ≡ verdict registry.now feature nonce.now offered (reading_seen reading.now) }
+    ensures { judged result ≡ verdict registry.now feature nonce.now offered
+        (reading_seen reading.now) }
 {
     if !reading.has_integrity {
         return Err(Refusal::Unauthorized);

@@ -6,7 +6,7 @@ use Rattle.stun_types.specs.Walk.{Member, walk}
 use Rattle.stun_types.specs.Visible.{before, has_kind}
 use Rattle.stun_inspect.specs.declared.telling.Told.{Told}
 
--- what hides an attribute of a type behind attributes among which the three types are or are not: FINGERPRINT hides
+-- what hides an attribute of a type after attributes among which the three types are or are not: FINGERPRINT hides
 -- all, MESSAGE-INTEGRITY-SHA256 all but FINGERPRINT, MESSAGE-INTEGRITY all but these two (RFC 8489, sections 14.5 to
 -- 14.7)
 abbrev pub hider : Bool → Bool → Bool → ℕ → Option AttributeType

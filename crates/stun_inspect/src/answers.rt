@@ -92,7 +92,8 @@ pub fn decode<W: Write, A: Allocator + Copy>(
     bytes: &[u8],
     writer: &mut W,
 ) -> Result<Status, Failure>
-    ensures { IfOk result (λ status. PrintsDecoded bytes.now status (W.contents writer.old) (W.contents writer.new)) }
+    ensures { IfOk result (λ status. PrintsDecoded bytes.now status (W.contents writer.old)
+        (W.contents writer.new)) }
 {
     match Message::from_bytes(bytes) {
         Ok(message) => {

@@ -17,7 +17,8 @@ const READ_SIZE: usize = 4096;
 /// It fails where a read or an allocation fails, and for more than 1048576 bytes or reads. An
 /// interrupted read is tried again.
 pub fn read_to_end<R: Read, A: Allocator>(alloc: A, reader: &mut R) -> Result<Vec<u8, A>, Failure>
-    ensures all { IfSome (R.remaining reader.old) (λ input. IfOk result (λ bytes. bytes.items ≡ input)) }
+    ensures all { IfSome (R.remaining reader.old)
+        (λ input. IfOk result (λ bytes. bytes.items ≡ input)) }
     ensures limit { IfOk result (λ bytes. length bytes.items ≤ INPUT_LIMIT) }
 {
     let mut bytes = Vec::new(alloc);

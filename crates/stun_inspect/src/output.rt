@@ -15,7 +15,8 @@ const MAX_WRITES: u32 = 1_048_576;
 /// of the text is written, and not the whole.
 pub fn write_text<W: Write>(writer: &mut W, text: &[u8]) -> Result<(), Failure>
     ensures ok { OnOk result (Appends (W.contents writer.old) (W.contents writer.new) text.now) }
-    ensures err { OnErr result (AppendsBeginning (W.contents writer.old) (W.contents writer.new) text.now) }
+    ensures err { OnErr result (AppendsBeginning (W.contents writer.old)
+        (W.contents writer.new) text.now) }
 {
     let mut written = 0;
     for _ in 0..MAX_WRITES {

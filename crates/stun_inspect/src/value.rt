@@ -53,7 +53,7 @@ pub fn push_digits<A: Allocator + Copy>(
     Ok(true)
 }
 
-/// Appends a text in quotes. Of it ASCII's printable characters stand as they are, and others as
+/// Appends a text in quotes. Of it ASCII's printable characters are as they are, and others as
 /// `\u{..}`, so that no text can control a terminal.
 pub fn push_quoted<A: Allocator + Copy>(
     text: &mut String<A>,

@@ -61,12 +61,14 @@ pub fn runs_send_by_plan()
 pub fn plan_of_a_request()
     ensures udp { (to : Address) → plan Udp 0 default_settings 7 to binding_request ≡ udp_steps to }
     ensures tcp { (to : Address) → plan Tcp 0 default_settings 7 to binding_request ≡ tcp_steps to }
-    ensures asked { (transport : Transport) (here to : Address) → IsAskedOnce (requester (new_agent transport here)) 7 0 binding_request to [] [] }
+    ensures asked { (transport : Transport) (here to : Address)
+        → IsAskedOnce (requester (new_agent transport here)) 7 0 binding_request to [] [] }
 {}
 
 /// The answer to one request or indication is `Validated` if and only if the message is accepted (RFC 8489, section 9.2.4).
 pub fn one_call_validates()
-    ensures { (s : Sight) (now : ℕ) (words : List ℕ) (r : Reading) → ValidatesOneCall s now words r (answer s now words r) }
+    ensures { (s : Sight) (now : ℕ) (words : List ℕ) (r : Reading)
+        → ValidatesOneCall s now words r (answer s now words r) }
 {
     stun_auth::laws::accepted_messages_are_validated();
 }

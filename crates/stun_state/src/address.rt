@@ -38,7 +38,8 @@ impl Address {
     /// The address that a caller means, or `BadArgument` where its length is that of none.
     pub fn socket(&self) -> Result<SocketAddr, Refusal>
         ensures ok { IfOk result (λ address. socket_address self.now ≡ Some address) }
-        ensures err { IfErr result (λ refusal. (socket_address self.now ≡ None) × (refusal ≡ Refusal.BadArgument)) }
+        ensures err { IfErr result (λ refusal. (socket_address self.now ≡ None)
+            × (refusal ≡ Refusal.BadArgument)) }
     {
         match self.length {
             4 => Ok(ipv4(&self.octets, self.port)),

@@ -72,7 +72,8 @@ pub fn refusal_of(error: StunError) -> Refusal
 /// The transport of a number, or `BadArgument`.
 pub fn transport_numbered(number: u32) -> Result<TransportType, Refusal>
     ensures ok { IfOk result (λ transport. transport_numbered number ≡ Some transport) }
-    ensures err { IfErr result (λ refusal. (transport_numbered number ≡ None) × (refusal ≡ Refusal.BadArgument)) }
+    ensures err { IfErr result (λ refusal. (transport_numbered number ≡ None)
+        × (refusal ≡ Refusal.BadArgument)) }
 {
     match number {
         0 => Ok(TransportType::Udp),
@@ -133,7 +134,8 @@ pub fn send_request(
     to: &Address,
     now: u64,
 ) -> Result<(), Refusal>
-    ensures ok { OnOk result (IfSome (socket_address to.now) (λ to. agent.new ≡ after_send_request agent.old message.now to now)) }
+    ensures ok { OnOk result (IfSome (socket_address to.now)
+        (λ to. agent.new ≡ after_send_request agent.old message.now to now)) }
     ensures err { OnErr result (agent.new ≡ agent.old) }
 {
     let to = to.socket()?;
@@ -226,7 +228,8 @@ pub fn handle(
     from: &Address,
     now: u64,
 ) -> Result<u32, Refusal>
-    ensures ok { OnOk result (IfSome (socket_address from.now) (λ from. agent.new ≡ after_message (Some now) message.now from agent.old)) }
+    ensures ok { OnOk result (IfSome (socket_address from.now)
+        (λ from. agent.new ≡ after_message (Some now) message.now from agent.old)) }
     ensures err { OnErr result (agent.new ≡ agent.old) }
 {
     let from = from.socket()?;

@@ -85,7 +85,8 @@ pub fn sign(
     buffer: &mut [u8],
     length: usize,
 ) -> Result<usize, Refusal>
-    ensures answer { OrMemory result (result ≡ length_of (signed_by_client client.old.state buffer.old length)) ⊤ }
+    ensures answer { OrMemory result (result ≡ length_of
+        (signed_by_client client.old.state buffer.old length)) ⊤ }
     ensures written { OrMemory result
         (buffer.new ≡ buffer_after (signed_by_client client.old.state buffer.old length) buffer.old)
         (buffer.new ≡ buffer.old) }
@@ -103,8 +104,10 @@ fn sign_message(
     client: &mut LongTermClientAuth<Global>,
     message: &Message<'_>,
 ) -> Result<Vec<u8, Global>, Refusal>
-    ensures ok { IfOk result (λ signed. client_signs client.old.state message.now ≡ Ok signed.items) }
-    ensures err { IfErr result (λ refusal. ForRefusal refusal (client_signs client.old.state message.now ≡ Err refusal) ⊤) }
+    ensures ok { IfOk result (λ signed. client_signs client.old.state message.now
+        ≡ Ok signed.items) }
+    ensures err { IfErr result (λ refusal. ForRefusal refusal
+        (client_signs client.old.state message.now ≡ Err refusal) ⊤) }
     ensures state { client.new ≡ client.old }
 {
     let is_long = is_too_long(message, client.message_signature_bytes());
@@ -122,7 +125,8 @@ pub fn validate(
 ) -> Result<LongTermClientValidation, Refusal>
     ensures answer { OrMemory result (result ≡ validated client.old message.now)
         ((refusal message.now ≡ None) × IsResend (step client.old message.now).answer) }
-    ensures state { OrMemory result (client.new ≡ after_validating client.old message.now) (client.new ≡ client.old) }
+    ensures state { OrMemory result (client.new ≡ after_validating client.old message.now)
+        (client.new ≡ client.old) }
     ensures refused { OnErr result (client.new ≡ client.old) }
 {
     let message = Message::from_bytes(message)?;

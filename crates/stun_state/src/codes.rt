@@ -188,7 +188,8 @@ pub fn algorithm_number(algorithm: IntegrityAlgorithm) -> u32
 /// The feature of a number, or `BadArgument`.
 pub fn feature_numbered(number: u32) -> Result<Feature, Refusal>
     ensures ok { IfOk result (λ feature. feature_numbered number ≡ Some feature) }
-    ensures err { IfErr result (λ refusal. (feature_numbered number ≡ None) × (refusal ≡ Refusal.BadArgument)) }
+    ensures err { IfErr result (λ refusal. (feature_numbered number ≡ None)
+        × (refusal ≡ Refusal.BadArgument)) }
 {
     match number {
         0 => Ok(Feature::Auto),

@@ -45,7 +45,8 @@ pub struct Validated {
 pub fn new(alloc: Global, realm: &[u8]) -> Result<LongTermServerAuth<Global>, Refusal>
     ensures ok { IfOk result (λ server. server ≡ new_server realm.now) }
     ensures accepted { OnOk result (text_refusal realm.now ≡ None) }
-    ensures err { IfErr result (λ refusal. OrMemory result (text_refusal realm.now ≡ Some refusal) (text_refusal realm.now ≡ None)) }
+    ensures err { IfErr result (λ refusal. OrMemory result (text_refusal realm.now ≡ Some refusal)
+        (text_refusal realm.now ≡ None)) }
 {
     let realm = copied(alloc, text(realm)?)?;
     Ok(LongTermServerAuth::new(alloc, realm))
@@ -127,7 +128,8 @@ pub fn remove_user(server: &mut LongTermServerAuth<Global>, name: &[u8]) -> Resu
 /// Forgets who was validated at an address.
 pub fn remove_client(server: &mut LongTermServerAuth<Global>, at: &Address) -> Result<(), Refusal>
     ensures answer { result ≡ done_if_given (socket_address at.now) }
-    ensures state { server.new ≡ after_address (socket_address at.now) server.old (without_client server.old) }
+    ensures state { server.new ≡ after_address (socket_address at.now) server.old
+        (without_client server.old) }
 {
     server.remove_client(at.socket()?);
     Ok(())
@@ -146,8 +148,10 @@ pub fn client(
     at: &Address,
     name: &mut [u8],
 ) -> Result<Option<Validated>, Refusal>
-    ensures answer { result ≡ at_address (socket_address at.now) (λ a. client_told (length name.old) (client_at server.now a)) }
-    ensures written { name.new ≡ after_address (socket_address at.now) name.old (λ a. name_written name.old (client_at server.now a)) }
+    ensures answer { result ≡ at_address (socket_address at.now)
+        (λ a. client_told (length name.old) (client_at server.now a)) }
+    ensures written { name.new ≡ after_address (socket_address at.now) name.old
+        (λ a. name_written name.old (client_at server.now a)) }
 {
     let address = at.socket()?;
     let Some((client, algorithm)) = server.client(address) else {
@@ -219,10 +223,13 @@ fn sign_message(
     to: SocketAddr,
 ) -> Result<Vec<u8, Global>, Refusal>
     requires { room < 2 ^ 63 }
-    ensures ok { IfOk result (λ signed. server_signs server.old message.now room to ≡ Ok signed.items) }
+    ensures ok { IfOk result (λ signed. server_signs server.old message.now room to
+        ≡ Ok signed.items) }
     ensures fits { IfOk result (λ signed. length signed.items ≤ room) }
-    ensures err { IfErr result (λ refusal. ForRefusal refusal (server_signs server.old message.now room to ≡ Err refusal) ⊤) }
-    ensures state { OnOk result (server.new ≡ after_signing server.old to (is_response (class_in message.now))) }
+    ensures err { IfErr result (λ refusal. ForRefusal refusal
+        (server_signs server.old message.now room to ≡ Err refusal) ⊤) }
+    ensures state { OnOk result (server.new ≡ after_signing server.old to
+        (is_response (class_in message.now))) }
     ensures refused { OnErr result (server.new ≡ server.old) }
 {
     let is_long = measure(server, message, room, to)?;

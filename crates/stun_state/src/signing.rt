@@ -86,7 +86,8 @@ pub fn writer_of(
 /// Copies bytes to the front of a buffer and answers their number, or leaves it where it has fewer bytes.
 pub fn fill(buffer: &mut [u8], bytes: &[u8]) -> Result<usize, Refusal>
     ensures answer { result ≡ length_of (fitted (Ok bytes.now) (length buffer.old)) }
-    ensures written { buffer.new ≡ buffer_after (fitted (Ok bytes.now) (length buffer.old)) buffer.old }
+    ensures written { buffer.new ≡ buffer_after
+        (fitted (Ok bytes.now) (length buffer.old)) buffer.old }
 {
     if buffer.len() < bytes.len() {
         return Err(Refusal::BufferTooSmall);

@@ -100,7 +100,7 @@ pub record HasEntry (moment id : ℕ) (ds : List Deadline) : Type 0 where
 abbrev pub IsRenewed : TransportType → ℕ → Transactions → List Deadline → List Deadline → Type 0
 IsRenewed transport id all old new = MatchOption (at id all) (new ≡ old) (λ t. IsReplaced (deadline_of transport (id, t)) old new)
 
--- the ids ascend, each request has the id under which it stands, and each its deadline
+-- the ids ascend, each request has the id under which it is there, and each its deadline
 pub record AreIndexed (transport : TransportType) (all : Transactions) (ds : List Deadline) : Type 0 where
   pub ascending : IsAscending all
   pub named : AllByRecursion IsNamed all

@@ -102,7 +102,8 @@ impl<A: Allocator> KeptChallenge<A> {
 
     /// How many bytes signing adds to a request, as far as a `usize` reaches.
     fn signature_bytes(&self) -> usize
-        ensures { result ≡ min (growth (challenge_additions true (challenge_seen self.now))) (2 ^ 64 - 1) }
+        ensures { result ≡ min (growth (challenge_additions true (challenge_seen self.now)))
+            (2 ^ 64 - 1) }
     {
         self.identity_bytes()
             .saturating_add(self.choice_bytes())
@@ -120,7 +121,8 @@ impl<A: Allocator> KeptChallenge<A> {
 
     /// How many bytes the choice of the algorithm takes, as far as a `usize` reaches.
     fn choice_bytes(&self) -> usize
-        ensures { result ≡ min (growth (algorithm_choice (challenge_seen self.now).algorithms self.now.algorithm)) (2 ^ 64 - 1) }
+        ensures { result ≡ min (growth (algorithm_choice
+            (challenge_seen self.now).algorithms self.now.algorithm)) (2 ^ 64 - 1) }
     {
         match self.algorithms.as_slice() {
             [] => match self.algorithm {
@@ -135,7 +137,8 @@ impl<A: Allocator> KeptChallenge<A> {
 impl<A: Allocator> State<A> {
     /// What is kept of the challenge that was taken up.
     fn kept(&self) -> Option<&KeptChallenge<A>>
-        ensures { option_map (λ kept. challenge_seen kept.now) result ≡ kept_challenge (state_seen self.now) }
+        ensures { option_map (λ kept. challenge_seen kept.now) result
+            ≡ kept_challenge (state_seen self.now) }
     {
         match self {
             State::Initial => None,
@@ -178,7 +181,7 @@ impl<A: Allocator> LongTermClientAuth<A> {
         ensures grows { IfOk result (λ signed. length (W.bytes signed)
             ≡ length (W.bytes writer) + growth (client_additions (is_request (class_of (type_field (W.bytes writer)))) self.old.state)) }
 
-        // What is reserved already takes no memory.
+        // What is reserved already does not allocate.
         ensures succeeds { let request = is_request (class_of (type_field (W.bytes writer))) in
             ClientMaySign request self.old.state (W.bytes writer) (W.room writer) → growth (client_additions request self.old.state) ≤ W.reserved writer → IsOk result }
         ensures stays { self.new ≡ self.old }
@@ -209,14 +212,18 @@ impl<A: Allocator> LongTermClientAuth<A> {
         writer: W,
     ) -> Result<W, AllocError>
         requires header { BeginsWithHeader (W.bytes writer) }
-        requires signable { ClientMaySign (is_request (class_of (type_field (W.bytes writer)))) self.old.state (W.bytes writer) (W.room writer) }
+        requires signable { ClientMaySign (is_request
+            (class_of (type_field (W.bytes writer)))) self.old.state (W.bytes writer)
+            (W.room writer) }
         ensures signed { IfOk result (λ signed. Ok (page_in W.bytes W.room signed)
             ≡ added_all (client_additions (is_request (class_of (type_field (W.bytes writer)))) self.old.state) (page_in W.bytes W.room writer)) }
         ensures grows { IfOk result (λ signed. length (W.bytes signed)
             ≡ length (W.bytes writer) + growth (client_additions (is_request (class_of (type_field (W.bytes writer)))) self.old.state)) }
 
-        // What is reserved already takes no memory.
-        ensures succeeds { growth (client_additions (is_request (class_of (type_field (W.bytes writer)))) self.old.state) ≤ W.reserved writer → IsOk result }
+        // What is reserved already does not allocate.
+        ensures succeeds { growth (client_additions
+            (is_request (class_of (type_field (W.bytes writer)))) self.old.state)
+            ≤ W.reserved writer → IsOk result }
         ensures stays { self.new ≡ self.old }
     {
         match self.sign_outgoing_message(writer) {

@@ -67,10 +67,12 @@ impl<A: Allocator + Copy> LongTermServerAuth<A> {
         ensures grows { IfOk result (λ signed. length (W.bytes signed)
             ≡ length (W.bytes writer) + server_growth (sight self.old to) (is_response_class (class_of (type_field (W.bytes writer))))) }
 
-        // What is reserved already takes no memory.
+        // What is reserved already does not allocate.
         ensures succeeds { let response = is_response_class (class_of (type_field (W.bytes writer))) in
             ServerMaySign (sight self.old to) response (W.bytes writer) (W.room writer) → server_growth (sight self.old to) response ≤ W.reserved writer → IsOk result }
-        ensures signed { OnOk result (self.new ≡ after_signing self.old to (is_response_class (class_of (type_field (W.bytes writer))))) }
+        ensures signed { OnOk result (self.new
+            ≡ after_signing self.old to (is_response_class
+            (class_of (type_field (W.bytes writer))))) }
         ensures refused { OnErr result (self.new ≡ self.old) }
     {
         sides_sign_what_they_may();
@@ -94,15 +96,21 @@ impl<A: Allocator + Copy> LongTermServerAuth<A> {
         to: SocketAddr,
     ) -> Result<W, AllocError>
         requires header { BeginsWithHeader (W.bytes writer) }
-        requires signable { ServerMaySign (sight self.old to) (is_response_class (class_of (type_field (W.bytes writer)))) (W.bytes writer) (W.room writer) }
+        requires signable { ServerMaySign (sight self.old to)
+            (is_response_class (class_of (type_field (W.bytes writer)))) (W.bytes writer)
+            (W.room writer) }
         ensures answer { IfOk result (λ signed. Ok (page_in W.bytes W.room signed)
             ≡ server_signed (sight self.old to) (is_response_class (class_of (type_field (W.bytes writer)))) (page_in W.bytes W.room writer)) }
         ensures grows { IfOk result (λ signed. length (W.bytes signed)
             ≡ length (W.bytes writer) + server_growth (sight self.old to) (is_response_class (class_of (type_field (W.bytes writer))))) }
 
-        // What is reserved already takes no memory.
-        ensures succeeds { server_growth (sight self.old to) (is_response_class (class_of (type_field (W.bytes writer)))) ≤ W.reserved writer → IsOk result }
-        ensures signed { OnOk result (self.new ≡ after_signing self.old to (is_response_class (class_of (type_field (W.bytes writer))))) }
+        // What is reserved already does not allocate.
+        ensures succeeds { server_growth (sight self.old to)
+            (is_response_class (class_of (type_field (W.bytes writer)))) ≤ W.reserved writer
+            → IsOk result }
+        ensures signed { OnOk result (self.new
+            ≡ after_signing self.old to (is_response_class
+            (class_of (type_field (W.bytes writer))))) }
         ensures refused { OnErr result (self.new ≡ self.old) }
     {
         match self.sign_outgoing_message(writer, to) {
@@ -234,7 +242,8 @@ impl<A: Allocator + Copy> LongTermServerAuth<A> {
 
     /// How many bytes signing a message to an address with this place adds, as far as a `usize` reaches.
     fn signature_bytes(&self, place: &Place<A>, is_response: bool) -> usize
-        ensures { result ≡ min (growth_at is_response self.now.registered (Some (place_seen place.now))) (2 ^ 64 - 1) }
+        ensures { result ≡ min (growth_at is_response self.now.registered
+            (Some (place_seen place.now))) (2 ^ 64 - 1) }
     {
         self.challenge_bytes(place.nonce.as_str(), is_response)
             .saturating_add(self.algorithms_bytes(&place.client, is_response))
@@ -243,7 +252,8 @@ impl<A: Allocator + Copy> LongTermServerAuth<A> {
 
     /// How many bytes nonce and realm take, as far as a `usize` reaches.
     fn challenge_bytes(&self, nonce: &str, is_response: bool) -> usize
-        ensures { result ≡ min (growth (challenge is_response self.now.registered nonce.now)) (2 ^ 64 - 1) }
+        ensures { result ≡ min (growth (challenge is_response self.now.registered nonce.now))
+            (2 ^ 64 - 1) }
     {
         if !is_response {
             return 0;
@@ -251,9 +261,10 @@ impl<A: Allocator + Copy> LongTermServerAuth<A> {
         attribute_bytes(nonce.len()).saturating_add(attribute_bytes(self.registry.realm().len()))
     }
 
-    /// How many bytes the attributes behind nonce and realm take.
+    /// How many bytes the attributes after nonce and realm take.
     fn algorithms_bytes(&self, client: &Option<Client<A>>, is_response: bool) -> usize
-        ensures { result ≡ growth (algorithms_for is_response self.now.registered (option_map client_seen client.now)) }
+        ensures { result ≡ growth (algorithms_for is_response self.now.registered
+            (option_map client_seen client.now)) }
     {
         match client {
             Some(client) => named_algorithm_bytes(client.algorithm),

@@ -88,7 +88,8 @@ fn nonce_at<'p, A: Allocator>(
     place: Option<&'p Place<A>>,
     renewal: &'p Option<Renewal<A>>,
 ) -> &'p str
-    ensures { result.now ≡ (place_with (option_map place_seen (option_copied place.entry)) (option_map renewal_seen renewal.now)).nonce }
+    ensures { result.now ≡ (place_with (option_map place_seen (option_copied place.entry))
+        (option_map renewal_seen renewal.now)).nonce }
 {
     match renewal {
         Some(renewal) => renewal.nonce.as_str(),
@@ -101,7 +102,8 @@ fn nonce_at<'p, A: Allocator>(
 
 /// The algorithms that were offered to an address, if any.
 fn offered_at<A: Allocator>(place: Option<&Place<A>>) -> Option<AlgorithmSet>
-    ensures { result ≡ option_and_then (λ (p : PlaceSeen). p.offered) (option_map place_seen (option_copied place.entry)) }
+    ensures { result ≡ option_and_then (λ (p : PlaceSeen). p.offered)
+        (option_map place_seen (option_copied place.entry)) }
 {
     match place {
         Some(place) => place.offered,
@@ -123,16 +125,16 @@ fn is_known<A: Allocator>(place: Option<&Place<A>>, accepted: Accepted<'_>) -> b
 impl<A: Allocator + Copy> LongTermServerAuth<A> {
     /// Judges a message that came from an address.
     ///
-    /// A response is `Validated` where its digest stands under the key of the address's client, else refused by
+    /// A response is `Validated` where its digest verifies under the key of the address's client, else refused by
     /// `IntegrityFailed`. Any other message is `Validated` with an algorithm exactly where it carries a realm, the nonce
-    /// that stands for the address, algorithms that agree with those that were offered, and the digest under the key that
+    /// that is current for the address, algorithms that agree with those that were offered, and the digest under the key that
     /// the present user whom it names has for that algorithm; that user is then the address's client. Else it is refused by
     /// the first reason that holds: `Unauthorized` without integrity, `BadRequest` without realm, nonce, name or agreement,
     /// `StaleNonce` (or `Unauthorized`, where the security bits of the two nonces differ) for another nonce, and
     /// `Unauthorized` for the rest. The realm's value is not compared.
     ///
     /// A nonce is made, of sixteen random words, where a message without integrity or with all of realm, nonce and name
-    /// finds none that stands: a nonce stands up to the end of its time, that moment included.
+    /// finds none that is current: a nonce is current up to the end of its time, that moment included.
     ///
     /// `OutOfMemory` is answered only where a nonce is made or another client kept; nonce, end, offered algorithms and client
     /// are then as before, but the source of random words may have advanced.
@@ -153,8 +155,8 @@ impl<A: Allocator + Copy> LongTermServerAuth<A> {
         ensures source { OrMemory result
             (R.stream rng.new ≡ (if draws (sight self.old from) now (reading_of message.now) then after_words 16 (R.stream rng.old) else R.stream rng.old)) ⊤ }
 
-        // Where the message changes nothing, memory is never wanting: so at a response and at a malformed message, and, where a
-        // nonce stands, at each refusal and at the client who is kept there already.
+        // Where the message changes nothing, no allocation fails: so at a response and at a malformed message, and, where a
+        // nonce is current, at each refusal and at the client who is kept there already.
         ensures unchanged { ChangesNothing (sight self.old from) now (next_words 16 (R.stream rng.old)) (reading_of message.now) →
             result ≡ answer (sight self.old from) now (next_words 16 (R.stream rng.old)) (reading_of message.now) }
     {
@@ -202,7 +204,9 @@ impl<A: Allocator + Copy> LongTermServerAuth<A> {
         reading: &Reading<'_, '_>,
         from: SocketAddr,
     ) -> Result<LongTermServerValidation, LongTermServerAuthErrorReason>
-        ensures { result ≡ validated_or_failed (client_verified self.now.registered (reading_seen reading.now) (map.get self.now.places from)) }
+        ensures { result ≡ validated_or_failed
+            (client_verified self.now.registered (reading_seen reading.now)
+            (map.get self.now.places from)) }
     {
         let Some(place) = self.places.get(from) else {
             return Err(LongTermServerAuthErrorReason::IntegrityFailed);
@@ -226,10 +230,13 @@ impl<A: Allocator + Copy> LongTermServerAuth<A> {
         now: Instant,
         rng: &mut R,
     ) -> Result<Option<Renewal<A>>, AllocError>
-        ensures made { IfOk result (λ made. option_map renewal_seen made ≡ new_nonce self.now now (next_words 16 (R.stream rng.old)) (option_map place_seen (option_copied place.entry))) }
+        ensures made { IfOk result (λ made. option_map renewal_seen made
+            ≡ new_nonce self.now now (next_words 16 (R.stream rng.old))
+            (option_map place_seen (option_copied place.entry))) }
         ensures source { IfOk result (λ _. R.stream rng.new
             ≡ (if stands_at now (option_map place_seen (option_copied place.entry)) then R.stream rng.old else after_words 16 (R.stream rng.old))) }
-        ensures needless { stands_at now (option_map place_seen (option_copied place.entry)) ≡ true → IsOk result }
+        ensures needless { stands_at now (option_map place_seen (option_copied place.entry)) ≡ true
+            → IsOk result }
     {
         if nonce_stands(place, now) {
             return Ok(None);

@@ -22,7 +22,8 @@ pub(crate) fn apply<A: Allocator + Copy>(
     event: &AgentEvent,
     log: &mut StepLog<A>,
 ) -> Result<(), AllocError>
-    ensures whole { OnOk result (TakesEvent now event.now agent.old agent.new (kept log.old) (kept log.new)) }
+    ensures whole { OnOk result (TakesEvent now event.now agent.old agent.new (kept log.old)
+        (kept log.new)) }
     ensures broken { OnErr result (agent.new ≡ agent.old) }
 {
     match event {
@@ -68,7 +69,8 @@ fn send<A: Allocator + Copy>(
     log: &mut StepLog<A>,
 )
     ensures after { agent.new ≡ after_sending bytes.now to agent.old }
-    ensures added { Keeps (kept log.old) (step_of_sending now bytes.now to agent.old ∷ []) (kept log.new) }
+    ensures added { Keeps (kept log.old) (step_of_sending now bytes.now to agent.old ∷ [])
+        (kept log.new) }
 {
     match agent.send(bytes, to, now) {
         Ok(transmit) => log.add(sent(alloc, now, transmit.to, transmit.data)),
@@ -99,7 +101,8 @@ fn ask<A: Allocator + Copy>(
     log: &mut StepLog<A>,
 ) -> Result<(), AllocError>
     ensures after { OnOk result (agent.new ≡ after_asking now bytes.now to agent.old) }
-    ensures added { OnOk result (Keeps (kept log.old) (step_of_asking now bytes.now to agent.old ∷ []) (kept log.new)) }
+    ensures added { OnOk result (Keeps (kept log.old)
+        (step_of_asking now bytes.now to agent.old ∷ []) (kept log.new)) }
     ensures broken { OnErr result (agent.new ≡ agent.old) }
     ensures refused { request_refusal agent.old bytes.now to ≢ None → IsOk result }
 {
@@ -124,7 +127,8 @@ fn receive<A: Allocator + Copy>(
     log: &mut StepLog<A>,
 ) -> Result<(), AllocError>
     ensures whole { OnOk result (agent.new ≡ after_receiving now bytes.now from agent.old) }
-    ensures added { OnOk result (Keeps (kept log.old) (step_of_receiving now bytes.now from agent.old ∷ []) (kept log.new)) }
+    ensures added { OnOk result (Keeps (kept log.old)
+        (step_of_receiving now bytes.now from agent.old ∷ []) (kept log.new)) }
     ensures broken { OnErr result (agent.new ≡ agent.old) }
 {
     let step = match Message::from_bytes(bytes) {

@@ -65,7 +65,8 @@ impl fmt::Debug for ServerCall {
         ensures writes { WritesOnOk W.write_str_gives f.old result (call_shown self.now) f.new }
 
         // So it is whatever width, precision or other option is asked.
-        ensures styled { WritesStyledOnOk W.write_str_gives f.old result (call_shown self.now) f.new }
+        ensures styled { WritesStyledOnOk W.write_str_gives f.old result
+            (call_shown self.now) f.new }
     {
         match self {
             ServerCall::Validate { .. } => f.write_str("Validate { .. }"),

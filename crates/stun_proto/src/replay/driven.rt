@@ -43,9 +43,12 @@ pub fn drive<A: Allocator + Copy>(
     until: Instant,
 ) -> Result<Vec<AgentStep<A>, A>, Stopped>
     requires { AreInOrder until 0 events.now }
-    ensures run { IfOk result (λ steps. IsDriven until agent.old events.now (steps_of steps.items) agent.new) }
-    ensures headline { IfOk result (λ steps. SendsByPlan until (requester agent.old) events.now (steps_of steps.items)) }
-    ensures plans { IfOk result (λ steps. KeepPlans until agent.old events.now (steps_of steps.items)) }
+    ensures run { IfOk result (λ steps. IsDriven until agent.old events.now
+        (steps_of steps.items) agent.new) }
+    ensures headline { IfOk result (λ steps. SendsByPlan until (requester agent.old) events.now
+        (steps_of steps.items)) }
+    ensures plans { IfOk result (λ steps. KeepPlans until agent.old events.now
+        (steps_of steps.items)) }
     ensures stopped { IfErr result (λ stopped. HasStopped until stopped.done agent.old events.now agent.new) }
 {
     // For the proof: its clause `kept` says that ids ascend, and each request is kept under its own.
@@ -82,7 +85,8 @@ fn take_event<A: Allocator + Copy>(
     log: &mut StepLog<A>,
 ) -> Result<(), AllocError>
     requires { HasPassed from agent.old }
-    ensures whole { OnOk result (TakesWhole from now event.now agent.old agent.new (kept log.old) (kept log.new)) }
+    ensures whole { OnOk result (TakesWhole from now event.now agent.old agent.new (kept log.old)
+        (kept log.new)) }
     ensures passed { OnOk result (HasPassed (now + 1) agent.new) }
     ensures broken { OnErr result ((lost : List Step) × Turns now from agent.old lost agent.new) }
 {

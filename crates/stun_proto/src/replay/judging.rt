@@ -25,8 +25,10 @@ pub(crate) fn judged<A: Allocator + Copy>(
     now: Instant,
     words: [u32; 16],
 ) -> Result<Result<IntegrityAlgorithm, LongTermServerAuthErrorReason>, AllocError>
-    ensures answer { IfOk result (λ a. answer_of a ≡ answer (sight server.old from) now words (reading_of message.now)) }
-    ensures server { OnOk result (server.new ≡ after_message server.old from now words (reading_of message.now)) }
+    ensures answer { IfOk result (λ a. answer_of a
+        ≡ answer (sight server.old from) now words (reading_of message.now)) }
+    ensures server { OnOk result (server.new ≡ after_message server.old from now words
+        (reading_of message.now)) }
     ensures err { OnErr result (server.new ≡ server.old) }
 {
     let mut source = WordSource::new(words);

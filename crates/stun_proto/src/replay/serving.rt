@@ -41,10 +41,14 @@ pub fn serve<A: Allocator + Copy>(
     ensures headline { IfOk result (λ given. ValidatesEachCall message_read replies server.old calls.now (replies_of given.items)) }
     ensures replies { IfOk result (λ given. replies_of given.items ≡ replies server.old calls.now) }
     ensures server { OnOk result (server.new ≡ after_calls server.old calls.now) }
-    ensures isolated { IfOk result (λ given. IsIsolated server.old calls.now (replies_of given.items)) }
-    ensures place { OnOk result ((a : TheAddress) → sight server.new a ≡ sight_over (sight server.old a) (own a calls.now)) }
-    ensures accepted { IfOk result (λ given. ValidatesAccepted server.old calls.now (replies_of given.items)) }
-    ensures stopped { IfErr result (λ e. (e.done ≤ length calls.now) × (server.new ≡ after_calls server.old (take e.done calls.now))) }
+    ensures isolated { IfOk result (λ given. IsIsolated server.old calls.now
+        (replies_of given.items)) }
+    ensures place { OnOk result ((a : TheAddress)
+        → sight server.new a ≡ sight_over (sight server.old a) (own a calls.now)) }
+    ensures accepted { IfOk result (λ given. ValidatesAccepted server.old calls.now
+        (replies_of given.items)) }
+    ensures stopped { IfErr result (λ e. (e.done ≤ length calls.now)
+        × (server.new ≡ after_calls server.old (take e.done calls.now))) }
 {
     laws::accepted_messages_are_validated();
     let mut replies = Vec::new(alloc);
@@ -120,8 +124,14 @@ fn validate<A: Allocator + Copy>(
     now: Instant,
     words: [u32; 16],
 ) -> Result<ServerReply<A>, AllocError>
-    ensures reply { IfOk result (λ given. reply_of given ≡ reply_unless (refusal bytes.now) (reply_of_answer (answer (sight server.old from) now words (reading_of bytes.now)))) }
-    ensures server { OnOk result (server.new ≡ record server.old { places = places_unless (refusal bytes.now) server.old.places (after_message server.old from now words (reading_of bytes.now)).places }) }
+    ensures reply { IfOk result (λ given. reply_of given
+        ≡ reply_unless (refusal bytes.now) (reply_of_answer
+        (answer (sight server.old from) now words (reading_of bytes.now)))) }
+    ensures server { OnOk result (server.new ≡ record server.old {
+      places = places_unless
+          (refusal bytes.now) server.old.places (after_message server.old from now words
+          (reading_of bytes.now)).places;
+    }) }
     ensures err { OnErr result (server.new ≡ server.old) }
     ensures no_message { refusal bytes.now ≢ None → IsOk result }
 {

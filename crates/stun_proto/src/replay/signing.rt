@@ -27,7 +27,9 @@ pub(crate) fn sign<A: Allocator + Copy>(
     bytes: &[u8],
     to: SocketAddr,
 ) -> Result<ServerReply<A>, AllocError>
-    ensures reply { IfOk result (λ given. reply_of given ≡ reply_unless (refusal bytes.now) (reply_of_signing (signing (sight server.old to) bytes.now))) }
+    ensures reply { IfOk result (λ given. reply_of given
+        ≡ reply_unless (refusal bytes.now) (reply_of_signing
+        (signing (sight server.old to) bytes.now))) }
     ensures server { OnOk result (server.new ≡ record server.old {
       places = places_unless (refusal bytes.now) server.old.places
           (if_signed (signing (sight server.old to) bytes.now) server.old.places (after_signing server.old to (is_response (class_in bytes.now))).places);
@@ -46,7 +48,8 @@ pub(crate) fn sign<A: Allocator + Copy>(
 fn reply_to_signing<A: Allocator>(
     signed: Result<MessageWriteVec<A>, StunWriteError>,
 ) -> Result<ServerReply<A>, AllocError>
-    ensures { UnlessMemory signed (IsOkAnd result (λ given. reply_of given ≡ reply_of_signing (signed_page signed))) (IsErr result) }
+    ensures { UnlessMemory signed (IsOkAnd result
+        (λ given. reply_of given ≡ reply_of_signing (signed_page signed))) (IsErr result) }
 {
     match signed {
         Ok(writer) => Ok(ServerReply::Signed(writer.finish())),
@@ -62,8 +65,10 @@ fn sign_message<A: Allocator + Copy>(
     message: &Message<'_>,
     to: SocketAddr,
 ) -> Result<MessageWriteVec<A>, StunWriteError>
-    ensures answer { UnlessMemory result (signed_page result ≡ signing (sight server.old to) message.now) ⊤ }
-    ensures signed { OnOk result (server.new ≡ after_signing server.old to (is_response (class_in message.now))) }
+    ensures answer { UnlessMemory result (signed_page result
+        ≡ signing (sight server.old to) message.now) ⊤ }
+    ensures signed { OnOk result (server.new ≡ after_signing server.old to
+        (is_response (class_in message.now))) }
     ensures refused { OnErr result (server.new ≡ server.old) }
 {
     let writer = write_anew(alloc, message)?;

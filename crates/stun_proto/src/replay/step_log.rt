@@ -29,7 +29,8 @@ impl<A: Allocator> StepLog<A> {
 
     /// A step more, or all steps are lost.
     pub(crate) fn add(&mut self, step: Result<AgentStep<A>, AllocError>)
-        ensures { (s : Step) → IfOk step (λ x. step_of x ≡ s) → Keeps (kept self.old) (s ∷ []) (kept self.new) }
+        ensures { (s : Step) → IfOk step (λ x. step_of x ≡ s)
+            → Keeps (kept self.old) (s ∷ []) (kept self.new) }
     {
         match step {
             Ok(step) => {

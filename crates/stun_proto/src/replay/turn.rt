@@ -112,7 +112,8 @@ pub(crate) fn transmitted<A: Allocator>(
     bytes: &[u8],
 ) -> Result<AgentStep<A>, AllocError>
     requires { BeginsWithHeader bytes.now }
-    ensures { IfOk result (λ step. step_of step ≡ Transmitted now (transaction_id_field bytes.now) to bytes.now) }
+    ensures { IfOk result (λ step. step_of step
+        ≡ Transmitted now (transaction_id_field bytes.now) to bytes.now) }
 {
     let id = MessageHeader::from_bytes(bytes).unwrap().transaction_id();
     let bytes = Vec::from_slice(alloc, bytes)?;

@@ -1,4 +1,4 @@
--- The place of an entry is where it stands, so that it is what is taken out.
+-- The place of an entry is where it is, so that it is what is taken out.
 use Rattle.std.proofs.Common.{◌≡◌, ◌<◌, ◌+◌, arith, subst, ◌∙◌}
 use Rattle.std.specs.Prelude.{OnSome}
 use Rattle.std.specs.List.{remove}

@@ -1,4 +1,4 @@
--- The first supported algorithm from the index on: the one there, or the first one behind it.
+-- The first supported algorithm from the index on: the one there, or the first one after it.
 use Rattle.std.proofs.Common.{◌≡◌, Bool, true, false, Some, ◌∙◌, ap, sym}
 use Rattle.std.specs.Prelude.{find, map}
 use Rattle.stun_types.specs.PasswordAlgorithms.{integrity_of}

@@ -1,4 +1,4 @@
--- The algorithm of the index is copied behind those before it.
+-- The algorithm of the index is copied after those before it.
 use Rattle.std.proofs.Common.{[], ◌∷◌, ◌++◌, ◌∙◌, ap, sym}
 use Rattle.stun_auth.proofs.ListSteps.{take-at, take-past}
 use Rattle.stun_auth.proofs.challenge.listed.Goals as goal

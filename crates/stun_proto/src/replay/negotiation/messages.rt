@@ -51,7 +51,9 @@ pub(crate) fn challenge<A: Allocator + Copy>(
     to: SocketAddr,
 ) -> Result<MessageWriteVec<A>, StunWriteError>
     requires { method_of (type_field request.now) ≡ BINDING_METHOD }
-    ensures answer { UnlessMemory result (signed_page result ≡ responded (failure UNAUTHORIZED (transaction_id_field request.now)) (sight server.old to)) ⊤ }
+    ensures answer { UnlessMemory result (signed_page result
+        ≡ responded (failure UNAUTHORIZED (transaction_id_field request.now))
+        (sight server.old to)) ⊤ }
     ensures message { IfOk result (λ signed. IsMessage signed.bytes) }
     ensures server { OnOk result (server.new ≡ after_signing server.old to true) }
     ensures refused { OnErr result (server.new ≡ server.old) }
@@ -68,7 +70,8 @@ pub(crate) fn success<A: Allocator + Copy>(
     to: SocketAddr,
 ) -> Result<MessageWriteVec<A>, StunWriteError>
     requires { method_of (type_field request.now) ≡ BINDING_METHOD }
-    ensures answer { UnlessMemory result (signed_page result ≡ responded (success (transaction_id_field request.now)) (sight server.old to)) ⊤ }
+    ensures answer { UnlessMemory result (signed_page result
+        ≡ responded (success (transaction_id_field request.now)) (sight server.old to)) ⊤ }
     ensures message { IfOk result (λ signed. IsMessage signed.bytes) }
     ensures server { OnOk result (server.new ≡ after_signing server.old to true) }
     ensures refused { OnErr result (server.new ≡ server.old) }
@@ -83,7 +86,8 @@ fn unauthorized<A: Allocator>(
     request: &Message<'_>,
 ) -> Result<MessageWriteVec<A>, StunWriteError>
     requires { method_of (type_field request.now) ≡ BINDING_METHOD }
-    ensures answer { UnlessMemory result (written_message result ≡ Ok (failure UNAUTHORIZED (transaction_id_field request.now))) ⊤ }
+    ensures answer { UnlessMemory result (written_message result
+        ≡ Ok (failure UNAUTHORIZED (transaction_id_field request.now))) ⊤ }
     ensures open { IfOk result (λ writer. IsOpen writer.bytes) }
 {
     let error = ErrorCode::builder(ErrorCode::UNAUTHORIZED).build()?;
@@ -100,7 +104,8 @@ fn sign<A: Allocator + Copy>(
 ) -> Result<MessageWriteVec<A>, StunWriteError>
     requires open { IsOpen writer.bytes }
     requires response { is_response (class_in writer.bytes) ≡ true }
-    ensures answer { UnlessMemory result (signed_page result ≡ responded writer.bytes (sight server.old to)) ⊤ }
+    ensures answer { UnlessMemory result (signed_page result
+        ≡ responded writer.bytes (sight server.old to)) ⊤ }
     ensures message { IfOk result (λ signed. IsMessage signed.bytes) }
     ensures server { OnOk result (server.new ≡ after_signing server.old to true) }
     ensures refused { OnErr result (server.new ≡ server.old) }
@@ -125,10 +130,15 @@ pub(crate) fn read<A: Allocator + Copy>(
     bytes: &[u8],
 ) -> Result<Result<LongTermClientValidation, LongTermClientAuthErrorReason>, AllocError>
     requires { IsMessage bytes.now }
-    ensures answer { IfOk result (λ a. a ≡ (client_step client.old.settings client.old.state (reading_of bytes.now)).answer) }
-    ensures client { OnOk result (client.new ≡ record client.old { state = (client_step client.old.settings client.old.state (reading_of bytes.now)).state }) }
+    ensures answer { IfOk result (λ a. a ≡ (client_step client.old.settings client.old.state
+        (reading_of bytes.now)).answer) }
+    ensures client { OnOk result (client.new ≡ record client.old {
+      state =
+          (client_step client.old.settings client.old.state (reading_of bytes.now)).state;
+    }) }
     ensures err { OnErr result (client.new ≡ client.old) }
-    ensures memory { OnErr result (IsResend (client_step client.old.settings client.old.state (reading_of bytes.now)).answer) }
+    ensures memory { OnErr result (IsResend (client_step client.old.settings client.old.state
+        (reading_of bytes.now)).answer) }
 {
     let response = message_in(bytes);
     match client.validate_incoming_message(&response) {

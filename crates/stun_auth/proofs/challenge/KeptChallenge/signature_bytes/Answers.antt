@@ -1,4 +1,4 @@
--- The three parts grow the message one behind the other.
+-- The three parts grow the message one after the other.
 use Rattle.std.proofs.Common.{◌≡◌, ◌+◌, ◌++◌, true, ap, ◌∙◌, arith}
 use Rattle.stun_auth.specs.Additions.{growth}
 use Rattle.stun_auth.specs.code.ClientKept.{challenge_seen}

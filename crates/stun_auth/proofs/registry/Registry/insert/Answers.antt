@@ -1,4 +1,4 @@
--- Users and index get the name together; where memory is wanting for the user the index loses it again.
+-- Users and index get the name together; where an allocation fails for the user the index loses it again.
 use Rattle.std.proofs.Common.{◌≡◌, List, String, sym, ◌∙◌, ap, subst, false, rules}
 use Rattle.std.specs.Option.{is_some, option_map}
 use Rattle.std.specs.FinMap as map

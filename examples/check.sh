@@ -1,5 +1,5 @@
 #!/bin/sh
-# Builds the archive and the examples against it, and compares what they print.
+# Builds the archives and the examples against them, and compares what they print.
 # Without a C compiler and make it checks nothing. The last line says what was checked.
 set -eu
 cd "$(dirname "$0")"
@@ -112,7 +112,8 @@ if [ -n "$has_state" ] && python3 --version >/dev/null 2>&1; then
     for one in server client; do
         if [ -x "$scratch/target/debug/examples/udp_$one" ]; then set -- "$@" "--$one" "$scratch/target/debug/examples/udp_$one"; fi
     done
-    if ! python3 udp/check.py "$@" >"$scratch/udp" 2>&1; then
+    # Once more where a case failed: a machine that is very busy may hold a datagram for longer than a case waits.
+    if ! python3 udp/check.py "$@" >"$scratch/udp" 2>&1 && ! { cat "$scratch/udp" >&2 && python3 udp/check.py "$@" >"$scratch/udp" 2>&1; }; then
         cat "$scratch/udp" >&2
         exit 1
     fi

@@ -116,8 +116,10 @@ int64_t stun_agent_send_request(stun_agent *agent, const uint8_t *message, size_
  * Refuses as stun_agent_send_request does; STUN_PROTOCOL_VIOLATION where the message is a request. */
 int64_t stun_agent_send(stun_agent *agent, const uint8_t *message, size_t length, const stun_address *to);
 
-/* What is to be done at a moment. Answers 0 where nothing is before `*until` (UINT64_MAX: nothing is awaited); or
+/* What is to be done at a moment. Answers 0 where nothing is before `*until` (an hour later, where nothing is awaited); or
  * STUN_TIMED_OUT or STUN_CANCELLED, and the id of the request that ended is at the front of `id`: ask again.
+ *
+ * Call stun_agent_poll_transmit at each such moment too, until it answers 0: the two together know what is next.
  *
  * Refuses STUN_EMPTY_HANDLE, and STUN_BUFFER_TOO_SMALL where `id` has fewer than 12 bytes. Does not allocate. */
 int64_t stun_agent_poll(stun_agent *agent, uint64_t now, uint64_t *until, uint8_t *id, size_t id_length);
@@ -201,9 +203,10 @@ int64_t stun_server_validate(stun_server *server, const uint8_t *message, size_t
  * 400 goes out as it is (section 9.2.4). Before any nonce was made for the address the message stays as it is.
  *
  * Answers the message's new length, or refuses: STUN_EMPTY_HANDLE, STUN_BAD_ARGUMENT (address, or `length` above `room`),
- * STUN_TRUNCATED, STUN_NOT_STUN, STUN_TOO_LARGE; STUN_CLOSED where it has an integrity attribute or FINGERPRINT,
- * STUN_ATTRIBUTE_EXISTS where it has an attribute that signing adds, STUN_MESSAGE_TOO_LONG, STUN_TEXT_TOO_LONG,
- * STUN_INTEGRITY_FAILED where the client's user was removed, STUN_BUFFER_TOO_SMALL, STUN_OUT_OF_MEMORY. */
+ * STUN_TRUNCATED, STUN_NOT_STUN, STUN_TOO_LARGE; STUN_CLOSED where it has an integrity attribute or FINGERPRINT, also where
+ * nothing would be added; STUN_BUFFER_TOO_SMALL; then, attribute by attribute, STUN_ATTRIBUTE_EXISTS where the message has one
+ * that signing adds, STUN_MESSAGE_TOO_LONG, STUN_TEXT_TOO_LONG; and STUN_INTEGRITY_FAILED where the client's user was removed.
+ * STUN_OUT_OF_MEMORY may come in place of each of these after STUN_BUFFER_TOO_SMALL. */
 int64_t stun_server_sign(stun_server *server, uint8_t *buffer, size_t room, size_t length, const stun_address *to);
 
 void stun_server_free(stun_server *server);
@@ -227,7 +230,7 @@ int64_t stun_client_set_anonymous_username(stun_client *client, uint32_t feature
 /* Signs the message in the first `length` bytes of a buffer of `room` bytes, as the challenge that was taken up asks.
  * Before one was, the message stays as it is.
  *
- * Answers and refuses as stun_server_sign does, without address. */
+ * Answers and refuses as stun_server_sign does, without address, but STUN_BUFFER_TOO_SMALL comes last. */
 int64_t stun_client_sign(stun_client *client, uint8_t *buffer, size_t room, size_t length);
 
 /* What a response says. Show it only responses to an outstanding request, from the address that was asked.

@@ -13,7 +13,7 @@ use Rattle.stun_auth.specs.ClientSigning.{client_additions, is_request}
 use Rattle.stun_auth.specs.Reading.{class_in, is_response}
 use Rattle.stun_auth.specs.ServerSigning.{after_signing, server_growth, server_signed}
 use Rattle.stun_auth.specs.Validation.{ServerSeen, sight}
-use Rattle.stun_proto.specs.Signing.{page}
+use Rattle.stun_proto.specs.Signing.{page_of}
 use Rattle.stun_state.specs.Answers.{message_refusal, unless_refused}
 use Rattle.stun_state.specs.Codes.{refusal_of_write}
 use Rattle.stun_state.specs.declared.codes.Refusal.{Refusal}
@@ -62,7 +62,7 @@ server_signs s message room to =
     let response = is_response (class_in message) in
     let more = server_growth (sight s to) response in
     if nat_lt room (length message + more) then Err BufferTooSmall
-    else message_of (is_too_long message more) (server_signed (sight s to) response (page message))
+    else message_of (is_too_long message more) (server_signed (sight s to) response (page_of message))
 
 -- the same with the message in the first bytes of the buffer
 abbrev pub signed_by_server : ServerSeen → List ℕ → ℕ → SocketAddr → Result (List ℕ) Refusal
@@ -75,7 +75,7 @@ signed_by_server s buffer count to =
 abbrev pub client_signs : ClientState → List ℕ → Result (List ℕ) Refusal
 client_signs state message =
     message_of (is_too_long message (growth (client_additions true state)))
-    (added_all (client_additions (is_request (class_in message)) state) (page message))
+    (added_all (client_additions (is_request (class_in message)) state) (page_of message))
 
 -- the same in its buffer
 abbrev pub signed_by_client : ClientState → List ℕ → ℕ → Result (List ℕ) Refusal

@@ -5,13 +5,12 @@
     tools/transcripts.py --first-minute   the first command of README.md, in a fresh clone of this repository, before any proof
 
 A transcript is an indented block: a line `$ COMMAND`, further lines of a here-document up to its end word, and then what the
-command prints to standard output, up to the next `$`, an empty line or the end of the block. A transcript whose program is in
-no folder is told as left out.
+command prints, up to the next `$` or the end of the block. Commands run in a folder that has `request.bin`, the request of
+RFC 5769, section 2.1. A transcript that uses a program which is not there is told as left out.
 """
 
 import os
 import re
-import shlex
 import shutil
 import subprocess
 import sys
@@ -59,30 +58,37 @@ def transcripts(block):
         yield command, printed
 
 
-def program(command):
-    """The program that a command runs: the last of a pipe."""
-    return shlex.split(command[0].split("|")[-1].split("<<")[0])[0]
+def missing(command, path):
+    """The programs that a command runs and that are not there."""
+    named = re.findall(r"(?:^|[|;(]) *([a-z_]+)", command[0].split("<<")[0])
+    return [name for name in named if shutil.which(name, path=path) is None]
 
 
 def run_all(folders):
     environment = {**os.environ, "PATH": os.pathsep.join([os.path.abspath(f) for f in folders] + [os.environ["PATH"]])}
     passed, left, wrong = 0, set(), 0
+    scratch = tempfile.mkdtemp()
+    with open(os.path.join(TOP, "crates/stun_tool/stdin")) as digits, open(os.path.join(scratch, "request.bin"), "wb") as binary:
+        binary.write(bytes.fromhex("".join(digits.read().split())))
     for document in documents():
         with open(os.path.join(TOP, document)) as opened:
             text = opened.read()
         for number, block in blocks(text):
             for command, wanted in transcripts(block):
-                if shutil.which(program(command), path=environment["PATH"]) is None:
-                    left.add(program(command))
+                absent = missing(command, environment["PATH"])
+                if absent:
+                    left.update(absent)
                     continue
-                ran = subprocess.run(["sh", "-c", "\n".join(command)], env=environment, cwd=TOP, timeout=60, capture_output=True, text=True)
+                ran = subprocess.run(["sh", "-c", "\n".join(command)], env=environment, cwd=scratch, timeout=60, text=True,
+                                     stdout=subprocess.PIPE, stderr=subprocess.STDOUT)
                 if ran.stdout.rstrip("\n").split("\n") == wanted:
                     passed += 1
                 else:
                     wrong += 1
-                    print("transcripts: %s:%d: %s\nprinted:\n%s%s" % (document, number, command[0], ran.stdout, ran.stderr), file=sys.stderr)
+                    print("transcripts: %s:%d: %s\nprinted:\n%s" % (document, number, command[0], ran.stdout), file=sys.stderr)
+    shutil.rmtree(scratch)
     for name in sorted(left):
-        print("transcripts: %s is not built, its transcripts are left out" % name)
+        print("transcripts: %s is not there, its transcripts are left out" % name)
     print("transcripts: %d as the documents say, %d not" % (passed, wrong))
     return wrong == 0
 

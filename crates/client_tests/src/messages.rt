@@ -1,4 +1,4 @@
-//! What a client answers to messages, and the requests that it signs then (RFC 8489, sections 9.2.5 and 9.2.6).
+//! What a client answers to messages, and the requests that it signs then (RFC 8489, section 9.2.5).
 //!
 //! The digests are those of Python's module `hmac`.
 use crate::expect::{expect_error, expect_request, expect_told};

@@ -1,4 +1,4 @@
--- What a client answers to a message and keeps after it (RFC 8489, sections 9.2.5 and 9.2.6), as a function of its settings,
+-- What a client answers to a message and keeps after it (RFC 8489, section 9.2.5), as a function of its settings,
 -- its state and what is read of the message.
 use Rattle.std.specs.Prelude.{ℕ, ◌==◌, List, [], find, Bool, true, false, not, ◌&&◌, if◌then◌else◌, Option, Some, None, Result, Ok, Err, is_some, ⊤}
 use Rattle.std.specs.Str.{bytes_eq}

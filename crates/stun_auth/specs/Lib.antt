@@ -24,7 +24,7 @@ pub mod Forgetting
 pub mod Reasons
 -- a client: what it is set to and what it keeps (section 9.2)
 pub mod Client
--- what a client answers to a message and keeps after it (sections 9.2.5 and 9.2.6)
+-- what a client answers to a message and keeps after it (section 9.2.5)
 pub mod ClientStep
 -- the algorithms that a client supports, in their order
 pub mod Supported

@@ -277,7 +277,7 @@ impl<A: Allocator> LongTermClientAuth<A> {
 }
 
 impl<A: Allocator + Copy> LongTermClientAuth<A> {
-    /// Answers a message from the server (RFC 8489, sections 9.2.5 and 9.2.6).
+    /// Answers a message from the server (RFC 8489, section 9.2.5).
     ///
     /// A 401 is a challenge until a success was validated: it is taken up, or refused as `Unauthorized` or
     /// `UnsupportedFeature`. A 438 brings the next realm and nonce, signed or not; the key stays. Every other message is

@@ -37,27 +37,29 @@ use Rattle.stun_proto.specs.Steps.{Step, is_of}
 
 -- ---- 1. The server (section 9.2.4)
 
--- One call: `LongTermServerAuth::validate_incoming_message`, clause `accepted`. A request or an indication is answered `Validated`
--- if and only if it has a REALM, the NONCE that is current at its address, consistent algorithms, and the digest under the key of
--- the registered user whom it names
+-- One call: `LongTermServerAuth::validate_incoming_message`, clause `accepted`. A request or an indication (the RFC challenges no
+-- indication; this call judges one alike) is answered `Validated` if and only if it has a REALM of any value, the NONCE that is current
+-- at its address (after its end: the one just made, which nobody was sent), consistent algorithms of which the server supports the
+-- chosen one, and the digest under the key of the registered user whom it names
 abbrev pub ValidatesOneCall : Sight → ℕ → List ℕ → Reading → Answer → Type 0
 ValidatesOneCall = one.ValidatesAccepted
 
--- Every list of calls: `serve`, clause `headline`, at what messages say (`message_read`) and at this server's run (`replies`). The
--- sentence holds whatever the replies are made of
+-- Every list of calls: `serve`, clause `headline`, with `read` = `message_read` and `run` = `replies`. How `replies` is defined need not
+-- be read: `validated` and `isolated` say what it comes to
 pub record ValidatesEachCall (read : Reads) (run : ServerSeen → List ServerCall → List Reply) (start : ServerSeen) (calls : List ServerCall) (given : List Reply) : Type 0 where
   -- the replies are those of the run
   pub replied : given ≡ run start calls
-  -- at each index the same as of one call, at the nonce that the earlier calls of the same address, and the replies to them, have left
+  -- at each index the same as of one call, with the nonce, the offer, the users and the settings that were left by the earlier calls of
+  -- the same address and those that concern all, and by the replies to them
   pub validated : ValidatesByReplies read start calls given
   -- whatever other addresses do: the replies to an address are those of the run of its own calls and of those that concern all
   pub isolated : IsolatedBy run start calls given
 
--- ---- 2. The client (sections 9.2.3 to 9.2.6)
+-- ---- 2. The client (sections 9.2.3 to 9.2.5)
 
--- A client that has read nothing yet and is ready: it has the credentials of a registered user, its address is new to the server,
--- the calls between are those of other addresses alone, and its second request comes while the nonce is current. Its realm and its user
--- name fit their attributes (sections 14.9 and 14.3)
+-- A client that has read nothing yet and is ready: it has the credentials of a registered user, no two registered users share a hash,
+-- its address is new to the server, the calls before each of its requests are those of other addresses alone, and its second request
+-- comes while the nonce is current. Its realm and its user name have at most 763 and 513 bytes, no less than sections 14.9 and 14.3 allow
 pub record IsReadyClient (state : ClientState) (m : Meeting) (who : NameAndPassword) (server : ServerSeen) : Type 0 where
   pub new : state ≡ initial
   pub ready : IsReady m who server
@@ -68,7 +70,7 @@ pub record IsReadyClient (state : ClientState) (m : Meeting) (who : NameAndPassw
 abbrev pub EndsWith : Result Outcome NegotiateError → Outcome → Type 0
 EndsWith result outcome = (result ≡ Ok outcome) ⊎ (result ≡ Err Memory)
 
--- How the meeting of such a client ends: `negotiate`, clause `headline`
+-- How the meeting of such a client ends: `negotiate`, clause `headline`, says that `IsReadyClient` gives `EndsAtStrongest`
 pub record EndsAtStrongest (m : Meeting) (server : ServerSeen) (result : Result Outcome NegotiateError) : Type 0 where
   -- the server validates its second request with the strongest algorithm that both support, and the client the response
   pub validated : (a : IntegrityAlgorithm) → IsStrongestShared m.settings.supported (listed server.registered.algorithms) a
@@ -81,7 +83,7 @@ pub record EndsAtStrongest (m : Meeting) (server : ServerSeen) (result : Result 
 -- ---- 3. The agent (sections 6.2.1 and 6.2.2)
 
 -- A request that is asked once and is undisturbed: its bytes begin with the header of a request (section 5) and this id, the agent
--- may send to its address, no request of the id is outstanding when the run begins, no other event asks for the id, and up to the
+-- may send to its destination, no request of the id is outstanding when the run begins, no other event asks for the id, and up to the
 -- end of its plan no response of the id comes from its address, and no call cancels or changes it
 pub record IsAskedOnce (a : Requester) (id start : ℕ) (bytes : List ℕ) (to : SocketAddr) (earlier later : List (ℕ × AgentEvent)) : Type 0 where
   pub header : header_refusal bytes ≡ None
@@ -94,8 +96,8 @@ pub record IsAskedOnce (a : Requester) (id start : ℕ) (bytes : List ℕ) (to :
   pub not_again : AllByRecursion (λ e. Asks id e.1 → ⊥) later
   pub undisturbed : IsUndisturbed id to (end start a.settings a.transport) later
 
--- All steps of this id in the run are those of its plan, as far as the run goes: it is sent at its prefix sums and at no other
--- moment, and times out once. `drive`, clause `headline`
+-- All steps of this id in the run are those of its plan, up to and including `until`: it is sent at its start plus the sum of its first
+-- k timeouts, for each k, and at no other moment, and times out once, where `until` reaches its end. `drive`, clause `headline`
 abbrev pub SendsByPlan : ℕ → Requester → List (ℕ × AgentEvent) → List Step → Type 0
 SendsByPlan until a events steps =
     (id start : ℕ) (bytes : Vec ℕ) (to : SocketAddr) (earlier later : List (ℕ × AgentEvent))

@@ -26,7 +26,7 @@ pub mod Negotiating
 pub mod Sides
 -- when both sides have come to the same challenge
 pub mod Matching
--- a nonce that has expired, and the one that takes its place (sections 9.2.4 and 9.2.6)
+-- a nonce that has expired, and the one that takes its place (sections 9.2.4 and 9.2.5)
 pub mod Renewal
 -- sentence 3: the plan of a request, and what disturbs it (sections 6.2.1 and 6.2.2)
 pub mod Schedule

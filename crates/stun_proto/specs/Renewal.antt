@@ -1,4 +1,4 @@
--- A nonce that has run out, and the one that takes its place (RFC 8489, sections 9.2.4 and 9.2.6).
+-- A nonce that has run out, and the one that takes its place (RFC 8489, sections 9.2.4 and 9.2.5).
 use Rattle.std.specs.Prelude.{◌≡◌, ℕ, ◌<◌, ◌≤◌, nat_le, ◌&&◌, List, Bool, true, false, if◌then◌else◌, Some}
 use Rattle.std.specs.List.{All}
 use Rattle.std.specs.Str.{bytes_eq}

@@ -113,7 +113,7 @@ pub fn short_names_are_signed()
 
 /// A request of an authenticated client whose nonce has ended is answered `StaleNonce`, unless the nonce that is current by then is
 /// the old one, drawn again. Once the client has read one error of code 438 that the server signed, its request is accepted while
-/// that nonce is current (RFC 8489, sections 9.2.4 and 9.2.6). The messages are of any method, and have any attributes of their own
+/// that nonce is current (RFC 8489, sections 9.2.4 and 9.2.5). The messages are of any method, and have any attributes of their own
 /// but those that signing adds. Between them users and settings stay. Before the request other messages of the client's address may
 /// be read at any moment, so that one of them has made the nonce that is current; after it they are read while that nonce is
 /// current. Expired nonces are forgotten up to the end of the client's nonce before the request, and while the new one is current

@@ -100,7 +100,7 @@ enum {
     STUN_INTEGRITY_FAILED = -6,    /* its value is not the whole digest of what it covers under the key */
     STUN_BAD_ARGUMENT = -7,        /* a number or a length is none that the call takes */
     STUN_NOT_TEXT = -8,            /* a text is not UTF-8 */
-    STUN_TEXT_TOO_LONG = -9,       /* the user name has more than 513 bytes, or the reason more than 763 */
+    STUN_TEXT_TOO_LONG = -9,       /* a text is too long: a user name over 513 bytes, a reason, realm or nonce over 763 */
     STUN_BUFFER_TOO_SMALL = -10,   /* the output buffer has fewer bytes than would be written */
     STUN_NOT_ALLOWED = -11,        /* attributes of this type are written by a call of their own, or by none */
     STUN_CLOSED = -12,             /* the message has an integrity attribute or FINGERPRINT, so nothing may follow */
@@ -115,7 +115,7 @@ enum {
     STUN_FULL_HANDLE = -19,         /* the handle is full already */
     STUN_ALREADY_IN_PROGRESS = -20, /* a request of this id is outstanding */
     STUN_PROTOCOL_VIOLATION = -21,  /* the message or its address is none that this call takes */
-    STUN_UNAUTHORIZED = -22,        /* the message is not sufficiently authenticated (401) */
+    STUN_UNAUTHORIZED = -22,        /* server: not sufficiently authenticated (401); client: a 401 that cannot be taken up */
     STUN_BAD_REQUEST = -23,         /* the request is not well-formed (400) */
     STUN_STALE_NONCE = -24,         /* the nonce is not the current one (438) */
     STUN_UNSUPPORTED_FEATURE = -25, /* the server lacks an algorithm or a feature that is required */

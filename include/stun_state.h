@@ -1,8 +1,9 @@
 /* STUN (RFC 8489) with state for programs in C, C++ and Rust: an agent that keeps requests and sends them again, and the
  * long-term authenticators of a server and a client.
  *
- * Link crates/stun_state/out/libstun_state.a, which `rt lib` in crates/stun_state proves and builds, and examples/c/heap.c
- * or an allocator of your own (below).
+ * Link crates/stun_state/out/libstun_state.a, which `rt lib` in crates/stun_state proves and builds, libstun_c.a (stun.h) for
+ * the messages themselves, and examples/c/heap.c or an allocator of your own (below). Beside these the archive needs what every
+ * C compiler has: memcpy, memmove, memset, and __udivti3 and __umodti3 of its runtime.
  *
  * Handles. A handle is the caller's: a variable, a field, an element of an array. All zero is empty (`stun_agent agent =
  * {0};`). A `_new` call wants an empty handle and fills it; a `_free` call empties it, and on an empty one does nothing.
@@ -16,7 +17,7 @@
  * the caller chooses once for a handle, and random words are arguments.
  *
  * What is passed is read during the call and not kept: messages and texts are copied. No pointer is null, not even with a
- * length of 0, and what a call writes to overlaps nothing else that is passed. Texts are UTF-8 and taken as they are.
+ * length of 0; no length is above PTRDIFF_MAX; and what a call writes to overlaps nothing else that is passed. Texts are UTF-8 and taken as they are.
  *
  * A call answers 0 or more, or refuses by a number below zero (stun.h), by the first reason in the order that its comment
  * gives. STUN_EMPTY_HANDLE, or STUN_FULL_HANDLE of a `_new` call, comes before all others. A refusal leaves the handle and
@@ -29,6 +30,10 @@
  *     rattle_allocation rattle_alloc(size_t length, size_t alignment);
  *     rattle_allocation rattle_realloc(void *at, size_t kept, size_t length, size_t alignment);
  *     void rattle_dealloc(void *at);
+ *
+ * rattle_alloc gives `length` bytes at an address that `alignment` divides, or is_ok false. rattle_realloc gives a block of
+ * `length` bytes whose first bytes are those of the old one (`kept` of them); where it refuses, the old block stays as it is.
+ * That they do so is trusted.
  */
 #ifndef STUN_STATE_H
 #define STUN_STATE_H
@@ -111,9 +116,10 @@ int64_t stun_agent_new_with(stun_agent *agent, uint32_t transport, const stun_ad
 int64_t stun_agent_send_request(stun_agent *agent, const uint8_t *message, size_t length, const stun_address *to,
                                 uint64_t now);
 
-/* Counts a response or an indication that is sent to an address. Nothing is kept.
+/* Counts a response or an indication that is sent to an address. Nothing is kept. Does not allocate.
  *
- * Refuses as stun_agent_send_request does; STUN_PROTOCOL_VIOLATION where the message is a request. */
+ * Answers 0, or refuses: STUN_EMPTY_HANDLE, STUN_BAD_ARGUMENT (address), STUN_TRUNCATED, STUN_NOT_STUN, STUN_TOO_LARGE,
+ * STUN_PROTOCOL_VIOLATION (the message is a request, or the agent sends only to another address). */
 int64_t stun_agent_send(stun_agent *agent, const uint8_t *message, size_t length, const stun_address *to);
 
 /* What is to be done at a moment. Answers 0 where nothing is before `*until` (an hour later, where nothing is awaited); or
@@ -165,7 +171,7 @@ int64_t stun_server_new(stun_server *server, const uint8_t *realm, size_t realm_
  * for another number. */
 int64_t stun_server_set_algorithms(stun_server *server, uint32_t algorithms);
 
-/* STUN_AUTO or STUN_DISABLED; a server takes STUN_REQUIRED as STUN_AUTO. Refuses STUN_BAD_ARGUMENT, STUN_OUT_OF_MEMORY. */
+/* STUN_AUTO or STUN_DISABLED; a server takes STUN_REQUIRED as STUN_AUTO. Refuses STUN_BAD_ARGUMENT. */
 int64_t stun_server_set_anonymous_username(stun_server *server, uint32_t feature);
 
 /* How long a nonce lasts, in nanoseconds; less than 30 s is taken as 30 s. Nonces that were made keep their end. */
@@ -192,9 +198,13 @@ int64_t stun_server_client(stun_server *server, const stun_address *at, uint8_t 
 /* Who signed a message that came from an address. `words` are 16 random numbers, read where a nonce is made.
  *
  * Answers STUN_SHA1 or STUN_SHA256 where the message is validated, and this is the algorithm of the key. Refuses
- * STUN_EMPTY_HANDLE, STUN_BAD_ARGUMENT, STUN_TRUNCATED, STUN_NOT_STUN, STUN_TOO_LARGE; and then STUN_UNAUTHORIZED (answer
- * 401), STUN_BAD_REQUEST (400), STUN_STALE_NONCE (438), STUN_INTEGRITY_FAILED (a response to the server that
- * is not rightly signed), STUN_OUT_OF_MEMORY. A refusal may make a nonce for the address, which stun_server_sign then sends. */
+ * STUN_EMPTY_HANDLE, STUN_BAD_ARGUMENT, STUN_TRUNCATED, STUN_NOT_STUN, STUN_TOO_LARGE. Then, of a response,
+ * STUN_INTEGRITY_FAILED where it is not rightly signed. Of a request or an indication, in this order: STUN_UNAUTHORIZED
+ * (answer 401) without an integrity attribute; STUN_BAD_REQUEST (400) where REALM, NONCE, a name or algorithms that agree
+ * with the offer are missing; where the nonce is not the current one STUN_UNAUTHORIZED if its security bits were changed,
+ * else STUN_STALE_NONCE (438); STUN_UNAUTHORIZED for an unknown user or a digest that does not verify. STUN_OUT_OF_MEMORY may
+ * come in place of each of these where a nonce must be made or a client kept. A refusal other than STUN_OUT_OF_MEMORY may
+ * make a nonce for the address, which stun_server_sign then sends. */
 int64_t stun_server_validate(stun_server *server, const uint8_t *message, size_t length, const stun_address *from,
                              uint64_t now, const uint32_t words[16]);
 
@@ -204,9 +214,10 @@ int64_t stun_server_validate(stun_server *server, const uint8_t *message, size_t
  *
  * Answers the message's new length, or refuses: STUN_EMPTY_HANDLE, STUN_BAD_ARGUMENT (address, or `length` above `room`),
  * STUN_TRUNCATED, STUN_NOT_STUN, STUN_TOO_LARGE; STUN_CLOSED where it has an integrity attribute or FINGERPRINT, also where
- * nothing would be added; STUN_BUFFER_TOO_SMALL; then, attribute by attribute, STUN_ATTRIBUTE_EXISTS where the message has one
- * that signing adds, STUN_MESSAGE_TOO_LONG, STUN_TEXT_TOO_LONG; and STUN_INTEGRITY_FAILED where the client's user was removed.
- * STUN_OUT_OF_MEMORY may come in place of each of these after STUN_BUFFER_TOO_SMALL. */
+ * nothing would be added; STUN_BUFFER_TOO_SMALL; then, attribute by attribute, STUN_TEXT_TOO_LONG (STUN_MESSAGE_TOO_LONG where
+ * the message would be too long with all that is added), STUN_ATTRIBUTE_EXISTS where the message has one that signing adds,
+ * STUN_MESSAGE_TOO_LONG; and STUN_INTEGRITY_FAILED where the client's user was removed. STUN_OUT_OF_MEMORY may come in place
+ * of each of these after STUN_BUFFER_TOO_SMALL. */
 int64_t stun_server_sign(stun_server *server, uint8_t *buffer, size_t room, size_t length, const stun_address *to);
 
 void stun_server_free(stun_server *server);
@@ -230,14 +241,19 @@ int64_t stun_client_set_anonymous_username(stun_client *client, uint32_t feature
 /* Signs the message in the first `length` bytes of a buffer of `room` bytes, as the challenge that was taken up asks.
  * Before one was, the message stays as it is.
  *
- * Answers and refuses as stun_server_sign does, without address, but STUN_BUFFER_TOO_SMALL comes last. */
+ * Answers the message's new length, or refuses: STUN_EMPTY_HANDLE, STUN_BAD_ARGUMENT (`length` above `room`), STUN_TRUNCATED,
+ * STUN_NOT_STUN, STUN_TOO_LARGE, STUN_CLOSED; then, attribute by attribute, STUN_TEXT_TOO_LONG (STUN_MESSAGE_TOO_LONG where the
+ * message would be too long with all that a request is given), STUN_ATTRIBUTE_EXISTS, STUN_MESSAGE_TOO_LONG; and last
+ * STUN_BUFFER_TOO_SMALL. STUN_OUT_OF_MEMORY may come in place of each of these after STUN_CLOSED. */
 int64_t stun_client_sign(stun_client *client, uint8_t *buffer, size_t room, size_t length);
 
 /* What a response says. Show it only responses to an outstanding request, from the address that was asked.
  *
  * Answers STUN_SHA1 or STUN_SHA256 where the digest verifies, or STUN_RESEND. Refuses STUN_EMPTY_HANDLE, STUN_TRUNCATED,
- * STUN_NOT_STUN, STUN_TOO_LARGE; and then STUN_UNAUTHORIZED, STUN_INTEGRITY_FAILED, STUN_UNSUPPORTED_FEATURE,
- * STUN_OUT_OF_MEMORY. */
+ * STUN_NOT_STUN, STUN_TOO_LARGE. Then, of a 401 before any success: STUN_UNAUTHORIZED (no credentials, no REALM or NONCE, a
+ * list of algorithms that is missing, or the challenge that was answered already, as after a wrong password: give up),
+ * STUN_UNSUPPORTED_FEATURE (give up). Of any other message STUN_INTEGRITY_FAILED (drop it and wait on). STUN_OUT_OF_MEMORY
+ * comes only in place of STUN_RESEND. */
 int64_t stun_client_validate(stun_client *client, const uint8_t *message, size_t length);
 
 void stun_client_free(stun_client *client);

@@ -329,7 +329,7 @@ impl LongTermServerAuth {
         self.supported = supported;
     }
 
-    /// A server takes `Required` as `Auto`. Or `OutOfMemory`.
+    /// A server takes `Required` as `Auto`.
     pub fn set_anonymous_username(&mut self, anonymous: Feature) -> Result<(), Refusal> {
         Refusal::of(self.handle.set_anonymous_username(anonymous as u32))?;
         self.anonymous_username = anonymous;

@@ -64,7 +64,8 @@ pub fn statistics_tell_how_many_requests_are_outstanding()
 
 /// Validating an address adds it to the peers and no other, and two addresses are told apart where they differ, and there alone.
 pub fn validating_adds_one_peer()
-    ensures added { (address other : SocketAddr) (peers : Peers) → is_peer other (with_peer address peers)
+    ensures added { (address other : SocketAddr) (peers : Peers)
+        → is_peer other (with_peer address peers)
         ≡ (same_address other address || is_peer other peers) }
     ensures exact { (address other : SocketAddr)
         → (same_address address other ≡ true) ↔ (address ≡ other) }

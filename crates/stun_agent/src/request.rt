@@ -55,7 +55,8 @@ impl<A: Allocator + Copy> StunAgent<A> {
         ensures* lends { sem 𝓛 (rests A.row A.Allocator self.entry result) }
         ensures request { option_map (λ r. (r.peer_address, r.integrity)) result
             ≡ option_map peer_and_integrity (at id self.old.transactions) }
-        ensures agent { IfSome result (λ r. (r.agent.now ≡ self.old) × (r.agent.ghost_name ≡ self.entry.ghost_name)
+        ensures agent { IfSome result (λ r. (r.agent.now ≡ self.old)
+            × (r.agent.ghost_name ≡ self.entry.ghost_name)
             × (r.id ≡ id)) }
     {
         let (peer_address, integrity) = self.peer_of(id)?;

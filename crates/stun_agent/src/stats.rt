@@ -257,6 +257,7 @@ pub fn outstanding_requests_are_those_left()
         → outstanding_requests statistics ≡ n }
     ensures kept { (tally : Tally) (statistics : Statistics) (before after : ℕ)
         → LeavesOutstanding statistics before → IsNotFull (counted tally statistics)
-        → before + tally.requests_sent ≡ after + (tally.responses_received + tally.timed_out + tally.cancelled)
+        → before + tally.requests_sent ≡ after +
+        (tally.responses_received + tally.timed_out + tally.cancelled)
         → LeavesOutstanding (counted tally statistics) after }
 {}

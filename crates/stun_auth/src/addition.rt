@@ -34,7 +34,8 @@ pub(crate) fn add<W: MessageWrite>(
     requires { 20 ≤ length (W.bytes writer.old) }
     ensures header { 20 ≤ length (W.bytes writer.new) }
     ensures added { IsAdded (attribute (attribute_of added.entry) ∷ [])
-        (page_in W.bytes W.room writer.old) (W.reserved writer.old) result (page_in W.bytes W.room writer.new) (W.reserved writer.new) }
+        (page_in W.bytes W.room writer.old) (W.reserved writer.old) result
+        (page_in W.bytes W.room writer.new) (W.reserved writer.new) }
 {
     match added {
         AddedAttribute::Nonce(text) => add_made(writer, &Nonce::new(text)?),
@@ -58,7 +59,8 @@ fn add_made<W: MessageWrite, M: Attribute>(writer: &mut W, made: &M) -> Result<(
     requires within_limit { is_too_long (record { kind = M.kind made.now; value = M.value made.now }) ≡ false }
     ensures header { 20 ≤ length (W.bytes writer.new) }
     ensures added { IsAdded (attribute (record { kind = M.kind made.now; value = M.value made.now }) ∷ [])
-        (page_in W.bytes W.room writer.old) (W.reserved writer.old) result (page_in W.bytes W.room writer.new) (W.reserved writer.new) }
+        (page_in W.bytes W.room writer.old) (W.reserved writer.old) result
+        (page_in W.bytes W.room writer.new) (W.reserved writer.new) }
 {
     writer.add_attribute(made)
 }
@@ -71,7 +73,8 @@ pub(crate) fn add_integrity<W: MessageWrite, A: Allocator>(
     algorithm: IntegrityAlgorithm,
 ) -> Result<(), StunWriteError>
     requires { 20 ≤ length (W.bytes writer.old) }
-    ensures { IsOutcome (integrity algorithm key.now ∷ []) (page_in W.bytes W.room writer.old) (W.reserved writer.old)
+    ensures { IsOutcome (integrity algorithm key.now ∷ []) (page_in W.bytes W.room writer.old)
+        (W.reserved writer.old)
         result (page_in W.bytes W.room writer.new) }
 {
     writer.add_message_integrity_with_key(key, algorithm)

@@ -221,7 +221,8 @@ impl<A: Allocator> LongTermClientAuth<A> {
     /// The challenge that a message brings, or the reason to refuse it.
     fn offer<'a, 'm>(&'a self, reading: Reading<'m, '_>) -> Result<Offer<'a, 'm>, Refusal>
         ensures { let r = reading_seen reading.entry in
-            offer_seen self.now.settings.feature result ≡ taken_up self.now.settings self.now.state self.now.settings.credentials r.realm r.nonce r.algorithms }
+            offer_seen self.now.settings.feature result
+            ≡ taken_up self.now.settings self.now.state self.now.settings.credentials r.realm r.nonce r.algorithms }
     {
         let Some(user) = &self.credentials else {
             return Err(Refusal::Unauthorized);
@@ -287,10 +288,14 @@ impl<A: Allocator + Copy> LongTermClientAuth<A> {
         &mut self,
         message: &Message,
     ) -> Result<LongTermClientValidation, LongTermClientAuthError>
-        ensures answer { let step = client_step self.old.settings self.old.state (reading_of message.now) in
+        ensures answer { let step = client_step self.old.settings self.old.state
+            (reading_of message.now) in
             OrMemory result (result ≡ step.answer) (IsResend step.answer) }
         ensures state { OrMemory result
-            (self.new ≡ record self.old { state = (client_step self.old.settings self.old.state (reading_of message.now)).state })
+            (self.new ≡ record self.old {
+              state =
+                  (client_step self.old.settings self.old.state (reading_of message.now)).state;
+            })
             (self.new ≡ self.old) }
         ensures refused { OnErr result (self.new ≡ self.old) }
     {
@@ -312,11 +317,14 @@ impl<A: Allocator + Copy> LongTermClientAuth<A> {
         digest: Option<IntegrityAlgorithm>,
     ) -> Result<LongTermClientValidation, LongTermClientAuthError>
         ensures answer { let r = reading_seen reading.entry in
-            let step = after_challenge self.old.state digest (taken_up self.old.settings self.old.state self.old.settings.credentials r.realm r.nonce r.algorithms) in
+            let step = after_challenge self.old.state digest
+            (taken_up self.old.settings self.old.state self.old.settings.credentials r.realm r.nonce r.algorithms) in
             OrMemory result (result ≡ step.answer) (IsResend step.answer) }
         ensures state { let r = reading_seen reading.entry in
-            let step = after_challenge self.old.state digest (taken_up self.old.settings self.old.state self.old.settings.credentials r.realm r.nonce r.algorithms) in
-            OrMemory result (self.new ≡ record self.old { state = step.state }) (self.new ≡ self.old) }
+            let step = after_challenge self.old.state digest
+            (taken_up self.old.settings self.old.state self.old.settings.credentials r.realm r.nonce r.algorithms) in
+            OrMemory result (self.new ≡ record self.old { state = step.state })
+            (self.new ≡ self.old) }
         ensures refused { OnErr result (self.new ≡ self.old) }
     {
         let kept = match self.offer(reading) {
@@ -338,10 +346,13 @@ impl<A: Allocator + Copy> LongTermClientAuth<A> {
         reading: &Reading<'_, '_>,
         digest: Option<IntegrityAlgorithm>,
     ) -> Result<LongTermClientValidation, LongTermClientAuthError>
-        ensures answer { let step = after_stale self.old.state digest (reading_seen reading.now).realm (reading_seen reading.now).nonce in
+        ensures answer { let step = after_stale self.old.state digest
+            (reading_seen reading.now).realm (reading_seen reading.now).nonce in
             OrMemory result (result ≡ step.answer) (IsResend step.answer) }
-        ensures state { let step = after_stale self.old.state digest (reading_seen reading.now).realm (reading_seen reading.now).nonce in
-            OrMemory result (self.new ≡ record self.old { state = step.state }) (self.new ≡ self.old) }
+        ensures state { let step = after_stale self.old.state digest
+            (reading_seen reading.now).realm (reading_seen reading.now).nonce in
+            OrMemory result (self.new ≡ record self.old { state = step.state })
+            (self.new ≡ self.old) }
         ensures refused { OnErr result (self.new ≡ self.old) }
     {
         let Some(realm) = reading.realm else {

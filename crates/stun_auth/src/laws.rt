@@ -38,10 +38,14 @@ use std::alloc::AllocError;
 /// What was added is what is read: after successful additions to an open message, its own attributes count as before and
 /// then the added ones, and the digest that was added last verifies under its key.
 pub fn additions_are_read_back()
-    ensures added { (list : List Addition) (message : List ℕ) (room : ℕ) (page : Page) → IsOpen message → AllByRecursion IsTyped list
-        → added_all list (record { bytes = message; room = room }) ≡ Ok page → HasAdded message list page.bytes }
-    ensures read { (list : List Addition) (message : List ℕ) (room : ℕ) (page : Page) → IsOpen message → AllByRecursion IsTyped list
-        → added_all list (record { bytes = message; room = room }) ≡ Ok page → IsReadBack message list page.bytes }
+    ensures added { (list : List Addition) (message : List ℕ) (room : ℕ) (page : Page)
+        → IsOpen message → AllByRecursion IsTyped list
+        → added_all list (record { bytes = message; room = room }) ≡ Ok page
+        → HasAdded message list page.bytes }
+    ensures read { (list : List Addition) (message : List ℕ) (room : ℕ) (page : Page)
+        → IsOpen message → AllByRecursion IsTyped list
+        → added_all list (record { bytes = message; room = room }) ≡ Ok page
+        → IsReadBack message list page.bytes }
 {
     stun_types::laws::writing_adds_one_attribute();
     stun_types::laws::signed_message_stands();
@@ -50,7 +54,8 @@ pub fn additions_are_read_back()
 /// What is read of a signed message is its class, its error code, and each attribute that signing added; an attribute that
 /// it did not add is not there, and the digest verifies under the key that it was made with.
 pub fn signed_messages_are_read()
-    ensures { (a : Added) (message : List ℕ) (room : ℕ) (page : Page) → IsUnsigned message → IsWritable a
+    ensures { (a : Added) (message : List ℕ) (room : ℕ) (page : Page) → IsUnsigned message
+        → IsWritable a
         → added_all (additions_of a) (record { bytes = message; room = room }) ≡ Ok page
         → ReadsAs (class_in message) (error_code message) a (reading_of page.bytes) }
 {
@@ -70,10 +75,13 @@ pub fn accepted_messages_are_validated()
 pub fn messages_that_change_nothing()
     ensures needless { (s : Sight) (now : ℕ) (words : List ℕ) (r : Reading) → needs_nonce r ≡ false
         → ChangesNothing s now words r }
-    ensures refused { (s : Sight) (now : ℕ) (words : List ℕ) (r : Reading) (place : PlaceSeen) (e : ServerRefusal) → s.place ≡ Some place → stands_at now (Some place) ≡ true
+    ensures refused { (s : Sight) (now : ℕ) (words : List ℕ) (r : Reading) (place : PlaceSeen)
+        (e : ServerRefusal) → s.place ≡ Some place → stands_at now (Some place) ≡ true
         → verdict_at s place r ≡ Err e → ChangesNothing s now words r }
-    ensures repeated { (s : Sight) (now : ℕ) (words : List ℕ) (r : Reading) (place : PlaceSeen) (client : ClientSeen) → s.place ≡ Some place → stands_at now (Some place) ≡ true
-        → verdict_at s place r ≡ Ok client → place.client ≡ Some client → ChangesNothing s now words r }
+    ensures repeated { (s : Sight) (now : ℕ) (words : List ℕ) (r : Reading) (place : PlaceSeen)
+        (client : ClientSeen) → s.place ≡ Some place → stands_at now (Some place) ≡ true
+        → verdict_at s place r ≡ Ok client → place.client ≡ Some client
+        → ChangesNothing s now words r }
 {}
 
 /// Forgetting changes each address's place by itself. After it each address that has a nonce has a client, or a nonce whose
@@ -82,11 +90,14 @@ pub fn expired_nonces_are_forgotten()
     ensures place { (s : ServerSeen) (now : ℕ) (a : SocketAddr) →
         map.get (after_forgetting s now).places a ≡ place_kept now (map.get s.places a) }
     ensures left { (s : ServerSeen) (now : ℕ) (a : SocketAddr) (place : PlaceSeen) →
-        map.get (after_forgetting s now).places a ≡ Some place → IsSome place.client ⊎ (now ≤ place.expires) }
+        map.get (after_forgetting s now).places a ≡ Some place
+        → IsSome place.client ⊎ (now ≤ place.expires) }
     ensures client { (s : ServerSeen) (now : ℕ) (a : SocketAddr) (place : PlaceSeen) →
-        map.get s.places a ≡ Some place → IsSome place.client → map.get (after_forgetting s now).places a ≡ Some place }
+        map.get s.places a ≡ Some place → IsSome place.client
+        → map.get (after_forgetting s now).places a ≡ Some place }
     ensures current { (s : ServerSeen) (now : ℕ) (a : SocketAddr) (place : PlaceSeen) →
-        map.get s.places a ≡ Some place → now ≤ place.expires → map.get (after_forgetting s now).places a ≡ Some place }
+        map.get s.places a ≡ Some place → now ≤ place.expires
+        → map.get (after_forgetting s now).places a ≡ Some place }
 {}
 
 /// A built message without attributes, and one with an error code alone, can be signed, and are read as what they were
@@ -94,8 +105,11 @@ pub fn expired_nonces_are_forgotten()
 pub fn built_messages_can_be_signed()
     ensures bare { (message_type transaction_id : ℕ) → message_type < 2 ^ 14
         → IsBuilt (spelled message_type transaction_id []) (class_of message_type) None }
-    ensures error { (message_type transaction_id : ℕ) (error : CodeAndReason) → message_type < 2 ^ 14 → IsError error
-        → IsBuilt (spelled message_type transaction_id (error_attribute error ∷ [])) (class_of message_type) (if is_error (class_of message_type) then Some error.code else None) }
+    ensures error { (message_type transaction_id : ℕ) (error : CodeAndReason)
+        → message_type < 2 ^ 14 → IsError error
+        → IsBuilt (spelled message_type transaction_id (error_attribute error ∷ []))
+        (class_of message_type) (if is_error
+        (class_of message_type) then Some error.code else None) }
 {
     stun_types::laws::writing_adds_one_attribute();
     stun_types::laws::signed_message_stands();
@@ -107,12 +121,16 @@ pub fn signing_succeeds_with_room()
     ensures within { (a : Added) (page signed : Page) → added_all (additions_of a) page ≡ Ok signed
         → IsWithinLimits a }
     ensures growth { (a : Added) → IsSmall a → growth (additions_of a) ≤ 2148 }
-    ensures room { (a : Added) (message : List ℕ) (room : ℕ) (class : MessageClass) (error : Option ℕ) → IsBuilt message class error → IsSmall a → 2148 ≤ room
+    ensures room { (a : Added) (message : List ℕ) (room : ℕ) (class : MessageClass)
+        (error : Option ℕ) → IsBuilt message class error → IsSmall a → 2148 ≤ room
         → HasRoomFor a message room }
-    ensures succeeds { (a : Added) (message : List ℕ) (room : ℕ) → IsUnsigned message → IsWithinLimits a → HasRoomFor a message room
-        → added_all (additions_of a) (record { bytes = message; room = room }) ≡ Ok (page_after (additions_of a) (record { bytes = message; room = room })) }
+    ensures succeeds { (a : Added) (message : List ℕ) (room : ℕ) → IsUnsigned message
+        → IsWithinLimits a → HasRoomFor a message room
+        → added_all (additions_of a) (record { bytes = message; room = room })
+        ≡ Ok (page_after (additions_of a) (record { bytes = message; room = room })) }
     ensures signable { (a : Added) (message : List ℕ) (room : ℕ) → IsSignable a message room
-        → added_all (additions_of a) (record { bytes = message; room = room }) ≡ Ok (page_after (additions_of a) (record { bytes = message; room = room })) }
+        → added_all (additions_of a) (record { bytes = message; room = room })
+        ≡ Ok (page_after (additions_of a) (record { bytes = message; room = room })) }
 {
     stun_types::laws::writing_adds_one_attribute();
     stun_types::laws::signed_message_stands();
@@ -122,7 +140,8 @@ pub fn signing_succeeds_with_room()
 pub fn sides_add_by_attribute()
     ensures client { (request : Bool) (state : ClientState)
         → client_additions request state ≡ additions_of (added_by_client request state) }
-    ensures server { (s : Sight) (response : Bool) (page : Page) (a : Added) → added_by_server s response ≡ Some a
+    ensures server { (s : Sight) (response : Bool) (page : Page) (a : Added)
+        → added_by_server s response ≡ Some a
         → server_signed s response page ≡ added_all (additions_of a) page }
     ensures there { (s : Sight) (response : Bool) (page : Page)
         → IsOk (server_signed s response page) → IsSome (added_by_server s response) }
@@ -149,9 +168,12 @@ pub fn nonces_ask_for_what_is_supported()
 
 /// Both sides sign what they may sign: nothing but want of memory refuses it.
 pub fn sides_sign_what_they_may()
-    ensures client { (request : Bool) (state : ClientState) (message : List ℕ) (room : ℕ) → ClientMaySign request state message room
-        → IsOk (added_all (client_additions request state) (record { bytes = message; room = room })) }
-    ensures server { (s : Sight) (response : Bool) (message : List ℕ) (room : ℕ) → ServerMaySign s response message room
+    ensures client { (request : Bool) (state : ClientState) (message : List ℕ) (room : ℕ)
+        → ClientMaySign request state message room
+        → IsOk (added_all (client_additions request state)
+        (record { bytes = message; room = room })) }
+    ensures server { (s : Sight) (response : Bool) (message : List ℕ) (room : ℕ)
+        → ServerMaySign s response message room
         → IsOk (server_signed s response (record { bytes = message; room = room })) }
 {
     signing_succeeds_with_room();
@@ -161,10 +183,14 @@ pub fn sides_sign_what_they_may()
 /// What a side signs with success could be signed unchecked: a message that can be added to, and that is no longer than a
 /// message may be, meets the condition of the unchecked call in a writer with the same room.
 pub fn what_was_signed_may_be_signed()
-    ensures client { (request : Bool) (state : ClientState) (message : List ℕ) (room : ℕ) → IsOpen message → length message ≤ LENGTH_LIMIT
-        → IsOk (added_all (client_additions request state) (record { bytes = message; room = room })) → ClientMaySign request state message room }
-    ensures server { (s : Sight) (response : Bool) (message : List ℕ) (room : ℕ) → IsOpen message → length message ≤ LENGTH_LIMIT
-        → IsOk (server_signed s response (record { bytes = message; room = room })) → ServerMaySign s response message room }
+    ensures client { (request : Bool) (state : ClientState) (message : List ℕ) (room : ℕ)
+        → IsOpen message → length message ≤ LENGTH_LIMIT
+        → IsOk (added_all (client_additions request state)
+        (record { bytes = message; room = room })) → ClientMaySign request state message room }
+    ensures server { (s : Sight) (response : Bool) (message : List ℕ) (room : ℕ) → IsOpen message
+        → length message ≤ LENGTH_LIMIT
+        → IsOk (server_signed s response (record { bytes = message; room = room }))
+        → ServerMaySign s response message room }
 {
     stun_types::laws::writing_adds_one_attribute();
     stun_types::laws::signed_message_stands();
@@ -179,10 +205,15 @@ pub fn security_bits_are_read_back()
 
 /// Both sides sign built messages in writers with room for 2,148 bytes.
 pub fn sides_sign_with_room()
-    ensures client { (request : Bool) (state : ClientState) (class : MessageClass) (error : Option ℕ) (message : List ℕ) (room : ℕ) → IsBuilt message class error
-        → IsSmall (added_by_client request state) → 2148 ≤ room → IsOk (added_all (client_additions request state) (record { bytes = message; room = room })) }
-    ensures server { (s : Sight) (response : Bool) (a : Added) (class : MessageClass) (error : Option ℕ) (message : List ℕ) (room : ℕ) → IsBuilt message class error
-        → added_by_server s response ≡ Some a → IsSmall a → 2148 ≤ room → IsOk (server_signed s response (record { bytes = message; room = room })) }
+    ensures client { (request : Bool) (state : ClientState) (class : MessageClass)
+        (error : Option ℕ) (message : List ℕ) (room : ℕ) → IsBuilt message class error
+        → IsSmall (added_by_client request state) → 2148 ≤ room
+        → IsOk (added_all (client_additions request state)
+        (record { bytes = message; room = room })) }
+    ensures server { (s : Sight) (response : Bool) (a : Added) (class : MessageClass)
+        (error : Option ℕ) (message : List ℕ) (room : ℕ) → IsBuilt message class error
+        → added_by_server s response ≡ Some a → IsSmall a → 2148 ≤ room
+        → IsOk (server_signed s response (record { bytes = message; room = room })) }
 {
     signing_succeeds_with_room();
     sides_add_by_attribute();
@@ -190,8 +221,11 @@ pub fn sides_sign_with_room()
 
 /// What is read of a message that a client signed is what it keeps of the server's challenge, where these are texts.
 pub fn client_messages_are_read()
-    ensures { (request : Bool) (state : ClientState) (class : MessageClass) (error : Option ℕ) (message : List ℕ) (room : ℕ) (page : Page) → IsBuilt message class error
-        → IsText (added_by_client request state) → added_all (client_additions request state) (record { bytes = message; room = room }) ≡ Ok page
+    ensures { (request : Bool) (state : ClientState) (class : MessageClass) (error : Option ℕ)
+        (message : List ℕ) (room : ℕ) (page : Page) → IsBuilt message class error
+        → IsText (added_by_client request state)
+        → added_all (client_additions request state) (record { bytes = message; room = room })
+        ≡ Ok page
         → ReadsAs class error (added_by_client request state) (reading_of page.bytes) }
 {
     signed_messages_are_read();
@@ -200,8 +234,10 @@ pub fn client_messages_are_read()
 
 /// What is read of a message that a server signed is the challenge of the address, and the digest under its client's key.
 pub fn server_messages_are_read()
-    ensures { (s : Sight) (response : Bool) (a : Added) (class : MessageClass) (error : Option ℕ) (message : List ℕ) (room : ℕ) (page : Page) → IsBuilt message class error
-        → added_by_server s response ≡ Some a → IsText a → server_signed s response (record { bytes = message; room = room }) ≡ Ok page
+    ensures { (s : Sight) (response : Bool) (a : Added) (class : MessageClass) (error : Option ℕ)
+        (message : List ℕ) (room : ℕ) (page : Page) → IsBuilt message class error
+        → added_by_server s response ≡ Some a → IsText a
+        → server_signed s response (record { bytes = message; room = room }) ≡ Ok page
         → ReadsAs class error a (reading_of page.bytes) }
 {
     signed_messages_are_read();

@@ -193,7 +193,8 @@ impl<A: Allocator + Copy> Places<A> {
         client: Option<Client<A>>,
     ) -> Result<(), AllocError>
         ensures ok { OnOk result (self.new ≡ map.insert self.old address
-            (renewed (map.get self.old address) (string_bytes nonce) expires (option_map client_seen client))) }
+            (renewed (map.get self.old address) (string_bytes nonce) expires
+            (option_map client_seen client))) }
         ensures err { OnErr result (self.new ≡ self.old) }
     {
         match self.by_address.get_mut(&address) {

@@ -15,5 +15,6 @@ pub fn stated_lengths()
         → length (long_term_key algorithm username realm password) ≡ key_length algorithm }
     ensures userhash { (username realm : List ℕ) → length (userhash username realm) ≡ 32 }
     ensures request { (algorithm : IntegrityAlgorithm) (id username key : List ℕ)
-        → length (with_integrity (binding_request id username) algorithm key) ≡ 28 + padded_length (length username) + digest_length algorithm }
+        → length (with_integrity (binding_request id username) algorithm key)
+        ≡ 28 + padded_length (length username) + digest_length algorithm }
 {}

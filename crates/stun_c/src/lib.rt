@@ -212,7 +212,8 @@ pub extern "C" fn stun_next(
     ensures answer { result ≡ next_answer message.now place }
     ensures kind { kind.new ≡ number_after (λ a. a.kind) (refusal message.now)
         (next_member place message.now) kind.old }
-    ensures value_length { value_length.new ≡ number_after (λ a. length a.value) (refusal message.now)
+    ensures value_length { value_length.new ≡ number_after (λ a. length a.value)
+        (refusal message.now)
         (next_member place message.now) value_length.old }
 {
     reading::next(message, place, kind, value_length)

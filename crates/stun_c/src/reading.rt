@@ -81,7 +81,8 @@ pub fn next(message: &[u8], place: usize, kind: &mut u16, value_length: &mut usi
     ensures answer { result ≡ next_answer message.now place }
     ensures kind { kind.new ≡ number_after (λ a. a.kind) (refusal message.now)
         (next_member place message.now) kind.old }
-    ensures value_length { value_length.new ≡ number_after (λ a. length a.value) (refusal message.now)
+    ensures value_length { value_length.new ≡ number_after (λ a. length a.value)
+        (refusal message.now)
         (next_member place message.now) value_length.old }
 {
     match Message::from_bytes(message) {

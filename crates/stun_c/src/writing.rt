@@ -171,7 +171,8 @@ fn spell(buffer: &mut [u8], kind: AttributeType, value: &[u8])
 fn append(buffer: &mut [u8], count: usize, kind: AttributeType, value: &[u8]) -> i64
     requires { HasRoom count (length value.now) (length buffer.old) }
     ensures answer { result ≡ pos (count + attribute_length (length value.now)) }
-    ensures written { buffer.new ≡ with_attribute (take count buffer.old) (record { kind = kind.0; value = value.now })
+    ensures written { buffer.new ≡ with_attribute (take count buffer.old)
+        (record { kind = kind.0; value = value.now })
         ++ drop (count + attribute_length (length value.now)) buffer.old }
 {
     let end = count + attribute_length(value.len());
@@ -249,7 +250,8 @@ fn append_integrity(
 /// The algorithm of this number, where its attribute can be added to the message at the front of the buffer.
 fn signable(buffer: &[u8], count: usize, algorithm: u32) -> Result<IntegrityAlgorithm, Refusal>
     ensures ok { IfOk result (λ algorithm'. (algorithm_numbered algorithm ≡ Some algorithm')
-        × (signing_refusal buffer.now count algorithm' ≡ None) × HasRoom count (digest_length algorithm') (length buffer.now)) }
+        × (signing_refusal buffer.now count algorithm' ≡ None)
+        × HasRoom count (digest_length algorithm') (length buffer.now)) }
     ensures err { IfErr result (λ refusal. (key : List ℕ)
         → signed buffer.now count (algorithm_numbered algorithm) key ≡ Err refusal) }
 {

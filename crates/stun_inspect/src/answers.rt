@@ -116,7 +116,8 @@ pub fn verify<W: Write, A: Allocator + Copy>(
     credentials: &MessageIntegrityCredentials<A>,
     writer: &mut W,
 ) -> Result<Status, Failure>
-    ensures { IfOk result (λ status. PrintsVerdict (verdict_of bytes.now (keys_of credentials.now)) status
+    ensures { IfOk result (λ status. PrintsVerdict
+        (verdict_of bytes.now (keys_of credentials.now)) status
         (W.contents writer.old) (W.contents writer.new)) }
 {
     let notes = notes_on(alloc, bytes, user)?;

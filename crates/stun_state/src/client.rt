@@ -35,7 +35,8 @@ pub fn set_credentials(
 ) -> Result<(), Refusal>
     ensures ok { OnOk result (client.new ≡ with_credentials name.now password.now client.old) }
     ensures accepted { OnOk result (texts_refusal name.now password.now ≡ None) }
-    ensures err { IfErr result (λ refusal. OrMemory result (texts_refusal name.now password.now ≡ Some refusal)
+    ensures err { IfErr result (λ refusal. OrMemory result
+        (texts_refusal name.now password.now ≡ Some refusal)
         (texts_refusal name.now password.now ≡ None)) }
     ensures refused { OnErr result (client.new ≡ client.old) }
 {
@@ -138,9 +139,11 @@ fn validate_message(
     client: &mut LongTermClientAuth<Global>,
     message: &Message<'_>,
 ) -> Result<LongTermClientValidation, Refusal>
-    ensures answer { OrMemory result (result ≡ validation_answer (step client.old message.now).answer)
+    ensures answer { OrMemory result (result ≡ validation_answer
+        (step client.old message.now).answer)
         (IsResend (step client.old message.now).answer) }
-    ensures state { OrMemory result (client.new ≡ record client.old { state = (step client.old message.now).state })
+    ensures state { OrMemory result (client.new
+        ≡ record client.old { state = (step client.old message.now).state })
         (client.new ≡ client.old) }
     ensures refused { OnErr result (client.new ≡ client.old) }
 {

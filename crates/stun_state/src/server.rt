@@ -101,10 +101,12 @@ pub fn add_user(
     password: &[u8],
 ) -> Result<(), Refusal>
     ensures ok { OnOk result (server.new ≡ record server.old {
-      registered = with_user server.old.registered (record { username = name.now; password = password.now });
+      registered = with_user server.old.registered
+          (record { username = name.now; password = password.now });
     }) }
     ensures accepted { OnOk result (texts_refusal name.now password.now ≡ None) }
-    ensures err { IfErr result (λ refusal. OrMemory result (texts_refusal name.now password.now ≡ Some refusal)
+    ensures err { IfErr result (λ refusal. OrMemory result
+        (texts_refusal name.now password.now ≡ Some refusal)
         (texts_refusal name.now password.now ≡ None)) }
     ensures refused { OnErr result (server.new ≡ server.old) }
 {
@@ -177,9 +179,11 @@ pub fn sign(
     to: &Address,
 ) -> Result<usize, Refusal>
     ensures answer { OrMemory result
-        (result ≡ length_of (at_address (socket_address to.now) (signed_by_server server.old buffer.old length))) ⊤ }
+        (result ≡ length_of (at_address (socket_address to.now)
+        (signed_by_server server.old buffer.old length))) ⊤ }
     ensures written { OrMemory result
-        (buffer.new ≡ buffer_after (at_address (socket_address to.now) (signed_by_server server.old buffer.old length)) buffer.old)
+        (buffer.new ≡ buffer_after (at_address (socket_address to.now)
+        (signed_by_server server.old buffer.old length)) buffer.old)
         (buffer.new ≡ buffer.old) }
     ensures state { OnOk result (server.new ≡ after_address (socket_address to.now) server.old
         (λ to. after_signing server.old to (is_response (class_in (take length buffer.old))))) }
@@ -200,12 +204,16 @@ fn measure(
     to: SocketAddr,
 ) -> Result<bool, Refusal>
     requires { room < 2 ^ 63 }
-    ensures fits { let more = server_growth (sight server.now to) (is_response (class_in message.now)) in
+    ensures fits { let more = server_growth (sight server.now to)
+        (is_response (class_in message.now)) in
         OnOk result (nat_lt room (length message.now + more) ≡ false) }
-    ensures long { let more = server_growth (sight server.now to) (is_response (class_in message.now)) in
+    ensures long { let more = server_growth (sight server.now to)
+        (is_response (class_in message.now)) in
         IfOk result (λ long. long ≡ is_too_long message.now more) }
-    ensures err { let more = server_growth (sight server.now to) (is_response (class_in message.now)) in
-        IfErr result (λ refusal. (refusal ≡ Refusal.BufferTooSmall) × (nat_lt room (length message.now + more) ≡ true)) }
+    ensures err { let more = server_growth (sight server.now to)
+        (is_response (class_in message.now)) in
+        IfErr result (λ refusal. (refusal ≡ Refusal.BufferTooSmall)
+        × (nat_lt room (length message.now + more) ≡ true)) }
 {
     let more = server.message_signature_bytes(to, !is_response(message));
     if room < message.as_bytes().len().saturating_add(more) {
@@ -249,9 +257,11 @@ pub fn validate(
     words: &[u32; 16],
 ) -> Result<IntegrityAlgorithm, Refusal>
     ensures answer { OrMemory result
-        (result ≡ at_address (socket_address from.now) (validated server.old message.now now words.now)) ⊤ }
+        (result ≡ at_address (socket_address from.now)
+        (validated server.old message.now now words.now)) ⊤ }
     ensures state { OrMemory result
-        (server.new ≡ after_address (socket_address from.now) server.old (after_validating server.old message.now now words.now))
+        (server.new ≡ after_address (socket_address from.now) server.old
+        (after_validating server.old message.now now words.now))
         (server.new ≡ server.old) }
 
     // Where the message changes nothing, nothing is allocated.
@@ -274,11 +284,14 @@ fn validate_message(
     words: [u32; 16],
 ) -> Result<IntegrityAlgorithm, Refusal>
     ensures answer { OrMemory result
-        (result ≡ validation_answer (answer (sight server.old from) now words (reading_of message.now))) ⊤ }
+        (result ≡ validation_answer (answer (sight server.old from) now words
+        (reading_of message.now))) ⊤ }
     ensures state { OrMemory result
-        (server.new ≡ after_message server.old from now words (reading_of message.now)) (server.new ≡ server.old) }
+        (server.new ≡ after_message server.old from now words (reading_of message.now))
+        (server.new ≡ server.old) }
     ensures unchanged { ChangesNothing (sight server.old from) now words (reading_of message.now) →
-        result ≡ validation_answer (answer (sight server.old from) now words (reading_of message.now)) }
+        result ≡ validation_answer (answer (sight server.old from) now words
+        (reading_of message.now)) }
 {
     let mut source = WordSource::new(words);
     match server.validate_incoming_message(message, from, now, &mut source) {

@@ -97,11 +97,13 @@ fn claimed_digest<'a>(message: &Message<'a>) -> Result<(usize, RawAttribute<'a>)
 
 /// Refuses the value of an integrity attribute that is no whole digest.
 fn check_whole(attribute: &RawAttribute<'_>) -> Result<(), ValidateError>
-    ensures whole { OnOk result (length attribute.now.value ≡ digest_length (algorithm_of attribute.now)) }
+    ensures whole { OnOk result (length attribute.now.value
+        ≡ digest_length (algorithm_of attribute.now)) }
     ensures well_formed { OnOk result (is_well_formed attribute.now ≡ true) }
     ensures not_whole { OnErr result
         ((length attribute.now.value == digest_length (algorithm_of attribute.now)) ≡ false) }
-    ensures refused { IfErr result (λ error. error ≡ (if is_well_formed attribute.now then ValidateError.IntegrityFailed
+    ensures refused { IfErr result (λ error. error
+        ≡ (if is_well_formed attribute.now then ValidateError.IntegrityFailed
         else ValidateError.Parse StunParseError.InvalidAttributeData)) }
 {
     if !is_well_formed(attribute) {
@@ -164,7 +166,8 @@ impl Message<'_> {
         ensures ok { IfOk result (λ algorithm.
             stands_by (keys_of credentials.now) self.now ≡ Some algorithm) }
         ensures refused { IfErr result (λ error.
-            (stands_by (keys_of credentials.now) self.now ≡ None) × (error ≡ integrity_refusal self.now)) }
+            (stands_by (keys_of credentials.now) self.now ≡ None)
+            × (error ≡ integrity_refusal self.now)) }
     {
         let (place, attribute) = claimed_digest(self)?;
         let algorithm = algorithm_of(&attribute);

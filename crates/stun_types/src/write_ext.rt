@@ -102,7 +102,8 @@ pub trait MessageWriteExt: MessageWrite {
         // Where it is reserved already nothing fails.
         ensures succeeds { attribute_refusal (Self.bytes self.old) (Self.room self.old)
             (A.kind attribute.now) (length (A.value attribute.now)) ≡ None
-            → attribute_length (length (A.value attribute.now)) ≤ Self.reserved self.old → IsOk result }
+            → attribute_length (length (A.value attribute.now)) ≤ Self.reserved self.old
+            → IsOk result }
 
         // Reading finds what it found before, and this attribute after it.
         ensures added { OnOk result (GainsOne (Self.bytes self.old) (Self.bytes self.new)
@@ -151,7 +152,8 @@ pub trait MessageWriteExt: MessageWrite {
         requires { 20 ≤ length (Self.bytes self.old) }
         ensures refused { RefusedBy (signing_refusal (Self.bytes self.old)
             (Self.room self.old) algorithm) result }
-        ensures succeeds { signing_refusal (Self.bytes self.old) (Self.room self.old) algorithm ≡ None
+        ensures succeeds { signing_refusal (Self.bytes self.old) (Self.room self.old) algorithm
+            ≡ None
             → attribute_length (digest_length algorithm) ≤ Self.reserved self.old → IsOk result }
         ensures bytes { OnOk result (Self.bytes self.new
             ≡ with_integrity (Self.bytes self.old) algorithm (keys_of credentials.now algorithm)) }
@@ -183,7 +185,8 @@ pub trait MessageWriteExt: MessageWrite {
         requires { 20 ≤ length (Self.bytes self.old) }
         ensures refused { RefusedBy (signing_refusal (Self.bytes self.old)
             (Self.room self.old) algorithm) result }
-        ensures succeeds { signing_refusal (Self.bytes self.old) (Self.room self.old) algorithm ≡ None
+        ensures succeeds { signing_refusal (Self.bytes self.old) (Self.room self.old) algorithm
+            ≡ None
             → attribute_length (digest_length algorithm) ≤ Self.reserved self.old → IsOk result }
         ensures bytes { OnOk result (Self.bytes self.new
             ≡ with_integrity (Self.bytes self.old) algorithm key.now) }
@@ -211,7 +214,8 @@ pub trait MessageWriteExt: MessageWrite {
         requires { 20 ≤ length (Self.bytes self.old) }
         ensures refused { RefusedBy (signing_refusal (Self.bytes self.old)
             (Self.room self.old) algorithm) result }
-        ensures succeeds { signing_refusal (Self.bytes self.old) (Self.room self.old) algorithm ≡ None
+        ensures succeeds { signing_refusal (Self.bytes self.old) (Self.room self.old) algorithm
+            ≡ None
             → attribute_length (digest_length algorithm) ≤ Self.reserved self.old → IsOk result }
         ensures bytes { OnOk result (Self.bytes self.new
             ≡ with_integrity (Self.bytes self.old) algorithm key.now) }

@@ -48,7 +48,8 @@ impl<A: Allocator> KeptChallenge<A> {
     fn add_identity<W: MessageWrite>(&self, writer: &mut W) -> Result<(), StunWriteError>
         requires { 20 ≤ length (W.bytes writer.old) }
         ensures header { 20 ≤ length (W.bytes writer.new) }
-        ensures added { IsAdded (identity (challenge_seen self.now)) (page_in W.bytes W.room writer.old) (W.reserved writer.old)
+        ensures added { IsAdded (identity (challenge_seen self.now))
+            (page_in W.bytes W.room writer.old) (W.reserved writer.old)
             result (page_in W.bytes W.room writer.new) (W.reserved writer.new) }
     {
         add(writer, AddedAttribute::Nonce(self.nonce.as_str()))?;
@@ -60,7 +61,9 @@ impl<A: Allocator> KeptChallenge<A> {
     fn add_algorithm_choice<W: MessageWrite>(&self, writer: &mut W) -> Result<(), StunWriteError>
         requires { 20 ≤ length (W.bytes writer.old) }
         ensures header { 20 ≤ length (W.bytes writer.new) }
-        ensures added { IsAdded (algorithm_choice (challenge_seen self.now).algorithms self.now.algorithm) (page_in W.bytes W.room writer.old) (W.reserved writer.old)
+        ensures added { IsAdded (algorithm_choice
+            (challenge_seen self.now).algorithms self.now.algorithm)
+            (page_in W.bytes W.room writer.old) (W.reserved writer.old)
             result (page_in W.bytes W.room writer.new) (W.reserved writer.new) }
     {
         let choice = AddedAttribute::PasswordAlgorithm(self.algorithm);
@@ -79,7 +82,8 @@ impl<A: Allocator> KeptChallenge<A> {
     /// Adds what a message of a class is to have, and the integrity attribute under the kept key.
     fn sign<W: MessageWrite>(&self, writer: &mut W, is_request: bool) -> Result<(), StunWriteError>
         requires { 20 ≤ length (W.bytes writer.old) }
-        ensures { IsOutcome (challenge_additions is_request (challenge_seen self.now)) (page_in W.bytes W.room writer.old) (W.reserved writer.old)
+        ensures { IsOutcome (challenge_additions is_request (challenge_seen self.now))
+            (page_in W.bytes W.room writer.old) (W.reserved writer.old)
             result (page_in W.bytes W.room writer.new) }
     {
         if is_request {
@@ -93,7 +97,8 @@ impl<A: Allocator> KeptChallenge<A> {
     /// Adds the choice of the algorithm and the integrity attribute.
     fn add_protection<W: MessageWrite>(&self, writer: &mut W) -> Result<(), StunWriteError>
         requires { 20 ≤ length (W.bytes writer.old) }
-        ensures { IsOutcome (challenge_additions false (challenge_seen self.now)) (page_in W.bytes W.room writer.old) (W.reserved writer.old)
+        ensures { IsOutcome (challenge_additions false (challenge_seen self.now))
+            (page_in W.bytes W.room writer.old) (W.reserved writer.old)
             result (page_in W.bytes W.room writer.new) }
     {
         self.add_algorithm_choice(writer)?;
@@ -176,14 +181,21 @@ impl<A: Allocator> LongTermClientAuth<A> {
     /// without FINGERPRINT.
     pub fn sign_outgoing_message<W: MessageWrite>(&mut self, writer: W) -> Result<W, StunWriteError>
         requires { BeginsWithHeader (W.bytes writer) }
-        ensures answer { let additions = client_additions (is_request (class_of (type_field (W.bytes writer)))) self.old.state in
-            UnlessMemory result (written W.bytes W.room result ≡ added_all additions (page_in W.bytes W.room writer)) (WantsMemory additions (page_in W.bytes W.room writer) (W.reserved writer)) }
+        ensures answer { let additions = client_additions
+            (is_request (class_of (type_field (W.bytes writer)))) self.old.state in
+            UnlessMemory result (written W.bytes W.room result
+            ≡ added_all additions (page_in W.bytes W.room writer))
+            (WantsMemory additions (page_in W.bytes W.room writer) (W.reserved writer)) }
         ensures grows { IfOk result (λ signed. length (W.bytes signed)
-            ≡ length (W.bytes writer) + growth (client_additions (is_request (class_of (type_field (W.bytes writer)))) self.old.state)) }
+            ≡ length (W.bytes writer) + growth
+            (client_additions (is_request (class_of
+            (type_field (W.bytes writer)))) self.old.state)) }
 
         // What is reserved already does not allocate.
         ensures succeeds { let request = is_request (class_of (type_field (W.bytes writer))) in
-            ClientMaySign request self.old.state (W.bytes writer) (W.room writer) → growth (client_additions request self.old.state) ≤ W.reserved writer → IsOk result }
+            ClientMaySign request self.old.state (W.bytes writer) (W.room writer)
+            → growth (client_additions request self.old.state) ≤ W.reserved writer
+            → IsOk result }
         ensures stays { self.new ≡ self.old }
     {
         sides_sign_what_they_may();
@@ -193,8 +205,11 @@ impl<A: Allocator> LongTermClientAuth<A> {
     /// The message with what the challenge that was taken up asks for.
     fn signed<W: MessageWrite>(&self, writer: W) -> Result<W, StunWriteError>
         requires { BeginsWithHeader (W.bytes writer) }
-        ensures { let additions = client_additions (is_request (class_of (type_field (W.bytes writer)))) self.now.state in
-            UnlessMemory result (written W.bytes W.room result ≡ added_all additions (page_in W.bytes W.room writer)) (WantsMemory additions (page_in W.bytes W.room writer) (W.reserved writer)) }
+        ensures { let additions = client_additions
+            (is_request (class_of (type_field (W.bytes writer)))) self.now.state in
+            UnlessMemory result (written W.bytes W.room result
+            ≡ added_all additions (page_in W.bytes W.room writer))
+            (WantsMemory additions (page_in W.bytes W.room writer) (W.reserved writer)) }
     {
         let mut writer = writer;
         if let Some(kept) = self.state.kept() {
@@ -216,9 +231,13 @@ impl<A: Allocator> LongTermClientAuth<A> {
             (class_of (type_field (W.bytes writer)))) self.old.state (W.bytes writer)
             (W.room writer) }
         ensures signed { IfOk result (λ signed. Ok (page_in W.bytes W.room signed)
-            ≡ added_all (client_additions (is_request (class_of (type_field (W.bytes writer)))) self.old.state) (page_in W.bytes W.room writer)) }
+            ≡ added_all (client_additions (is_request
+            (class_of (type_field (W.bytes writer)))) self.old.state)
+            (page_in W.bytes W.room writer)) }
         ensures grows { IfOk result (λ signed. length (W.bytes signed)
-            ≡ length (W.bytes writer) + growth (client_additions (is_request (class_of (type_field (W.bytes writer)))) self.old.state)) }
+            ≡ length (W.bytes writer) + growth
+            (client_additions (is_request (class_of
+            (type_field (W.bytes writer)))) self.old.state)) }
 
         // What is reserved already does not allocate.
         ensures succeeds { growth (client_additions

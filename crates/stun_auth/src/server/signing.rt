@@ -61,15 +61,21 @@ impl<A: Allocator + Copy> LongTermServerAuth<A> {
         to: SocketAddr,
     ) -> Result<W, StunWriteError>
         requires { BeginsWithHeader (W.bytes writer) }
-        ensures answer { let response = is_response_class (class_of (type_field (W.bytes writer))) in
-            UnlessMemory result (written W.bytes W.room result ≡ server_signed (sight self.old to) response (page_in W.bytes W.room writer))
-            (WantsMemory (server_additions (sight self.old to) response) (page_in W.bytes W.room writer) (W.reserved writer)) }
+        ensures answer { let response = is_response_class
+            (class_of (type_field (W.bytes writer))) in
+            UnlessMemory result (written W.bytes W.room result
+            ≡ server_signed (sight self.old to) response (page_in W.bytes W.room writer))
+            (WantsMemory (server_additions (sight self.old to) response)
+            (page_in W.bytes W.room writer) (W.reserved writer)) }
         ensures grows { IfOk result (λ signed. length (W.bytes signed)
-            ≡ length (W.bytes writer) + server_growth (sight self.old to) (is_response_class (class_of (type_field (W.bytes writer))))) }
+            ≡ length (W.bytes writer) + server_growth (sight self.old to)
+            (is_response_class (class_of (type_field (W.bytes writer))))) }
 
         // What is reserved already does not allocate.
-        ensures succeeds { let response = is_response_class (class_of (type_field (W.bytes writer))) in
-            ServerMaySign (sight self.old to) response (W.bytes writer) (W.room writer) → server_growth (sight self.old to) response ≤ W.reserved writer → IsOk result }
+        ensures succeeds { let response = is_response_class
+            (class_of (type_field (W.bytes writer))) in
+            ServerMaySign (sight self.old to) response (W.bytes writer) (W.room writer)
+            → server_growth (sight self.old to) response ≤ W.reserved writer → IsOk result }
         ensures signed { OnOk result (self.new
             ≡ after_signing self.old to (is_response_class
             (class_of (type_field (W.bytes writer))))) }
@@ -100,9 +106,12 @@ impl<A: Allocator + Copy> LongTermServerAuth<A> {
             (is_response_class (class_of (type_field (W.bytes writer)))) (W.bytes writer)
             (W.room writer) }
         ensures answer { IfOk result (λ signed. Ok (page_in W.bytes W.room signed)
-            ≡ server_signed (sight self.old to) (is_response_class (class_of (type_field (W.bytes writer)))) (page_in W.bytes W.room writer)) }
+            ≡ server_signed (sight self.old to)
+            (is_response_class (class_of (type_field (W.bytes writer))))
+            (page_in W.bytes W.room writer)) }
         ensures grows { IfOk result (λ signed. length (W.bytes signed)
-            ≡ length (W.bytes writer) + server_growth (sight self.old to) (is_response_class (class_of (type_field (W.bytes writer))))) }
+            ≡ length (W.bytes writer) + server_growth (sight self.old to)
+            (is_response_class (class_of (type_field (W.bytes writer))))) }
 
         // What is reserved already does not allocate.
         ensures succeeds { server_growth (sight self.old to)
@@ -127,8 +136,10 @@ impl<A: Allocator + Copy> LongTermServerAuth<A> {
         is_response: bool,
     ) -> Result<(), StunWriteError>
         requires { 20 ≤ length (W.bytes writer.old) }
-        ensures { UnlessMemory result (outcome_of result (page_in W.bytes W.room writer.new) ≡ server_signed (sight self.now to) is_response (page_in W.bytes W.room writer.old))
-            (WantsMemory (server_additions (sight self.now to) is_response) (page_in W.bytes W.room writer.old) (W.reserved writer.old)) }
+        ensures { UnlessMemory result (outcome_of result (page_in W.bytes W.room writer.new)
+            ≡ server_signed (sight self.now to) is_response (page_in W.bytes W.room writer.old))
+            (WantsMemory (server_additions (sight self.now to) is_response)
+            (page_in W.bytes W.room writer.old) (W.reserved writer.old)) }
     {
         match self.places.get(to) {
             Some(place) => self.sign_at(writer, place, is_response),
@@ -144,8 +155,12 @@ impl<A: Allocator + Copy> LongTermServerAuth<A> {
         is_response: bool,
     ) -> Result<(), StunWriteError>
         requires { 20 ≤ length (W.bytes writer.old) }
-        ensures { UnlessMemory result (outcome_of result (page_in W.bytes W.room writer.new) ≡ signed_at is_response self.now.registered (Some (place_seen place.now)) (page_in W.bytes W.room writer.old))
-            (WantsMemory (additions_at is_response self.now.registered (Some (place_seen place.now))) (page_in W.bytes W.room writer.old) (W.reserved writer.old)) }
+        ensures { UnlessMemory result (outcome_of result (page_in W.bytes W.room writer.new)
+            ≡ signed_at is_response self.now.registered (Some (place_seen place.now))
+            (page_in W.bytes W.room writer.old))
+            (WantsMemory (additions_at is_response self.now.registered
+            (Some (place_seen place.now))) (page_in W.bytes W.room writer.old)
+            (W.reserved writer.old)) }
     {
         self.add_attributes(writer, place, is_response)?;
         match &place.client {
@@ -163,8 +178,10 @@ impl<A: Allocator + Copy> LongTermServerAuth<A> {
     ) -> Result<(), StunWriteError>
         requires { 20 ≤ length (W.bytes writer.old) }
         ensures header { 20 ≤ length (W.bytes writer.new) }
-        ensures added { IsAdded (attributes_for is_response self.now.registered (place_seen place.now).nonce (place_seen place.now).client)
-            (page_in W.bytes W.room writer.old) (W.reserved writer.old) result (page_in W.bytes W.room writer.new) (W.reserved writer.new) }
+        ensures added { IsAdded (attributes_for is_response self.now.registered
+            (place_seen place.now).nonce (place_seen place.now).client)
+            (page_in W.bytes W.room writer.old) (W.reserved writer.old) result
+            (page_in W.bytes W.room writer.new) (W.reserved writer.new) }
     {
         if is_response {
             self.add_challenge(writer, place.nonce.as_str())?;
@@ -183,8 +200,10 @@ impl<A: Allocator + Copy> LongTermServerAuth<A> {
     ) -> Result<(), StunWriteError>
         requires { 20 ≤ length (W.bytes writer.old) }
         ensures header { 20 ≤ length (W.bytes writer.new) }
-        ensures added { IsAdded (algorithms_for is_response self.now.registered (option_map client_seen client.now))
-            (page_in W.bytes W.room writer.old) (W.reserved writer.old) result (page_in W.bytes W.room writer.new) (W.reserved writer.new) }
+        ensures added { IsAdded (algorithms_for is_response self.now.registered
+            (option_map client_seen client.now))
+            (page_in W.bytes W.room writer.old) (W.reserved writer.old) result
+            (page_in W.bytes W.room writer.new) (W.reserved writer.new) }
     {
         match client {
             Some(client) => add_named_algorithm(writer, client.algorithm),
@@ -207,7 +226,8 @@ impl<A: Allocator + Copy> LongTermServerAuth<A> {
         requires { 20 ≤ length (W.bytes writer.old) }
         ensures header { 20 ≤ length (W.bytes writer.new) }
         ensures added { IsAdded (challenge true self.now.registered nonce.now)
-            (page_in W.bytes W.room writer.old) (W.reserved writer.old) result (page_in W.bytes W.room writer.new) (W.reserved writer.new) }
+            (page_in W.bytes W.room writer.old) (W.reserved writer.old) result
+            (page_in W.bytes W.room writer.new) (W.reserved writer.new) }
     {
         add(writer, AddedAttribute::Nonce(nonce))?;
         add(writer, AddedAttribute::Realm(self.registry.realm()))
@@ -218,7 +238,8 @@ impl<A: Allocator + Copy> LongTermServerAuth<A> {
         requires { 20 ≤ length (W.bytes writer.old) }
         ensures header { 20 ≤ length (W.bytes writer.new) }
         ensures added { IsAdded (offer true self.now.registered)
-            (page_in W.bytes W.room writer.old) (W.reserved writer.old) result (page_in W.bytes W.room writer.new) (W.reserved writer.new) }
+            (page_in W.bytes W.room writer.old) (W.reserved writer.old) result
+            (page_in W.bytes W.room writer.new) (W.reserved writer.new) }
     {
         let offered = self.registry.supported().password_algorithms();
         add(writer, AddedAttribute::PasswordAlgorithms(offered))
@@ -231,8 +252,11 @@ impl<A: Allocator + Copy> LongTermServerAuth<A> {
         client: &Client<A>,
     ) -> Result<(), StunWriteError>
         requires { 20 ≤ length (W.bytes writer.old) }
-        ensures { UnlessMemory result (outcome_of result (page_in W.bytes W.room writer.new) ≡ protected_for self.now.registered (Some (client_seen client.now)) (page_in W.bytes W.room writer.old))
-            (WantsMemory (digest_for self.now.registered (Some (client_seen client.now))) (page_in W.bytes W.room writer.old) (W.reserved writer.old)) }
+        ensures { UnlessMemory result (outcome_of result (page_in W.bytes W.room writer.new)
+            ≡ protected_for self.now.registered (Some (client_seen client.now))
+            (page_in W.bytes W.room writer.old))
+            (WantsMemory (digest_for self.now.registered (Some (client_seen client.now)))
+            (page_in W.bytes W.room writer.old) (W.reserved writer.old)) }
     {
         match self.registry.key(client.name.as_str(), client.algorithm) {
             Some(key) => add_integrity(writer, key, client.algorithm),
@@ -292,7 +316,8 @@ fn add_named_algorithm<W: MessageWrite>(
     requires { 20 ≤ length (W.bytes writer.old) }
     ensures header { 20 ≤ length (W.bytes writer.new) }
     ensures added { IsAdded (named_algorithm algorithm)
-        (page_in W.bytes W.room writer.old) (W.reserved writer.old) result (page_in W.bytes W.room writer.new) (W.reserved writer.new) }
+        (page_in W.bytes W.room writer.old) (W.reserved writer.old) result
+        (page_in W.bytes W.room writer.new) (W.reserved writer.new) }
 {
     match algorithm {
         IntegrityAlgorithm::Sha1 => Ok(()),

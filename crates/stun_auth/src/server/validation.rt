@@ -113,7 +113,8 @@ fn offered_at<A: Allocator>(place: Option<&Place<A>>) -> Option<AlgorithmSet>
 
 /// Whether this is the client who is kept at an address.
 fn is_known<A: Allocator>(place: Option<&Place<A>>, accepted: Accepted<'_>) -> bool
-    ensures { IsTrue result ↔ (option_and_then (λ (p : PlaceSeen). p.client) (option_map place_seen (option_copied place.entry))
+    ensures { IsTrue result ↔ (option_and_then (λ (p : PlaceSeen). p.client)
+        (option_map place_seen (option_copied place.entry))
         ≡ Some (record { name = accepted.entry.name.now; algorithm = accepted.entry.algorithm })) }
 {
     match place {
@@ -146,19 +147,26 @@ impl<A: Allocator + Copy> LongTermServerAuth<A> {
         rng: &mut R,
     ) -> Result<LongTermServerValidation, LongTermServerAuthError>
         ensures answer { OrMemory result
-            (result ≡ answer (sight self.old from) now (next_words 16 (R.stream rng.old)) (reading_of message.now)) ⊤ }
+            (result ≡ answer (sight self.old from) now (next_words 16 (R.stream rng.old))
+            (reading_of message.now)) ⊤ }
         ensures accepted { OrMemory result
-            (ValidatesAccepted (sight self.old from) now (next_words 16 (R.stream rng.old)) (reading_of message.now) result) ⊤ }
+            (ValidatesAccepted (sight self.old from) now (next_words 16 (R.stream rng.old))
+            (reading_of message.now) result) ⊤ }
         ensures state { OrMemory result
-            (self.new ≡ after_message self.old from now (next_words 16 (R.stream rng.old)) (reading_of message.now))
+            (self.new ≡ after_message self.old from now (next_words 16 (R.stream rng.old))
+            (reading_of message.now))
             (self.new ≡ self.old) }
         ensures source { OrMemory result
-            (R.stream rng.new ≡ (if draws (sight self.old from) now (reading_of message.now) then after_words 16 (R.stream rng.old) else R.stream rng.old)) ⊤ }
+            (R.stream rng.new ≡ (if draws (sight self.old from) now
+            (reading_of message.now) then after_words 16
+            (R.stream rng.old) else R.stream rng.old)) ⊤ }
 
         // Where the message changes nothing, no allocation fails: so at a response and at a malformed message, and, where a
         // nonce is current, at each refusal and at the client who is kept there already.
-        ensures unchanged { ChangesNothing (sight self.old from) now (next_words 16 (R.stream rng.old)) (reading_of message.now) →
-            result ≡ answer (sight self.old from) now (next_words 16 (R.stream rng.old)) (reading_of message.now) }
+        ensures unchanged { ChangesNothing (sight self.old from) now
+            (next_words 16 (R.stream rng.old)) (reading_of message.now) →
+            result ≡ answer (sight self.old from) now (next_words 16 (R.stream rng.old))
+            (reading_of message.now) }
     {
         refused(self.judge_incoming(message, from, now, rng))
     }
@@ -172,14 +180,20 @@ impl<A: Allocator + Copy> LongTermServerAuth<A> {
         rng: &mut R,
     ) -> Result<LongTermServerValidation, LongTermServerAuthErrorReason>
         ensures answer { OrMemory result
-            (result ≡ answer (sight self.old from) now (next_words 16 (R.stream rng.old)) (reading_of message.now)) ⊤ }
+            (result ≡ answer (sight self.old from) now (next_words 16 (R.stream rng.old))
+            (reading_of message.now)) ⊤ }
         ensures state { OrMemory result
-            (self.new ≡ after_message self.old from now (next_words 16 (R.stream rng.old)) (reading_of message.now))
+            (self.new ≡ after_message self.old from now (next_words 16 (R.stream rng.old))
+            (reading_of message.now))
             (self.new ≡ self.old) }
         ensures source { OrMemory result
-            (R.stream rng.new ≡ (if draws (sight self.old from) now (reading_of message.now) then after_words 16 (R.stream rng.old) else R.stream rng.old)) ⊤ }
-        ensures unchanged { ChangesNothing (sight self.old from) now (next_words 16 (R.stream rng.old)) (reading_of message.now) →
-            result ≡ answer (sight self.old from) now (next_words 16 (R.stream rng.old)) (reading_of message.now) }
+            (R.stream rng.new ≡ (if draws (sight self.old from) now
+            (reading_of message.now) then after_words 16
+            (R.stream rng.old) else R.stream rng.old)) ⊤ }
+        ensures unchanged { ChangesNothing (sight self.old from) now
+            (next_words 16 (R.stream rng.old)) (reading_of message.now) →
+            result ≡ answer (sight self.old from) now (next_words 16 (R.stream rng.old))
+            (reading_of message.now) }
     {
         let reading = Reading::of(message);
         if reading.is_response() {
@@ -234,7 +248,9 @@ impl<A: Allocator + Copy> LongTermServerAuth<A> {
             ≡ new_nonce self.now now (next_words 16 (R.stream rng.old))
             (option_map place_seen (option_copied place.entry))) }
         ensures source { IfOk result (λ _. R.stream rng.new
-            ≡ (if stands_at now (option_map place_seen (option_copied place.entry)) then R.stream rng.old else after_words 16 (R.stream rng.old))) }
+            ≡ (if stands_at now (option_map place_seen
+            (option_copied place.entry)) then R.stream rng.old else after_words 16
+            (R.stream rng.old))) }
         ensures needless { stands_at now (option_map place_seen (option_copied place.entry)) ≡ true
             → IsOk result }
     {
@@ -255,10 +271,14 @@ impl<A: Allocator + Copy> LongTermServerAuth<A> {
         place: Option<&Place<A>>,
         renewal: &Option<Renewal<A>>,
     ) -> Result<Judgement<A>, AllocError>
-        ensures judged { IfOk result (IsJudged self.now.registered self.now.feature (reading_seen reading.now)
-            (place_with (option_map place_seen (option_copied place.entry)) (option_map renewal_seen renewal.now))) }
-        ensures needless { ChangesNoPlace self.now.registered self.now.feature (reading_seen reading.now)
-            (place_with (option_map place_seen (option_copied place.entry)) (option_map renewal_seen renewal.now)) → IsOk result }
+        ensures judged { IfOk result (IsJudged self.now.registered self.now.feature
+            (reading_seen reading.now)
+            (place_with (option_map place_seen (option_copied place.entry))
+            (option_map renewal_seen renewal.now))) }
+        ensures needless { ChangesNoPlace self.now.registered self.now.feature
+            (reading_seen reading.now)
+            (place_with (option_map place_seen (option_copied place.entry))
+            (option_map renewal_seen renewal.now)) → IsOk result }
     {
         let nonce = nonce_at(place, renewal);
         let offered = offered_at(place);
@@ -284,7 +304,10 @@ impl<A: Allocator + Copy> LongTermServerAuth<A> {
     ) -> Result<LongTermServerValidation, LongTermServerAuthErrorReason>
         ensures answer { OrMemory result (result ≡ answered judged) ⊤ }
         ensures state { OrMemory result
-            (self.new ≡ record self.old { places = places_left self.old.places from (option_map renewal_seen renewal) judged })
+            (self.new ≡ record self.old {
+              places = places_left self.old.places from
+                  (option_map renewal_seen renewal) judged;
+            })
             (self.new ≡ self.old) }
         ensures needless { IfNone renewal (result ≡ answered judged) }
     {

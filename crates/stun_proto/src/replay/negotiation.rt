@@ -114,15 +114,23 @@ pub fn negotiate<A: Allocator + Copy>(
     between: [&[ServerCall]; 2],
 ) -> Result<Outcome, NegotiateError>
     ensures settings { client.new.settings ≡ client.old.settings }
-    ensures steps { let m = meeting client.old.settings from ids moments words (lists between.entry) in
-        IfSome (met_by result client.new.state server.new) (λ met. met ≡ negotiated m client.old.state server.old) }
-    ensures strongest { let m = meeting client.old.settings from ids moments words (lists between.entry) in
+    ensures steps { let m = meeting client.old.settings from ids moments words
+        (lists between.entry) in
+        IfSome (met_by result client.new.state server.new)
+        (λ met. met ≡ negotiated m client.old.state server.old) }
+    ensures strongest { let m = meeting client.old.settings from ids moments words
+        (lists between.entry) in
         client.old.state ≡ initial → (who : NameAndPassword) → IsHonest m who server.old
-        → IfSome (met_by result client.new.state server.new) (ComesTo from who (strongest m server.old)) }
-    ensures headline { let m = meeting client.old.settings from ids moments words (lists between.entry) in
-        (who : NameAndPassword) → IsReadyClient client.old.state m who server.old → EndsAtStrongest m server.old result }
-    ensures memory { let m = meeting client.old.settings from ids moments words (lists between.entry) in
-        result ≡ Err NegotiateError.Memory → Contains (sides_of m client.old.state server.old) (sides client.new.state server.new) }
+        → IfSome (met_by result client.new.state server.new)
+        (ComesTo from who (strongest m server.old)) }
+    ensures headline { let m = meeting client.old.settings from ids moments words
+        (lists between.entry) in
+        (who : NameAndPassword) → IsReadyClient client.old.state m who server.old
+        → EndsAtStrongest m server.old result }
+    ensures memory { let m = meeting client.old.settings from ids moments words
+        (lists between.entry) in
+        result ≡ Err NegotiateError.Memory → Contains (sides_of m client.old.state server.old)
+        (sides client.new.state server.new) }
     ensures write { result ≢ Err (NegotiateError.Write StunWriteError.OutOfMemory) }
 {
     laws::strongest_is_agreed();

@@ -32,7 +32,8 @@ pub(crate) fn sign<A: Allocator + Copy>(
         (signing (sight server.old to) bytes.now))) }
     ensures server { OnOk result (server.new ≡ record server.old {
       places = places_unless (refusal bytes.now) server.old.places
-          (if_signed (signing (sight server.old to) bytes.now) server.old.places (after_signing server.old to (is_response (class_in bytes.now))).places);
+          (if_signed (signing (sight server.old to) bytes.now) server.old.places
+          (after_signing server.old to (is_response (class_in bytes.now))).places);
     }) }
     ensures err { OnErr result (server.new ≡ server.old) }
     ensures no_message { refusal bytes.now ≢ None → IsOk result }

@@ -54,7 +54,8 @@ pub(crate) fn meet<A: Allocator + Copy>(
     meeting: &Meeting<'_>,
 ) -> Result<Outcome, NegotiateError>
     ensures { let m = meeting_of client.old.settings meeting.now in
-        IsRun result client.old client.new server.new (negotiated m client.old.state server.old) (sides_of m client.old.state server.old) }
+        IsRun result client.old client.new server.new (negotiated m client.old.state server.old)
+        (sides_of m client.old.state server.old) }
 {
     let signed = request(alloc, client, meeting.first.id)?;
     let request = message_in(signed.data());
@@ -92,7 +93,8 @@ fn answer_challenge<A: Allocator + Copy>(
     requires id { transaction_id_field request.now ≡ meeting.now.first.id }
     ensures { let m = meeting_of client.old.settings meeting.now in
         IsRun result client.old client.new server.new
-        (challenged m client.old.state server.old (responded (failure UNAUTHORIZED m.first.id) (sight server.old m.from)))
+        (challenged m client.old.state server.old
+        (responded (failure UNAUTHORIZED m.first.id) (sight server.old m.from)))
         (sides client.old.state server.old ∷ sides_after_challenge m client.old.state server.old) }
 {
     let signed = challenge(alloc, server, request, meeting.from)?;
@@ -156,7 +158,8 @@ fn confirm<A: Allocator + Copy>(
     requires id { transaction_id_field request.now ≡ meeting.now.second.id }
     ensures { let m = meeting_of client.old.settings meeting.now in
         IsRun result client.old client.new server.new
-        (succeeded m algorithm client.old.state server.old (responded (success m.second.id) (sight server.old m.from)))
+        (succeeded m algorithm client.old.state server.old
+        (responded (success m.second.id) (sight server.old m.from)))
         (sides client.old.state server.old ∷ sides_after_success m client.old.state server.old) }
 {
     let signed = success(alloc, server, request, meeting.from)?;

@@ -106,8 +106,10 @@ if [ -n "$has_state" ] && cargo --version >/dev/null 2>&1; then
     fi
     checked="$checked, and the crate of bindings/rust"
 fi
-# The programs on UDP sockets against each other, and those of bindings/rust where they were built.
-if [ -n "$has_state" ] && python3 --version >/dev/null 2>&1; then
+# The programs on UDP sockets against each other, and those of bindings/rust where they were built, where a datagram can be sent.
+loopback='import socket; s = socket.socket(socket.AF_INET, socket.SOCK_DGRAM); s.bind(("127.0.0.1", 0)); s.settimeout(5)
+s.sendto(b"x", s.getsockname()); s.recv(1)'
+if [ -n "$has_state" ] && python3 -c "$loopback" >/dev/null 2>&1; then
     set --
     for one in server client; do
         if [ -x "$scratch/target/debug/examples/udp_$one" ]; then set -- "$@" "--$one" "$scratch/target/debug/examples/udp_$one"; fi

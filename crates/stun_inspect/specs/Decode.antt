@@ -10,22 +10,25 @@ use Rattle.stun_inspect.specs.declared.status.Status.TheVariants.{Good, Bad}
 use Rattle.stun_inspect.specs.declared.telling.Told.{Told}
 use Rattle.stun_inspect.specs.declared.verdict.Verdict.TheVariants.{NotAMessage}
 use Rattle.stun_inspect.specs.Telling.{told_of}
+use Rattle.stun_inspect.specs.Fingerprint.{ending_of}
 use Rattle.stun_inspect.specs.Verdict.{line_of}
 
--- a line on an attribute begins with its place and its type, and what follows says the rest
-abbrev pub IsLineOn : Told → List ℕ → Type 0
-IsLineOn told line =
-    (rest : List ℕ) × (line ≡ decimal told.place ++ (codes " " ++ (text_of told.attribute.kind ++ (codes " " ++ (rest ++ 10 ∷ [])))))
+-- a line on an attribute of a message begins with its place and its type, what follows says the rest, and of a
+-- FINGERPRINT the end says whether it is right
+abbrev pub IsLineOn : List ℕ → Told → List ℕ → Type 0
+IsLineOn message told line =
+    (rest : List ℕ) × (line
+    ≡ decimal told.place ++ (codes " " ++ (text_of told.attribute.kind ++ (codes " " ++ (rest ++ (ending_of message told ++ 10 ∷ []))))))
 
 -- a text is one line on each attribute, in order
-abbrev pub AreLinesOn : List Told → List ℕ → Type 0
-AreLinesOn [] text = text ≡ []
-AreLinesOn (first ∷ others) text =
-    (line : List ℕ) × (rest : List ℕ) × IsLineOn first line × AreLinesOn others rest × (text ≡ line ++ rest)
+abbrev pub AreLinesOn : List ℕ → List Told → List ℕ → Type 0
+AreLinesOn message [] text = text ≡ []
+AreLinesOn message (first ∷ others) text =
+    (line : List ℕ) × (rest : List ℕ) × IsLineOn message first line × AreLinesOn message others rest × (text ≡ line ++ rest)
 
 -- what is said of a message: of its header, and then a line on each attribute
 abbrev pub Describes : List ℕ → List ℕ → Type 0
-Describes message text = (header : List ℕ) × (lines : List ℕ) × AreLinesOn (told_of message) lines × (text ≡ header ++ lines)
+Describes message text = (header : List ℕ) × (lines : List ℕ) × AreLinesOn message (told_of message) lines × (text ≡ header ++ lines)
 
 -- the message is described, or the line for what refuses the bytes is printed
 abbrev pub PrintsUnlessRefused : Option StunParseError → List ℕ → Status → Option (List ℕ) → Option (List ℕ) → Type 0

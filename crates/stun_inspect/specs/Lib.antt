@@ -2,6 +2,10 @@
 
 -- the attributes of a message one by one, and what hides each
 pub mod Telling
+-- CRC-32
+pub mod Crc32
+-- whether a FINGERPRINT is that of its message
+pub mod Fingerprint
 -- what `decode` prints
 pub mod Decode
 -- what `verify` prints

@@ -2,6 +2,7 @@
 ghost use Rattle.std.specs.Prelude.{IfOk, string_bytes};
 ghost use Rattle.stun_inspect.specs.Decode.{AreLinesOn, Describes, IsLineOn};
 
+use crate::fingerprint::ending_of;
 use crate::registry::{Form, attribute, attribute_name, method_name};
 use crate::telling::{Told, tell};
 use crate::value::{push_digits, push_value};
@@ -16,7 +17,8 @@ pub fn describe<A: Allocator + Copy>(
     ensures { IfOk result (λ text. Describes message.now (string_bytes text)) }
 {
     let told = tell(alloc, message)?;
-    let lines = lines_on(alloc, told.as_slice(), message.transaction_id())?;
+    let bytes = message.as_bytes();
+    let lines = lines_on(alloc, bytes, told.as_slice(), message.transaction_id())?;
     let mut text = header_text(alloc, message)?;
     text.push_str(lines.as_str())?;
     Ok(text)
@@ -46,34 +48,37 @@ fn header_text<A: Allocator + Copy>(
     Ok(text)
 }
 
-/// A line on each attribute.
+/// A line on each attribute of a message.
 fn lines_on<A: Allocator + Copy>(
     alloc: A,
+    message: &[u8],
     told: &[Told<'_>],
     id: TransactionId,
 ) -> Result<String<A>, AllocError>
-    ensures { IfOk result (λ text. AreLinesOn told.now (string_bytes text)) }
+    ensures { IfOk result (λ text. AreLinesOn message.now told.now (string_bytes text)) }
 {
     let mut text = String::new(alloc);
     for attribute in told {
-        let line = line_on(alloc, attribute, id)?;
+        let line = line_on(alloc, message, attribute, id)?;
         text.push_str(line.as_str())?;
     }
     Ok(text)
 }
 
-/// The line on an attribute.
+/// The line on an attribute of a message.
 fn line_on<A: Allocator + Copy>(
     alloc: A,
+    message: &[u8],
     told: &Told<'_>,
     id: TransactionId,
 ) -> Result<String<A>, AllocError>
-    ensures { IfOk result (λ line. IsLineOn told.now (string_bytes line)) }
+    ensures { IfOk result (λ line. IsLineOn message.now told.now (string_bytes line)) }
 {
     let rest = rest_of_line(alloc, told, id)?;
     let place = told.place;
     let kind = told.attribute.get_type();
-    let line = format!(in alloc; "{place} {kind} {rest}\n")?;
+    let ending = ending_of(message, told);
+    let line = format!(in alloc; "{place} {kind} {rest}{ending}\n")?;
     Ok(line)
 }
 

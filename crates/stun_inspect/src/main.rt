@@ -3,10 +3,12 @@
 
 mod answers;
 mod command;
+mod crc32;
 mod decode;
 mod digits;
 mod dump;
 mod failure;
+mod fingerprint;
 mod input;
 mod layout;
 mod notes;

@@ -1,4 +1,5 @@
 //! The commands on whole inputs, with texts worked out by hand.
+mod fingerprint;
 mod layouts;
 mod registry;
 
@@ -83,7 +84,7 @@ fn decodes_the_samples(rt: HostRuntime) -> Result<(), Fail> {
 48 0x8029 ICE-CONTROLLED, 8 bytes, visible: 932ff9b151263b36
 60 0x0006 USERNAME, 9 bytes, visible: \"evtj:h6vY\"
 76 0x0008 MESSAGE-INTEGRITY, 20 bytes, visible: 9aeaa70cbfd8cb56781ef2b5b2d3f249c1b571a2
-100 0x8028 FINGERPRINT, 4 bytes, visible: e57a3bcf\n",
+100 0x8028 FINGERPRINT, 4 bytes, visible: e57a3bcf, right\n",
         ),
         (
             IPV4_RESPONSE,
@@ -91,7 +92,7 @@ fn decodes_the_samples(rt: HostRuntime) -> Result<(), Fail> {
 20 0x8022 SOFTWARE, 11 bytes, visible: \"test vector\"
 36 0x0020 XOR-MAPPED-ADDRESS, 8 bytes, visible: 192.0.2.1:32853
 48 0x0008 MESSAGE-INTEGRITY, 20 bytes, visible: 2b91f599fd9e90c38c7489f92af9ba53f06be7d7
-72 0x8028 FINGERPRINT, 4 bytes, visible: c07d4c96\n",
+72 0x8028 FINGERPRINT, 4 bytes, visible: c07d4c96, right\n",
         ),
         (
             IPV6_RESPONSE,
@@ -99,7 +100,7 @@ fn decodes_the_samples(rt: HostRuntime) -> Result<(), Fail> {
 20 0x8022 SOFTWARE, 11 bytes, visible: \"test vector\"
 36 0x0020 XOR-MAPPED-ADDRESS, 20 bytes, visible: [2001:db8:1234:5678:11:2233:4455:6677]:32853
 60 0x0008 MESSAGE-INTEGRITY, 20 bytes, visible: a382954e4be67bf11784c97c8292c275bfe3ed41
-84 0x8028 FINGERPRINT, 4 bytes, visible: c8fb0b4c\n",
+84 0x8028 FINGERPRINT, 4 bytes, visible: c8fb0b4c, right\n",
         ),
         (
             LONG_TERM_REQUEST,
@@ -146,7 +147,7 @@ fn decodes_values(rt: HostRuntime) -> Result<(), Fail> {
 156 0x8022 SOFTWARE, 0 bytes, hidden by MESSAGE-INTEGRITY: \"\"
 160 0x001c MESSAGE-INTEGRITY-SHA256, 16 bytes, visible: 00000000000000000000000000000000
 180 0x0024 PRIORITY, 4 bytes, hidden by MESSAGE-INTEGRITY-SHA256: 1
-188 0x8028 FINGERPRINT, 4 bytes, visible: 00000000
+188 0x8028 FINGERPRINT, 4 bytes, visible: 00000000, misplaced
 196 0x001c MESSAGE-INTEGRITY-SHA256, 0 bytes, hidden by FINGERPRINT: empty\n";
     let alloc = rt.alloc();
     let good = (Status::Good, printed, "");

@@ -2,6 +2,7 @@
 use Rattle.std.proofs.Common.{◌∙◌, subst, rules}
 use Rattle.std.specs.Prelude.{string_bytes}
 use Rattle.stun_inspect.specs.Decode.{AreLinesOn}
+use Rattle.stun_inspect.specs.Telling.{told_of}
 use Rattle.stun_inspect.proofs.decode.describe.Goals as goal
 
 pub returns : goal.returns
@@ -9,6 +10,8 @@ returns g c =
     let lines = string_bytes c.in_ok-lines.lines in (
       string_bytes c.in_ok-text.text,
       lines,
-      subst (λ told. AreLinesOn told lines) (c.as_slice.ensures.value ∙ c.in_ok-told.ensures.told) c.in_ok-lines.ensures,
+      subst (λ message. AreLinesOn message (told_of c.args.message.now) lines) c.as_bytes-bytes.ensures.bytes
+          (subst (λ told. AreLinesOn c.as_bytes-bytes.result.now told lines) (c.as_slice.ensures.value ∙ c.in_ok-told.ensures.told)
+          c.in_ok-lines.ensures),
       search rules,
     )

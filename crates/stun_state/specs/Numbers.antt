@@ -1,10 +1,11 @@
 -- The numbers that calls answer.
-use Rattle.std.specs.Prelude.{ℕ, ℤ, pos, min, Result, Ok, Err}
+use Rattle.std.specs.Prelude.{◌≡◌, ◌⊎◌, ℕ, ℤ, pos, min, Result, Ok, Err}
 use Rattle.stun_auth.specs.declared.client_answer.LongTermClientValidation.{LongTermClientValidation}
 use Rattle.stun_auth.specs.declared.client_answer.LongTermClientValidation.TheVariants.{Validated, ResendRequest}
 use Rattle.stun_base.specs.declared.algorithm.IntegrityAlgorithm.{IntegrityAlgorithm}
 use Rattle.stun_state.specs.Codes.{code_of, algorithm_number}
 use Rattle.stun_state.specs.declared.codes.Refusal.{Refusal}
+use Rattle.stun_state.specs.declared.codes.Refusal.TheVariants.{OutOfMemory}
 
 -- 0, or the refusal's number
 abbrev pub done_answer : Result (Unit {0}) Refusal → ℤ
@@ -31,3 +32,9 @@ abbrev pub reading_answer : Result LongTermClientValidation Refusal → ℤ
 reading_answer (Ok (Validated algorithm)) = pos (algorithm_number algorithm)
 reading_answer (Ok (ResendRequest _)) = pos 3
 reading_answer (Err refusal) = code_of refusal
+
+-- a call answers this number and leaves this in its handle; or an allocation failed: it answers the number of that, and the
+-- handle is as before
+abbrev pub OrOutOfMemory : {S : Type 0} → ℤ → S → S → ℤ → S → Type 0
+OrOutOfMemory result before now number after =
+    ((result ≡ number) × (now ≡ after)) ⊎ ((result ≡ code_of OutOfMemory) × (now ≡ before))

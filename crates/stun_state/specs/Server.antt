@@ -1,5 +1,5 @@
 -- What the calls on a server answer and leave, by the definitions of its authenticator (RFC 8489, section 9.2.4).
-use Rattle.std.specs.Prelude.{ℕ, List, ◌++◌, length, drop, max, nat_lt, if◌then◌else◌, Option, Some, None, Result, Ok, Err, option_and_then}
+use Rattle.std.specs.Prelude.{ℕ, ℤ, List, ◌++◌, length, drop, max, nat_lt, if◌then◌else◌, Option, Some, None, Result, Ok, Err, option_and_then}
 use Rattle.std.specs.FinMap as map
 use Rattle.std.specs.declared.net.socket_addr.SocketAddr.{SocketAddr}
 use Rattle.stun_base.specs.declared.algorithm.IntegrityAlgorithm.{IntegrityAlgorithm}
@@ -12,8 +12,11 @@ use Rattle.stun_auth.specs.Reading.{reading_of}
 use Rattle.stun_auth.specs.Registered.{without_user}
 use Rattle.stun_auth.specs.Seen.{ClientSeen, PlaceSeen}
 use Rattle.stun_auth.specs.Validation.{Answer, ServerSeen, after_message, answer, sight}
-use Rattle.stun_state.specs.Answers.{kept_if_refused, message_refusal, unless_refused}
+use Rattle.stun_state.specs.Addresses.{socket_address}
+use Rattle.stun_state.specs.Answers.{after_address, at_address, kept_if_refused, message_refusal, unless_refused}
 use Rattle.stun_state.specs.Codes.{refusal_of_server}
+use Rattle.stun_state.specs.Numbers.{algorithm_answer}
+use Rattle.stun_state.specs.declared.address.Address.{Address}
 use Rattle.stun_state.specs.declared.codes.Refusal.{Refusal}
 use Rattle.stun_state.specs.declared.codes.Refusal.TheVariants.{BufferTooSmall}
 use Rattle.stun_state.specs.declared.server.Validated.{Validated as Known}
@@ -53,6 +56,13 @@ validated s bytes now words from =
 abbrev pub after_validating : ServerSeen → List ℕ → ℕ → List ℕ → SocketAddr → ServerSeen
 after_validating s bytes now words from =
     kept_if_refused (message_refusal (refusal bytes)) s (after_message s from now words (reading_of bytes))
+
+-- the number that a caller gets for bytes and an address, and the server that is kept then
+abbrev pub validation_number : ServerSeen → List ℕ → Address → ℕ → List ℕ → ℤ
+validation_number s bytes from now words = algorithm_answer (at_address (socket_address from) (validated s bytes now words))
+
+abbrev pub kept_after_validating : ServerSeen → List ℕ → Address → ℕ → List ℕ → ServerSeen
+kept_after_validating s bytes from now words = after_address (socket_address from) s (after_validating s bytes now words)
 
 -- ---- who was validated
 

@@ -5,6 +5,9 @@
 #![tactic(auto)]
 
 ghost use Rattle.std.specs.Prelude.{◌≡◌, ⊤, pos, Some, None, Ok, Err, IfNone, IfSome, IsSomeAnd};
+ghost use Rattle.stun_state.specs.Codes.{code_of};
+ghost use Rattle.stun_state.specs.Numbers.{OrOutOfMemory};
+ghost use Rattle.stun_state.specs.Server.{kept_after_validating, validation_number};
 
 mod address;
 mod agent;
@@ -430,7 +433,16 @@ pub extern "C" fn stun_server_validate(
     now: u64,
     words: &[u32; 16],
 ) -> i64
-    ensures empty { IfNone handle.old.server (handle.new.server ≡ None) }
+    ensures empty { IfNone handle.old.server ((result ≡ code_of Refusal.EmptyHandle)
+        × (handle.new.server ≡ None)) }
+
+    // The number of what the authenticator answers, and what its call leaves.
+    ensures answer { IfSome handle.old.server (λ kept. OrOutOfMemory result
+        handle.old.server handle.new.server
+        (validation_number kept.server message.now from.now now words.now)
+        (Some (record {
+          server = kept_after_validating kept.server message.now from.now now words.now;
+        }))) }
 {
     let Some(mut kept) = handle.take(alloc) else {
         return Refusal::EmptyHandle.code();

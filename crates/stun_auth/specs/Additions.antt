@@ -6,6 +6,7 @@ use Rattle.stun_base.specs.declared.algorithm.IntegrityAlgorithm.{IntegrityAlgor
 use Rattle.stun_base.specs.declared.error.StunWriteError.{StunWriteError}
 use Rattle.stun_base.specs.declared.error.StunWriteError.TheVariants.{NotAllowed, MessageIntegrityExists, AttributeExists, TooLarge, TooSmall, IntegrityFailed, OutOfMemory}
 use Rattle.stun_types.specs.Attribute.{TypedValue, attribute_length}
+use Rattle.stun_types.specs.Limits.{TEXT_LIMIT, USERNAME_LIMIT}
 use Rattle.stun_types.specs.Writing.{attribute_refusal, signing_refusal, with_attribute, with_integrity}
 
 -- an attribute, or the integrity attribute of an algorithm under a key
@@ -30,8 +31,8 @@ growth list = sum_by growth_of list
 -- whether a text has more bytes than its attribute takes (sections 14.3, 14.9 and 14.10)
 abbrev pub is_too_long : TypedValue → Bool
 is_too_long a =
-    (a.kind == USERNAME && nat_lt 513 (length a.value))
-    || ((a.kind == REALM || (a.kind == NONCE)) && nat_lt 763 (length a.value))
+    (a.kind == USERNAME && nat_lt USERNAME_LIMIT (length a.value))
+    || ((a.kind == REALM || (a.kind == NONCE)) && nat_lt TEXT_LIMIT (length a.value))
 
 -- why an addition is refused: an attribute is made before it is added
 abbrev pub refusal_of : Addition → Page → Option StunWriteError

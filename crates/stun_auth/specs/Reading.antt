@@ -11,6 +11,7 @@ use Rattle.stun_base.specs.MessageType.{class_of}
 use Rattle.stun_types.specs.Attribute.{TypedValue}
 use Rattle.stun_types.specs.ErrorCode.{CodeAndReason, error_of}
 use Rattle.stun_types.specs.Integrity.{is_well_formed, stands}
+use Rattle.stun_types.specs.Limits.{TEXT_LIMIT, USERNAME_LIMIT}
 use Rattle.stun_types.specs.PasswordAlgorithms.{algorithm_of, algorithms_of, integrity_of}
 use Rattle.stun_types.specs.Text.{text_of}
 use Rattle.stun_types.specs.Userhash.{hash_of}
@@ -87,9 +88,9 @@ unfoldable pub reading_of : List ℕ → Reading
 reading_of bytes = record {
   class = class_in bytes;
   error = error_code bytes;
-  realm = last (text_of REALM 763) REALM bytes;
-  nonce = last (text_of NONCE 763) NONCE bytes;
-  username = last (text_of USERNAME 513) USERNAME bytes;
+  realm = last (text_of REALM TEXT_LIMIT) REALM bytes;
+  nonce = last (text_of NONCE TEXT_LIMIT) NONCE bytes;
+  username = last (text_of USERNAME USERNAME_LIMIT) USERNAME bytes;
   userhash = last hash_of USERHASH bytes;
   algorithms = option_map (map integrity_of) (last algorithms_of PASSWORD_ALGORITHMS bytes);
   algorithm = option_map integrity_of (last algorithm_of PASSWORD_ALGORITHM bytes);

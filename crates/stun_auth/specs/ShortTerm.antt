@@ -6,7 +6,8 @@ use Rattle.stun_base.specs.declared.error.ValidateError.{ValidateError}
 use Rattle.stun_base.specs.declared.error.StunWriteError.{StunWriteError}
 use Rattle.stun_types.specs.Attribute.{attribute_length}
 use Rattle.stun_types.specs.Integrity.{stands, integrity_refusal}
-use Rattle.stun_types.specs.Writing.{has_integrity, length_with, max_length, signing_refusal, with_integrity}
+use Rattle.stun_types.specs.Limits.{max_length}
+use Rattle.stun_types.specs.Writing.{has_integrity, length_with, signing_refusal, with_integrity}
 
 -- the bytes of a password, which are its key (section 9.1.1), and the digest that messages are signed with
 pub record Secret : Type 0 where

@@ -8,9 +8,10 @@ use Rattle.stun_base.specs.declared.algorithm.IntegrityAlgorithm.{IntegrityAlgor
 use Rattle.stun_base.specs.declared.message_type.MessageClass.{MessageClass}
 use Rattle.stun_types.specs.Attribute.{TypedValue}
 use Rattle.stun_types.specs.ErrorCode.{CodeAndReason, error_value}
+use Rattle.stun_types.specs.Limits.{TEXT_LIMIT, USERNAME_LIMIT, max_length}
 use Rattle.stun_types.specs.Visible.{has_kind}
 use Rattle.stun_types.specs.Walk.{walk}
-use Rattle.stun_types.specs.Writing.{IsOpen, max_length}
+use Rattle.stun_types.specs.Writing.{IsOpen}
 use Rattle.stun_auth.specs.AddedAttribute as attributes
 use Rattle.stun_auth.specs.Additions.{Addition, attribute, growth, integrity}
 use Rattle.stun_auth.specs.Algorithms.{is_sha256, listed}
@@ -57,16 +58,16 @@ IsTextOf most text = IsUtf8 text × (length text ≤ most)
 
 -- texts and hash are within their limits (sections 14.3, 14.4, 14.9 and 14.10)
 pub record IsWritable (a : Added) : Type 0 where
-  pub nonce : IfSome a.nonce (IsTextOf 763)
-  pub realm : IfSome a.realm (IsTextOf 763)
-  pub username : IfSome a.username (IsTextOf 513)
+  pub nonce : IfSome a.nonce (IsTextOf TEXT_LIMIT)
+  pub realm : IfSome a.realm (IsTextOf TEXT_LIMIT)
+  pub username : IfSome a.username (IsTextOf USERNAME_LIMIT)
   pub userhash : IfSome a.userhash (λ hash. length hash ≡ 32)
 
 -- texts are within their limits
 pub record IsWithinLimits (a : Added) : Type 0 where
-  pub nonce : IfSome a.nonce (λ text. length text ≤ 763)
-  pub realm : IfSome a.realm (λ text. length text ≤ 763)
-  pub username : IfSome a.username (λ text. length text ≤ 513)
+  pub nonce : IfSome a.nonce (λ text. length text ≤ TEXT_LIMIT)
+  pub realm : IfSome a.realm (λ text. length text ≤ TEXT_LIMIT)
+  pub username : IfSome a.username (λ text. length text ≤ USERNAME_LIMIT)
 
 -- texts are UTF-8, and a hash has its length
 pub record IsText (a : Added) : Type 0 where

@@ -7,6 +7,7 @@ ghost use Rattle.std.specs.Option.{is_some, option_and_then, option_copied, opti
 ghost use Rattle.stun_base.specs.Attributes.{NONCE, REALM, USERNAME};
 ghost use Rattle.stun_types.specs.ErrorCode.{CodeAndReason, error_of};
 ghost use Rattle.stun_types.specs.Integrity.{stands};
+ghost use Rattle.stun_types.specs.Limits.{TEXT_LIMIT, USERNAME_LIMIT};
 ghost use Rattle.stun_types.specs.PasswordAlgorithms.{algorithm_of, algorithms_of, integrity_of};
 ghost use Rattle.stun_types.specs.Text.{text_of};
 ghost use Rattle.stun_types.specs.Userhash.{hash_of};
@@ -158,7 +159,7 @@ fn error(class: MessageClass, attribute: Option<RawAttribute<'_>>) -> Option<u16
 
 /// The text of a REALM.
 fn realm<'a>(attribute: Option<RawAttribute<'a>>) -> Option<&'a str>
-    ensures { option_copied result ≡ option_and_then (text_of REALM 763) attribute.entry }
+    ensures { option_copied result ≡ option_and_then (text_of REALM TEXT_LIMIT) attribute.entry }
 {
     match read::<Realm<'a>>(attribute) {
         Some(realm) => Some(realm.realm()),
@@ -168,7 +169,7 @@ fn realm<'a>(attribute: Option<RawAttribute<'a>>) -> Option<&'a str>
 
 /// The text of a NONCE.
 fn nonce<'a>(attribute: Option<RawAttribute<'a>>) -> Option<&'a str>
-    ensures { option_copied result ≡ option_and_then (text_of NONCE 763) attribute.entry }
+    ensures { option_copied result ≡ option_and_then (text_of NONCE TEXT_LIMIT) attribute.entry }
 {
     match read::<Nonce<'a>>(attribute) {
         Some(nonce) => Some(nonce.nonce()),
@@ -178,7 +179,7 @@ fn nonce<'a>(attribute: Option<RawAttribute<'a>>) -> Option<&'a str>
 
 /// The text of a USERNAME.
 fn username<'a>(attribute: Option<RawAttribute<'a>>) -> Option<&'a str>
-    ensures { option_copied result ≡ option_and_then (text_of USERNAME 513) attribute.entry }
+    ensures { option_copied result ≡ option_and_then (text_of USERNAME USERNAME_LIMIT) attribute.entry }
 {
     match read::<Username<'a>>(attribute) {
         Some(username) => Some(username.username()),

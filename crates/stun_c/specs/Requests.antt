@@ -9,13 +9,10 @@ use Rattle.stun_base.specs.Attributes.{USERNAME}
 use Rattle.stun_base.specs.Keys.{long_term_key, userhash}
 use Rattle.stun_base.specs.MessageType.{type_number}
 use Rattle.stun_types.specs.Grammar.{spelled}
+use Rattle.stun_types.specs.Limits.{USERNAME_LIMIT}
 use Rattle.stun_types.specs.Writing.{with_integrity}
 use Rattle.stun_c.specs.declared.codes.Refusal.{Refusal}
 use Rattle.stun_c.specs.declared.codes.Refusal.TheVariants.{BadArgument, NotText, TextTooLong}
-
--- the bytes of the longest USERNAME (RFC 8489, section 14.3)
-abbrev pub USERNAME_LIMIT : ℕ
-USERNAME_LIMIT = 513
 
 -- a Binding request with a USERNAME (RFC 8489, sections 5, 14.3 and 18.2)
 abbrev pub binding_request : List ℕ → List ℕ → List ℕ

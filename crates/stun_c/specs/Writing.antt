@@ -9,11 +9,12 @@ use Rattle.stun_base.specs.Header.{transaction_id_field}
 use Rattle.stun_base.specs.MessageType.{class_of_bits, type_number}
 use Rattle.stun_base.specs.declared.algorithm.IntegrityAlgorithm.{IntegrityAlgorithm}
 use Rattle.stun_types.specs.Attribute.{attribute_length}
-use Rattle.stun_types.specs.ErrorCode.{error_value, max_reason}
+use Rattle.stun_types.specs.ErrorCode.{error_value}
 use Rattle.stun_types.specs.Grammar.{spelled}
+use Rattle.stun_types.specs.Limits.{TEXT_LIMIT, max_length}
 use Rattle.stun_types.specs.Message.{refusal}
 use Rattle.stun_types.specs.Visible.{visible}
-use Rattle.stun_types.specs.Writing.{is_set_apart, length_with, max_length, with_attribute, with_integrity}
+use Rattle.stun_types.specs.Writing.{is_set_apart, length_with, with_attribute, with_integrity}
 use Rattle.stun_types.specs.XorMappedAddress.{xor_bytes, xor_key, xor_port, xored_value}
 use Rattle.stun_c.specs.declared.codes.Refusal.{Refusal}
 use Rattle.stun_c.specs.declared.codes.Refusal.TheVariants.{BadArgument, NotText, TextTooLong, BufferTooSmall, NotAllowed, Closed, AttributeExists, MessageTooLong}
@@ -88,7 +89,7 @@ abbrev pub error_argument_refusal : ℕ → List ℕ → Option Refusal
 error_argument_refusal code reason =
     if nat_lt code 300 || nat_le 700 code then Some BadArgument
     else if not (is_utf8 reason) then Some NotText
-    else if nat_lt max_reason (length reason) then Some TextTooLong else None
+    else if nat_lt TEXT_LIMIT (length reason) then Some TextTooLong else None
 
 -- the same, and then the message
 abbrev pub unless : Option Refusal → Result (List ℕ) Refusal → Result (List ℕ) Refusal

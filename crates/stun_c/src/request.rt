@@ -2,8 +2,9 @@
 
 ghost use Rattle.std.specs.Prelude.{◌≡◌, ◌≤◌, length, IfOk, OnOk, IfErr, Some, None, Ok, Err};
 ghost use Rattle.byteorder.specs.Endian.{big_number};
+ghost use Rattle.stun_types.specs.Limits.{USERNAME_LIMIT};
 ghost use Rattle.stun_c.specs.Codes.{algorithm_numbered};
-ghost use Rattle.stun_c.specs.Requests.{signed_request, username_refusal, USERNAME_LIMIT};
+ghost use Rattle.stun_c.specs.Requests.{signed_request, username_refusal};
 
 use crate::codes::{Refusal, algorithm_numbered};
 use crate::text::text;

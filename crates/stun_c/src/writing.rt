@@ -7,6 +7,7 @@ ghost use Rattle.stun_base.specs.MessageType.{class_of_bits};
 ghost use Rattle.stun_types.specs.ErrorCode.{error_value};
 ghost use Rattle.stun_types.specs.Attribute.{attribute_length};
 ghost use Rattle.stun_types.specs.Grammar.{spelled_attribute};
+ghost use Rattle.stun_types.specs.Limits.{TEXT_LIMIT, max_length};
 ghost use Rattle.stun_types.specs.Message.{with_length};
 ghost use Rattle.stun_types.specs.Visible.{visible};
 ghost use Rattle.stun_types.specs.Writing.{is_set_apart, integrity_kind, with_attribute, with_integrity};
@@ -22,20 +23,13 @@ use crate::text::text;
 use byteorder::{BigEndian, ByteOrder};
 use stun_base::algorithm::IntegrityAlgorithm;
 use stun_base::attribute_type::AttributeType;
+use stun_base::header::HEADER_LENGTH;
 use stun_base::hmac::{SHA1_LENGTH, SHA256_LENGTH, hmac_sha1, hmac_sha256};
 use stun_base::message_type::{MessageClass, MessageType, Method};
 use stun_types::attribute::attribute_length;
+use stun_types::limits::{MAX_LENGTH, TEXT_LIMIT};
 use stun_types::message::{Message, MessageWriteMutSlice};
 use stun_types::prelude::*;
-
-/// The bytes of a header.
-const HEADER_LENGTH: usize = 20;
-
-/// The most bytes after the header: the greatest multiple of four that the length field holds.
-const MAX_DATA_LENGTH: usize = 65532;
-
-/// The bytes of the longest reason of an error (RFC 8489, section 14.8).
-const LONGEST_REASON: usize = 763;
 
 /// Whether attributes of this type end a message: the two of integrity, and FINGERPRINT.
 fn is_set_apart(kind: AttributeType) -> bool
@@ -88,13 +82,14 @@ fn fits(message: &Message<'_>, room: usize, value_length: usize) -> Result<(), R
     ensures ok { OnOk result (fit_refusal message.now room value_length ≡ None) }
     ensures header { OnOk result (20 ≤ length message.now) }
     ensures room { OnOk result (attribute_length value_length ≤ room) }
-    ensures short { OnOk result (length message.now - 20 + attribute_length value_length ≤ 65532) }
+    ensures short { OnOk result (length message.now - 20 + attribute_length value_length
+        ≤ max_length) }
     ensures err { IfErr result (λ refusal. fit_refusal message.now room value_length
         ≡ Some refusal) }
 {
     let padded_length = attribute_length(value_length);
     let data_length = message.as_bytes().len() - HEADER_LENGTH;
-    if data_length.saturating_add(padded_length) > MAX_DATA_LENGTH {
+    if data_length.saturating_add(padded_length) > MAX_LENGTH {
         return Err(Refusal::MessageTooLong);
     }
     if room < padded_length {
@@ -136,7 +131,7 @@ fn set_length(message: &mut [u8], data_length: u16)
 /// Writes the header of an attribute.
 fn write_header(header: &mut [u8], kind: AttributeType, value_length: usize)
     requires whole { length header.old ≡ 4 }
-    requires short { value_length ≤ 65532 }
+    requires short { value_length ≤ max_length }
     ensures { header.new ≡ big_bytes 2 kind.0 ++ big_bytes 2 value_length }
 {
     header[..2].copy_from_slice(&kind.value().to_be_bytes());
@@ -152,7 +147,7 @@ fn write_zeros(padding: &mut [u8])
 
 /// Writes an attribute with its header and its padding to the front of a buffer that has room for it.
 fn spell(buffer: &mut [u8], kind: AttributeType, value: &[u8])
-    requires short { length value.now ≤ 65532 }
+    requires short { length value.now ≤ max_length }
     requires room { attribute_length (length value.now) ≤ length buffer.old }
     ensures { buffer.new ≡ spelled_attribute (record { kind = kind.0; value = value.now })
         ++ drop (attribute_length (length value.now)) buffer.old }
@@ -343,7 +338,7 @@ fn write_error(value: &mut [u8], code: u16, reason: &[u8])
 
 /// The code of an error that can be written with this reason, or the first reason against it.
 fn error_arguments(code: u32, reason: &[u8]) -> Result<u16, Refusal>
-    ensures ok { IfOk result (λ code'. (code' ≡ code) × (code < 700) × (length reason.now ≤ 763)) }
+    ensures ok { IfOk result (λ code'. (code' ≡ code) × (code < 700) × (length reason.now ≤ TEXT_LIMIT)) }
     ensures accepted { OnOk result (error_argument_refusal code reason.now ≡ None) }
     ensures err { IfErr result (λ refusal. error_argument_refusal code reason.now ≡ Some refusal) }
 {
@@ -351,7 +346,7 @@ fn error_arguments(code: u32, reason: &[u8]) -> Result<u16, Refusal>
         return Err(Refusal::BadArgument);
     }
     let text = text(reason)?;
-    if text.len() > LONGEST_REASON {
+    if text.len() > TEXT_LIMIT {
         return Err(Refusal::TextTooLong);
     }
     Ok(code as u16)
@@ -366,7 +361,7 @@ pub fn add_error(buffer: &mut [u8], count: usize, code: u32, reason: &[u8]) -> i
 {
     match error_arguments(code, reason) {
         Ok(code) => {
-            let mut longest = [0; 4 + LONGEST_REASON];
+            let mut longest = [0; 4 + TEXT_LIMIT];
             let value = &mut longest[..4 + reason.len()];
             write_error(value, code, reason);
             add(buffer, count, AttributeType::ERROR_CODE, value)

@@ -10,6 +10,7 @@ use Rattle.stun_base.specs.Credentials.{NameAndPassword}
 use Rattle.stun_base.specs.Header.{header_refusal, transaction_id_field}
 use Rattle.stun_base.specs.declared.algorithm.IntegrityAlgorithm.{IntegrityAlgorithm}
 use Rattle.stun_base.specs.declared.message_type.MessageClass.TheVariants.{Request}
+use Rattle.stun_types.specs.Limits.{TEXT_LIMIT, USERNAME_LIMIT}
 use Rattle.stun_agent.specs.Agent.{class_of_bytes}
 use Rattle.stun_agent.specs.Transactions.{at}
 use Rattle.stun_auth.specs.declared.client_answer.LongTermClientAuthErrorReason.TheVariants.{UnsupportedFeature}
@@ -63,8 +64,8 @@ pub record ValidatesEachCall (read : Reads) (run : ServerSeen → List ServerCal
 pub record IsReadyClient (state : ClientState) (m : Meeting) (who : NameAndPassword) (server : ServerSeen) : Type 0 where
   pub new : state ≡ initial
   pub ready : IsReady m who server
-  pub realm_fits : length server.registered.realm ≤ 763
-  pub name_fits : length who.username ≤ 513
+  pub realm_fits : length server.registered.realm ≤ TEXT_LIMIT
+  pub name_fits : length who.username ≤ USERNAME_LIMIT
 
 -- a meeting ends with this outcome, or an allocation failed
 abbrev pub EndsWith : Result Outcome NegotiateError → Outcome → Type 0

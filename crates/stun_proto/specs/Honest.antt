@@ -8,6 +8,7 @@ use Rattle.stun_base.specs.Credentials.{NameAndPassword}
 use Rattle.stun_base.specs.Keys.{userhash}
 use Rattle.stun_base.specs.Moments.{moment_after}
 use Rattle.stun_base.specs.declared.algorithm.IntegrityAlgorithm.{IntegrityAlgorithm}
+use Rattle.stun_types.specs.Limits.{TEXT_LIMIT, USERNAME_LIMIT}
 use Rattle.stun_auth.specs.declared.client_answer.LongTermClientAuthErrorReason.TheVariants.{UnsupportedFeature}
 use Rattle.stun_auth.specs.Algorithms.{listed}
 use Rattle.stun_auth.specs.Client.{Challenge, authenticated, initial}
@@ -75,8 +76,8 @@ StrongestIsAgreed = (m : Meeting) (who : NameAndPassword) (server : ServerSeen)
 
 -- realm and user name fit their attributes (sections 14.3 and 14.9), and a nonce is made of sixteen random words
 pub record AreShort (its_realm its_name its_words : List ℕ) : Type 0 where
-  pub realm : length its_realm ≤ 763
-  pub username : length its_name ≤ 513
+  pub realm : length its_realm ≤ TEXT_LIMIT
+  pub username : length its_name ≤ USERNAME_LIMIT
   pub words : length its_words ≤ 16
 
 -- then no signing is refused

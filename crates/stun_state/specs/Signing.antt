@@ -6,7 +6,8 @@ use Rattle.stun_base.specs.Header.{HEADER_LENGTH}
 use Rattle.stun_base.specs.declared.error.StunWriteError.{StunWriteError}
 use Rattle.stun_types.specs.Message.{refusal}
 use Rattle.stun_types.specs.Visible.{visible}
-use Rattle.stun_types.specs.Writing.{is_set_apart, max_length}
+use Rattle.stun_types.specs.Limits.{max_length}
+use Rattle.stun_types.specs.Writing.{is_set_apart}
 use Rattle.stun_auth.specs.Additions.{Page, added_all, growth}
 use Rattle.stun_auth.specs.Client.{ClientState}
 use Rattle.stun_auth.specs.ClientSigning.{client_additions, is_request}

@@ -6,7 +6,6 @@ use Rattle.stun_base.specs.declared.error.StunWriteError.{StunWriteError}
 use Rattle.stun_base.specs.declared.error.StunWriteError.TheVariants.{NotAllowed, TooLarge}
 use Rattle.stun_types.specs.Attribute.{TypedValue}
 use Rattle.stun_types.specs.Limits.{TEXT_LIMIT}
-pub use Rattle.stun_types.specs.Limits.{TEXT_LIMIT as max_reason}
 use Rattle.stun_types.specs.Text.{short_text}
 
 -- an error: its code and the bytes of its reason phrase

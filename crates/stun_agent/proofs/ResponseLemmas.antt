@@ -10,9 +10,8 @@ use Rattle.stun_base.specs.declared.message_type.MessageClass.{MessageClass}
 use Rattle.stun_base.specs.declared.message_type.MessageClass.TheVariants.{Request, Indication, Success, Error}
 use Rattle.stun_base.specs.declared.transport.TransportType.TheVariants.{Udp, Tcp}
 use Rattle.stun_agent.specs.Agent.{Agent, takes, answered, after_class, after_response, tallied, with_validated, with_transactions}
-use Rattle.stun_agent.specs.Laws.{planned_end}
 use Rattle.stun_agent.specs.Statistics.{response_received}
-use Rattle.stun_agent.specs.Timing.{Settings, sum_of_timeouts, repetitions}
+use Rattle.stun_agent.specs.Timing.{Settings, planned_end, sum_of_timeouts, repetitions}
 use Rattle.stun_agent.specs.Transactions.{Transaction, without, round_trip}
 use Rattle.stun_agent.proofs.TimingLemmas.{sum_of_timeouts-zero}
 

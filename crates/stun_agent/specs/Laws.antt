@@ -10,7 +10,7 @@ use Rattle.stun_agent.specs.declared.agent.StunAgentPollRet.TheVariants.{WaitUnt
 use Rattle.stun_agent.specs.Agent.{Agent, class_of_bytes, takes_message, after_message, poll_answer, after_poll, ended_by_poll, sent_by_poll, request_refusal, after_send_request}
 use Rattle.stun_agent.specs.Statistics.{LeavesOutstanding, IsNotFull}
 use Rattle.stun_agent.specs.Steps.{Step, after_step, after_steps, is_outstanding, begins, ends, once, count, repetitions_until_end, most_allowed}
-use Rattle.stun_agent.specs.Timing.{Settings, timeout, sum_of_timeouts, slots, final_wait}
+use Rattle.stun_agent.specs.Timing.{Settings, timeout, planned_end}
 use Rattle.stun_agent.specs.Transactions.{Transaction, at, an_hour}
 
 -- a request is sent again no earlier than its timeout after the moment before
@@ -49,11 +49,7 @@ IgnoresElsewhere =
     → IsResponse (class_of_bytes bytes) → at (transaction_id_field bytes) agent.transactions ≡ Some t → from ≢ t.to
     → (takes_message bytes from agent ≡ false) × (after_message moment bytes from agent ≡ agent)
 
--- the end of a request that is sent at a moment and never answered, and whose agent is asked at each moment that it awaits
-abbrev pub planned_end : TransportType → Settings → ℕ → ℕ
-planned_end transport settings start =
-    moment_after start (sum_of_timeouts settings (slots transport settings) + final_wait transport settings)
-
+-- a request ends over UDP and over TCP at the same moment
 abbrev pub EndsAlike : Type 0
 EndsAlike = (settings : Settings) (start : ℕ) → planned_end Udp settings start ≡ planned_end Tcp settings start
 

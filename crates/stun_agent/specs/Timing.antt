@@ -1,6 +1,7 @@
 -- When a request is sent again, and when it ends (RFC 8489, sections 6.2.1 and 6.2.2). Spans are in nanoseconds.
 use Rattle.std.specs.Prelude.{ℕ, zero, suc, ◌+◌, ◌-◌, ◌*◌, ◌^◌, min, max}
 use Rattle.std.specs.Duration.{as_nanos, max_nanos}
+use Rattle.stun_base.specs.Moments.{moment_after}
 use Rattle.stun_base.specs.declared.transport.TransportType.{TransportType}
 use Rattle.stun_base.specs.declared.transport.TransportType.TheVariants.{Udp, Tcp}
 use Rattle.stun_agent.specs.declared.rto.RequestRto.{RequestRto}
@@ -43,3 +44,9 @@ slots Tcp settings = 0
 abbrev pub final_wait : TransportType → Settings → ℕ
 final_wait Udp settings = settings.last_wait
 final_wait Tcp settings = min (settings.last_wait + sum_of_timeouts settings (repetitions settings)) max_nanos
+
+-- the end of a request that is sent at a moment and never answered, and whose agent is asked at each moment that it awaits: all
+-- timeouts have passed, and the final wait
+abbrev pub planned_end : TransportType → Settings → ℕ → ℕ
+planned_end transport settings start =
+    moment_after start (sum_of_timeouts settings (slots transport settings) + final_wait transport settings)

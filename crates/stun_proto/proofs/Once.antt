@@ -22,7 +22,7 @@ use Rattle.stun_base.specs.declared.message_type.MessageClass.TheVariants.{Reque
 use Rattle.stun_base.specs.declared.transport.TransportType.{TransportType}
 use Rattle.stun_types.specs.Message.{refusal}
 use Rattle.stun_agent.specs.Agent.{Agent, with_transactions, class_of_bytes, is_request, is_elsewhere, answered, sending_refusal, after_send, request_refusal, request_of, after_send_request, takes_message, after_class, tallied, tally_of_sent, tally_of_end, sent_by_poll, after_poll_transmit, ended_by_poll, after_poll}
-use Rattle.stun_agent.specs.Timing.{Settings}
+use Rattle.stun_agent.specs.Timing.{Settings, planned_end}
 use Rattle.stun_agent.specs.Transactions.{IsAscending, Transaction, at, without, cancelled, silenced, configured, repeats, slot_passed}
 use Rattle.stun_agent.specs.declared.error.StunError.{StunError}
 use Rattle.stun_agent.specs.declared.error.StunError.TheVariants.{AlreadyInProgress, ProtocolViolation, ParseError}
@@ -33,7 +33,7 @@ use Rattle.stun_proto.specs.declared.replay.event.AgentEvent.TheVariants.{Send, 
 use Rattle.stun_proto.specs.Headline.{IsAskedOnce, SendsByPlan}
 use Rattle.stun_proto.specs.Run.{Phase, Turn, sends, rests, ends, again, stops, sending, Turns, turn, none, Run, IsDriven, done, event, transmitted, ended, after_change, after_event, steps_of_event}
 use Rattle.stun_proto.specs.RunLaws.{requester}
-use Rattle.stun_proto.specs.Schedule.{Asks, AreInOrder, IsUndisturbed, plan, end, cut}
+use Rattle.stun_proto.specs.Schedule.{Asks, AreInOrder, IsUndisturbed, plan, cut}
 use Rattle.stun_proto.specs.Steps.{Step, Transmitted, Sent, Received, Refused, TimedOut, Cancelled, is_of, own}
 use Rattle.stun_auth.proofs.Addresses.{address_total}
 use Rattle.stun_proto.proofs.AfterCalls.{transmit_transport, transmit_transactions, poll_transport, poll_transactions}
@@ -388,8 +388,8 @@ sent_by_plan until a b steps start bytes to earlier later within ascends order r
     ap (λ (o : Option StunError). option_map_or (λ error. Refused start error) o (Transmitted start id to bytes.items) ∷ []) accepted in
     let added : after_event start e found.agent ≡ after_send_request found.agent bytes.items to start =
     ap (λ (o : Option StunError). option_map_or (λ _. found.agent) o (after_send_request found.agent bytes.items to start)) accepted in
-    let quiet : IsUndisturbed id to (end start found.agent.settings found.agent.transport) later =
-    subst (λ (p : Settings × TransportType). IsUndisturbed id to (end start p.0 p.1) later) (λ i. (sym stays.settings i, sym stays.transport i)) once.undisturbed in
+    let quiet : IsUndisturbed id to (planned_end found.agent.transport found.agent.settings start) later =
+    subst (λ (p : Settings × TransportType). IsUndisturbed id to (planned_end p.1 p.0 start) later) (λ i. (sym stays.settings i, sym stays.transport i)) once.undisturbed in
     let kept =
     keeps_plan until start bytes.items to found.agent found.next b later found.at_once found.rest after.0 within there accepted
     (subst (λ x. Turn start sending x found.at_once found.next) added found.turned) found.goes_on after.1 quiet in

@@ -23,7 +23,7 @@ use Rattle.stun_types.specs.Message.{refusal}
 use Rattle.stun_agent.specs.Agent.{Agent, with_transactions, class_of_bytes, is_request, is_elsewhere, answered, sending_refusal, after_send, request_refusal, request_of, after_send_request, takes_message, tallied, with_validated, after_class, after_response, sent_by_poll, after_poll_transmit, ended_by_poll, after_poll}
 use Rattle.stun_agent.specs.Integrity.{integrity_of}
 use Rattle.stun_agent.specs.Statistics.{response_received}
-use Rattle.stun_agent.specs.Timing.{Settings, timeout, slots, final_wait, sum_of_timeouts}
+use Rattle.stun_agent.specs.Timing.{Settings, timeout, slots, final_wait, planned_end, sum_of_timeouts}
 use Rattle.stun_agent.specs.Transactions.{IsAscending, Transaction, at, without, cancelled, silenced, configured, next_sent, first_over, wake_up, an_hour, is_due, awaited, after_slot, after_slots, slot_passed, repeats, round_trip}
 use Rattle.stun_agent.specs.declared.error.StunError.{StunError}
 use Rattle.stun_agent.specs.declared.error.StunError.TheVariants.{AlreadyInProgress, ProtocolViolation, ParseError}
@@ -32,7 +32,7 @@ use Rattle.stun_agent.proofs.AnswerLemmas.{elsewhere_unanswered}
 use Rattle.stun_proto.specs.declared.replay.event.AgentEvent.{AgentEvent}
 use Rattle.stun_proto.specs.declared.replay.event.AgentEvent.TheVariants.{Send, SendRequest, Receive, Cancel, CancelRetransmissions, Configure, ValidatePeer}
 use Rattle.stun_proto.specs.Run.{Run, done, event, Turns, turn, none, IsAwaited, Turn, sends, rests, ends, again, stops, Phase, sending, ending, transmitted, ended, after_change, after_event, steps_of_event}
-use Rattle.stun_proto.specs.Schedule.{IsUndisturbed, AreInOrder, IsAimedAt, plan, transmission, end, cut}
+use Rattle.stun_proto.specs.Schedule.{IsUndisturbed, AreInOrder, IsAimedAt, plan, transmission, cut}
 use Rattle.stun_proto.specs.Steps.{Step, Transmitted, Sent, Received, Refused, TimedOut, Cancelled, own}
 use Rattle.stun_proto.proofs.AfterCalls.{transmit_transport, transmit_transactions, poll_transport, poll_transactions}
 use Rattle.stun_agent.proofs.Ascending.{IsAscending-map, IsAscending-remove, IsAscending-set_value, IsAscending-insert, lookup-remove_other, lookup-set_other, lookup-insert_other, lookup-insert_same, fold-min-le}
@@ -69,14 +69,14 @@ module _ (until start id : ℕ) (transport : TransportType) (settings : Settings
 
   -- transmissions from the k-th on, `count` of them, and the end
   unfoldable pub plan_from : ℕ → ℕ → List Step
-  plan_from k zero = TimedOut (end start settings transport) id ∷ []
+  plan_from k zero = TimedOut (planned_end transport settings start) id ∷ []
   plan_from k (suc count) = Transmitted (transmission start settings k) id to bytes ∷ plan_from (suc k) count
 
-  pub spelled_out : (count k : ℕ) → map (λ n. Transmitted (transmission start settings n) id to bytes) (range_with_len k count) ++ TimedOut (end start settings transport) id ∷ [] ≡ plan_from k count
+  pub spelled_out : (count k : ℕ) → map (λ n. Transmitted (transmission start settings n) id to bytes) (range_with_len k count) ++ TimedOut (planned_end transport settings start) id ∷ [] ≡ plan_from k count
   unfolding plan_from
   spelled_out zero k = refl
   spelled_out (suc c) k =
-      ap (λ m. Transmitted (transmission start settings k) id to bytes ∷ (map (λ n. Transmitted (transmission start settings n) id to bytes) (range_with_len m c) ++ TimedOut (end start settings transport) id ∷ [])) (add-one k)
+      ap (λ m. Transmitted (transmission start settings k) id to bytes ∷ (map (λ n. Transmitted (transmission start settings n) id to bytes) (range_with_len m c) ++ TimedOut (planned_end transport settings start) id ∷ [])) (add-one k)
       ∙ ap (λ ss. Transmitted (transmission start settings k) id to bytes ∷ ss) (spelled_out c (suc k))
 
   -- what is left of the plan after transmission k, with `count` slots to come
@@ -89,7 +89,7 @@ module _ (until start id : ℕ) (transport : TransportType) (settings : Settings
   awaited_slot k within =
       ap (λ b. moment_after (transmission start settings k) (cond b (timeout settings k) (final_wait transport settings))) (lt-ltb k (slots transport settings) within) ∙ omega arith
 
-  pub awaited_end : (k : ℕ) → k ≡ slots transport settings → awaited transport (stage k) ≡ end start settings transport
+  pub awaited_end : (k : ℕ) → k ≡ slots transport settings → awaited transport (stage k) ≡ planned_end transport settings start
   awaited_end k last =
       ap (λ b. moment_after (transmission start settings k) (cond b (timeout settings k) (final_wait transport settings))) (le-ltb k (slots transport settings) (omega arith))
       ∙ ap (λ n. moment_after (transmission start settings n) (final_wait transport settings)) last ∙ omega arith
@@ -100,7 +100,7 @@ module _ (until start id : ℕ) (transport : TransportType) (settings : Settings
       later : (m w : ℕ) → min m last_moment ≤ min (min m last_moment + w) last_moment
       later m w = omega arith
 
-  pub awaited-le_end : (count k : ℕ) → k + count ≡ slots transport settings → awaited transport (stage k) ≤ end start settings transport
+  pub awaited-le_end : (count k : ℕ) → k + count ≡ slots transport settings → awaited transport (stage k) ≤ planned_end transport settings start
   awaited-le_end zero k all = let last = awaited_end k (omega arith) in omega arith
   awaited-le_end (suc c) k all =
       let here = awaited_slot k (omega arith) in let next = le-awaited (suc k) in let rest = awaited-le_end c (suc k) (omega arith) in omega arith
@@ -109,7 +109,7 @@ module _ (until start id : ℕ) (transport : TransportType) (settings : Settings
   pub cut-none : (count k : ℕ) → k + count ≡ slots transport settings → until < awaited transport (stage k) → cut until (left k count) ≡ []
   unfolding plan_from
   cut-none zero k all late =
-      let last = awaited_end k (omega arith) in ap (λ b. cond b (TimedOut (end start settings transport) id ∷ []) []) (lt-leb (end start settings transport) until (omega arith))
+      let last = awaited_end k (omega arith) in ap (λ b. cond b (TimedOut (planned_end transport settings start) id ∷ []) []) (lt-leb (planned_end transport settings start) until (omega arith))
   cut-none (suc c) k all late =
       let here = awaited_slot k (omega arith) in let next = le-awaited (suc k) in
       ap (λ b. cond b (Transmitted (transmission start settings (suc k)) id to bytes ∷ cut until (left (suc k) c)) (cut until (left (suc k) c))) (lt-leb (transmission start settings (suc k)) until (omega arith))
@@ -240,11 +240,11 @@ module _ (until start id : ℕ) (transport : TransportType) (settings : Settings
           → own id (ended now e ∷ more) ≡ cut until (left k count)
       at_end zero all key past is late =
           let last = awaited_end k (omega arith) in
-          let same : now ≡ end start settings transport = omega arith in
+          let same : now ≡ planned_end transport settings start = omega arith in
           ap (λ b. own id (cond b (TimedOut now e.0) (Cancelled now e.0) ∷ more)) (ap (λ (t : Transaction). repeats t.sending) is)
           ∙ own_timed_out now e.0 more key
           ∙ (λ i. TimedOut (same i) (key i) ∷ [])
-          ∙ sym (ap (λ b. cond b (TimedOut (end start settings transport) id ∷ []) []) (le-leb (end start settings transport) until (omega arith)))
+          ∙ sym (ap (λ b. cond b (TimedOut (planned_end transport settings start) id ∷ []) []) (le-leb (planned_end transport settings start) until (omega arith)))
       at_end (suc c) all key past is late = absurd (omega arith)
 
       mine : e.0 ≡ id → own id (ended now e ∷ more) ≡ cut until (left k count)
@@ -452,7 +452,7 @@ module _ (until start id : ℕ) (transport : TransportType) (settings : Settings
   own-nil = refl
 
   pub run_law : {from : ℕ} {a b : Agent} {events : List (ℕ × AgentEvent)} {steps : List Step} → Run (until + 1) from a events steps b → (k count earlier : ℕ) → Live k count a
-      → from ≤ awaited transport (stage k) → AreInOrder until earlier events → IsUndisturbed id to (end start settings transport) events → own id steps ≡ cut until (left k count)
+      → from ≤ awaited transport (stage k) → AreInOrder until earlier events → IsUndisturbed id to (planned_end transport settings start) events → own id steps ≡ cut until (left k count)
   run_law {steps = steps} (done t) k count earlier live early order quiet =
       ap (own id) (sym (append-nil steps))
       ∙ turns_law t k count [] live early (omega arith) (λ k count live late. own-nil ∙ sym (cut-none count k live.all (omega arith)))
@@ -475,7 +475,7 @@ pub keeps_plan : (until start : ℕ) (bytes : List ℕ) (to : SocketAddr) (a b c
     → Turn start sending (after_send_request a bytes to start) at_start b
     → Run (until + 1) (start + 1) b events run c
     → AreInOrder until start events
-    → IsUndisturbed (transaction_id_field bytes) to (end start a.settings a.transport) events
+    → IsUndisturbed (transaction_id_field bytes) to (planned_end a.transport a.settings start) events
     → own (transaction_id_field bytes) (Transmitted start (transaction_id_field bytes) to bytes ∷ (at_start ++ run)) ≡ cut until (plan a.transport start a.settings (transaction_id_field bytes) to bytes)
 unfolding own plan_from
 keeps_plan until start bytes to a b c events at_start run bound within ascends accepted t r order quiet =

@@ -12,6 +12,7 @@ use Rattle.stun_base.specs.declared.algorithm.IntegrityAlgorithm.{IntegrityAlgor
 use Rattle.stun_base.specs.declared.message_type.MessageClass.TheVariants.{Request}
 use Rattle.stun_types.specs.Limits.{TEXT_LIMIT, USERNAME_LIMIT}
 use Rattle.stun_agent.specs.Agent.{class_of_bytes}
+use Rattle.stun_agent.specs.Timing.{planned_end}
 use Rattle.stun_agent.specs.Transactions.{at}
 use Rattle.stun_auth.specs.declared.client_answer.LongTermClientAuthErrorReason.TheVariants.{UnsupportedFeature}
 use Rattle.stun_auth.specs.Algorithms.{listed}
@@ -32,7 +33,7 @@ use Rattle.stun_proto.specs.Honest.{IsReady}
 use Rattle.stun_proto.specs.Isolation.{IsolatedBy}
 use Rattle.stun_proto.specs.Negotiation.{Meeting}
 use Rattle.stun_proto.specs.Replies.{Reads, ValidatesByReplies}
-use Rattle.stun_proto.specs.Schedule.{Requester, Asks, IsUndisturbed, plan, end, cut}
+use Rattle.stun_proto.specs.Schedule.{Requester, Asks, IsUndisturbed, plan, cut}
 use Rattle.stun_proto.specs.Serving.{Reply}
 use Rattle.stun_proto.specs.Steps.{Step, is_of}
 
@@ -95,7 +96,7 @@ pub record IsAskedOnce (a : Requester) (id start : ℕ) (bytes : List ℕ) (to :
   pub new : at id a.outstanding ≡ None
   pub not_before : AllByRecursion (λ e. Asks id e.1 → ⊥) earlier
   pub not_again : AllByRecursion (λ e. Asks id e.1 → ⊥) later
-  pub undisturbed : IsUndisturbed id to (end start a.settings a.transport) later
+  pub undisturbed : IsUndisturbed id to (planned_end a.transport a.settings start) later
 
 -- All steps of this id in the run are those of its plan, up to and including `until`: it is sent at its start plus the sum of its first
 -- k timeouts, for each k, and at no other moment, and times out once, where `until` reaches its end. `drive`, clause `headline`
@@ -112,6 +113,6 @@ SendsByPlan until a events steps =
 -- what they leave, by the replies to them          sight_by_replies                      Replies.antt
 -- strongest that both support                      IsStrongestShared                     Best.antt
 -- ready                                            IsReady                               Honest.antt
--- plan, prefix sums, end                           plan, transmission, end               Schedule.antt
--- timeouts, slots                                  timeout, sum_of_timeouts, slots       stun_agent/specs/Timing.antt
+-- plan, prefix sums                                plan, transmission                    Schedule.antt
+-- timeouts, slots, end                             sum_of_timeouts, slots, planned_end   stun_agent/specs/Timing.antt
 -- undisturbed, asks                                IsUndisturbed, IsAimedAt, Asks        Schedule.antt

@@ -5,11 +5,12 @@ use Rattle.std.specs.declared.net.socket_addr.SocketAddr.{SocketAddr}
 use Rattle.stun_base.specs.Header.{transaction_id_field}
 use Rattle.stun_base.specs.Moments.{last_moment}
 use Rattle.stun_agent.specs.Agent.{Agent, request_refusal}
+use Rattle.stun_agent.specs.Timing.{planned_end}
 use Rattle.stun_agent.specs.Transactions.{IsAscending}
 use Rattle.stun_proto.specs.declared.replay.event.AgentEvent.{AgentEvent}
 use Rattle.stun_proto.specs.declared.replay.event.AgentEvent.TheVariants.{SendRequest}
 use Rattle.stun_proto.specs.Run.{Run, IsDriven}
-use Rattle.stun_proto.specs.Schedule.{Requester, AreInOrder, IsUndisturbed, plan, end, cut}
+use Rattle.stun_proto.specs.Schedule.{Requester, AreInOrder, IsUndisturbed, plan, cut}
 use Rattle.stun_proto.specs.Steps.{Step, own}
 
 -- what an agent's requests depend on
@@ -22,7 +23,7 @@ pub record GoesByPlan (until : ℕ) (agent : Agent) (later : List (ℕ × AgentE
   pub after : List Step
   pub divided : steps ≡ before ++ after
   pub keeps : request_refusal agent bytes to ≡ None
-      → IsUndisturbed (transaction_id_field bytes) to (end start agent.settings agent.transport) later
+      → IsUndisturbed (transaction_id_field bytes) to (planned_end agent.transport agent.settings start) later
       → own (transaction_id_field bytes) after ≡ cut until (plan agent.transport start agent.settings (transaction_id_field bytes) to bytes)
 
 -- a request of a run: the earlier events have a run up to its moment, and whatever agent and steps that run comes to, from there the

@@ -8,7 +8,7 @@ use Rattle.stun_base.specs.Moments.{moment_after}
 use Rattle.stun_base.specs.declared.transport.TransportType.{TransportType}
 use Rattle.stun_types.specs.Message.{refusal}
 use Rattle.stun_agent.specs.Agent.{class_of_bytes}
-use Rattle.stun_agent.specs.Timing.{Settings, sum_of_timeouts, slots, final_wait}
+use Rattle.stun_agent.specs.Timing.{Settings, planned_end, sum_of_timeouts, slots}
 use Rattle.stun_agent.specs.Transactions.{Transactions}
 use Rattle.stun_proto.specs.declared.replay.event.AgentEvent.{AgentEvent}
 use Rattle.stun_proto.specs.declared.replay.event.AgentEvent.TheVariants.{Send, SendRequest, Receive, Cancel, CancelRetransmissions, Configure, ValidatePeer}
@@ -28,15 +28,11 @@ pub record Requester : Type 0 where
 abbrev pub transmission : ℕ → Settings → ℕ → ℕ
 transmission start settings k = moment_after start (sum_of_timeouts settings k)
 
--- the moment of the end: all timeouts, and the final wait
-abbrev pub end : ℕ → Settings → TransportType → ℕ
-end start settings transport = moment_after start (sum_of_timeouts settings (slots transport settings) + final_wait transport settings)
-
 -- a request that is first sent at `start`: a transmission at the start and at the end of each timeout, then the end
 abbrev pub plan : TransportType → ℕ → Settings → ℕ → SocketAddr → List ℕ → List Step
 plan transport start settings id to bytes =
     map (λ k. Transmitted (transmission start settings k) id to bytes) (range_with_len 0 (slots transport settings + 1))
-    ++ TimedOut (end start settings transport) id ∷ []
+    ++ TimedOut (planned_end transport settings start) id ∷ []
 
 -- the steps up to a moment
 abbrev pub cut : ℕ → List Step → List Step

@@ -3,7 +3,7 @@ use Rattle.std.specs.Prelude.{ℕ, Bool, ◌==◌, ◌||◌, List, reverse, find
 use Rattle.std.specs.Option.{option_map}
 use Rattle.stun_base.specs.Attributes.{MESSAGE_INTEGRITY, MESSAGE_INTEGRITY_SHA256}
 use Rattle.stun_base.specs.declared.algorithm.IntegrityAlgorithm.{IntegrityAlgorithm}
-use Rattle.stun_types.specs.Integrity.{algorithm_of}
+use Rattle.stun_types.specs.Integrity.{integrity_algorithm}
 use Rattle.stun_types.specs.Visible.{visible}
 use Rattle.stun_types.specs.Walk.{Member}
 
@@ -13,7 +13,7 @@ is_integrity kind = (kind == MESSAGE_INTEGRITY_SHA256) || (kind == MESSAGE_INTEG
 
 -- the algorithm of the last integrity attribute among these
 abbrev pub last_integrity : List Member → Option IntegrityAlgorithm
-last_integrity members = option_map (λ m. algorithm_of m.1) (find (λ m. is_integrity m.1.kind) (reverse members))
+last_integrity members = option_map (λ m. integrity_algorithm m.1) (find (λ m. is_integrity m.1.kind) (reverse members))
 
 -- the algorithm of the last visible integrity attribute
 abbrev pub integrity_of : List ℕ → Option IntegrityAlgorithm

@@ -16,7 +16,7 @@ use Rattle.stun_auth.specs.declared.server_reason.Refusal.TheVariants as Refused
 use Rattle.stun_auth.specs.declared.server_reason.LongTermServerAuthErrorReason.TheVariants.{BadRequest}
 use Rattle.stun_auth.specs.declared.server_reason.LongTermServerValidation.TheVariants.{Validated}
 use Rattle.stun_auth.specs.Algorithms.{contains}
-use Rattle.stun_auth.specs.Reading.{Reading, is_response, stands_under}
+use Rattle.stun_auth.specs.Reading.{Reading, is_response, verified_under}
 use Rattle.stun_auth.specs.Registered.{Registered, key_at, key_if, key_of, user_named}
 use Rattle.stun_auth.specs.Seen.{ClientSeen}
 use Rattle.stun_auth.specs.Server.{Sight, IsAccepted, agreed, nonce_refusal, standing, verdict}
@@ -48,11 +48,11 @@ pub record HasKey (users : Registered) (r : Reading) (name : List ℕ) (a : Inte
   pub password : List ℕ
   pub present : fin.get users.passwords name ≡ Some password
   pub supported : contains a users.algorithms ≡ true
-  pub digest : IsSome (stands_under r (long_term_key a name users.realm password))
+  pub digest : IsSome (verified_under r (long_term_key a name users.realm password))
 
 has_key : (users : Registered) (r : Reading) (name : List ℕ) (a : IntegrityAlgorithm) (o : Option (List ℕ)) (b : Bool)
     → fin.get users.passwords name ≡ o → contains a users.algorithms ≡ b
-    → IsSome (option_and_then (stands_under r) (option_and_then (λ (user : NameAndPassword). key_if b a user.username users.realm user.password)
+    → IsSome (option_and_then (verified_under r) (option_and_then (λ (user : NameAndPassword). key_if b a user.username users.realm user.password)
     (option_map (λ password. record { username = name; password = password }) o)))
     → HasKey users r name a
 has_key users r name a None b found there h = cc
@@ -64,12 +64,12 @@ module _ (users : Registered) (feature : Feature) (ours : List ℕ) (offered : O
       → agreed r theirs offered ≡ Some a → (name : List ℕ) → name_in users feature r ≡ Some name → by_digest users r name a ≡ Ok client
       → IsAccepted users feature ours offered r client
   digests realm theirs nonce same a choice name user h =
-      let stood = passed (is_some (option_and_then (stands_under r) (key_at users name a))) _ _ client h in
+      let stood = passed (is_some (option_and_then (verified_under r) (key_at users name a))) _ _ client h in
       let names : name ≡ client.name = cc in
       let algorithms : a ≡ client.algorithm = cc in
-      let digest : IsSome (option_and_then (stands_under r) (key_at users client.name client.algorithm)) =
-      sym (ap (λ n. is_some (option_and_then (stands_under r) (key_at users n client.algorithm))) names)
-      ∙ sym (ap (λ x. is_some (option_and_then (stands_under r) (key_at users name x))) algorithms) ∙ stood.0 in
+      let digest : IsSome (option_and_then (verified_under r) (key_at users client.name client.algorithm)) =
+      sym (ap (λ n. is_some (option_and_then (verified_under r) (key_at users n client.algorithm))) names)
+      ∙ sym (ap (λ x. is_some (option_and_then (verified_under r) (key_at users name x))) algorithms) ∙ stood.0 in
       let key = has_key users r client.name client.algorithm (fin.get users.passwords client.name) (contains client.algorithm users.algorithms) refl refl digest in
       record {
         password = key.password;
@@ -157,7 +157,7 @@ verdict_from_accepted users feature ours offered r client h =
     ∙ ap (by_choice users feature ours r ours) h.algorithm
     ∙ ap (λ b. cond b (by_name users r (name_in users feature r) client.algorithm) (Err (nonce_refusal ours ours))) ((bytes_eq-Decides ours ours).1 refl)
     ∙ ap (λ o. by_name users r o client.algorithm) name
-    ∙ ap (λ o. cond (is_some (option_and_then (stands_under r) o)) (Ok client) (Err Refused.Unauthorized)) key
+    ∙ ap (λ o. cond (is_some (option_and_then (verified_under r) o)) (Ok client) (Err Refused.Unauthorized)) key
     ∙ ap (λ b. cond b (Ok client) (Err Refused.Unauthorized)) h.digest
 
 -- ---- the answer

@@ -13,7 +13,7 @@ use Rattle.stun_base.specs.declared.algorithm.IntegrityAlgorithm.TheVariants.{Sh
 use Rattle.stun_base.specs.declared.error.StunWriteError.{StunWriteError}
 use Rattle.stun_base.specs.declared.error.StunWriteError.TheVariants.{NotAllowed, MessageIntegrityExists, AttributeExists, TooLarge, TooSmall}
 use Rattle.stun_types.specs.Attribute.{TypedValue, attribute_length}
-use Rattle.stun_types.specs.Integrity.{stands}
+use Rattle.stun_types.specs.Integrity.{verified_algorithm}
 use Rattle.stun_types.specs.Visible.{has_kind, visible}
 use Rattle.stun_types.specs.Walk.{Member, walk}
 use Rattle.stun_types.specs.Writing.{HasOneMore, IsAddable, IsOpen, attribute_refusal, covered_at_end, has_integrity as has_integrity_attribute, integrity_attribute, integrity_kind, is_set_apart, length_with, max_length, signing_refusal, size_refusal, with_attribute, with_integrity}
@@ -27,7 +27,7 @@ pub record WritingLaws : Type 0 where
   pub added : (message : List ℕ) (a : TypedValue) → IsOpen message → IsAddable message a → HasOneMore message (with_attribute message a) a
   pub opened : (message : List ℕ) (a : TypedValue) → IsOpen message → IsAddable message a → is_set_apart a.kind ≡ false → IsOpen (with_attribute message a)
   pub stands_signed : (message : List ℕ) (algorithm : IntegrityAlgorithm) (key : List ℕ) → IsOpen message
-      → length_with message (digest_length algorithm) ≤ max_length → stands (with_integrity message algorithm key) key ≡ Some algorithm
+      → length_with message (digest_length algorithm) ≤ max_length → verified_algorithm (with_integrity message algorithm key) key ≡ Some algorithm
   pub signed : (message : List ℕ) (algorithm : IntegrityAlgorithm) (key : List ℕ) → IsOpen message
       → length_with message (digest_length algorithm) ≤ max_length
       → HasOneMore message (with_integrity message algorithm key) (integrity_attribute message algorithm key)
@@ -187,7 +187,7 @@ digest_last laws message algorithm key is_open fits =
       is_open = λ none. absurd (cc);
       digest_stands = λ p is.
           let same : record { algorithm = algorithm; key = key } ≡ p = (let h : Some (record { algorithm = algorithm; key = key }) ≡ Some p = is in cc) in
-          subst (λ (q : Protection). stands (with_integrity message algorithm key) q.key ≡ Some q.algorithm) same stood;
+          subst (λ (q : Protection). verified_algorithm (with_integrity message algorithm key) q.key ≡ Some q.algorithm) same stood;
     }
 
 -- what successful additions leave

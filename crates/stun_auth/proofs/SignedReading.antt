@@ -10,8 +10,8 @@ use Rattle.stun_base.specs.declared.algorithm.IntegrityAlgorithm.TheVariants.{Sh
 use Rattle.stun_base.specs.declared.message_type.MessageClass.{MessageClass}
 use Rattle.stun_types.specs.Attribute.{TypedValue}
 use Rattle.stun_types.specs.ErrorCode.{CodeAndReason, error_of}
-use Rattle.stun_types.specs.Integrity.{stands}
-use Rattle.stun_types.specs.PasswordAlgorithms.{algorithm_of, algorithms_of, algorithms_of-written, integrity_of, password_algorithm_of, spelled_entries, spelled_entry}
+use Rattle.stun_types.specs.Integrity.{verified_algorithm}
+use Rattle.stun_types.specs.PasswordAlgorithms.{password_algorithm_in, password_algorithms_in, password_algorithms_in-written, integrity_of, password_algorithm_of, spelled_entries, spelled_entry}
 use Rattle.stun_types.specs.Text.{text_of, text_of-written}
 use Rattle.stun_types.specs.Userhash.{hash_of, hash_of-written}
 use Rattle.stun_types.specs.Visible.{has_kind, visible}
@@ -208,11 +208,11 @@ integrity_again [] = refl
 integrity_again (Sha1 ∷ list) = ap (λ others. Sha1 ∷ others) (integrity_again list)
 integrity_again (Sha256 ∷ list) = ap (λ others. Sha256 ∷ others) (integrity_again list)
 
-list_again : (o : Option (List IntegrityAlgorithm)) → option_map (map integrity_of) (option_and_then algorithms_of (option_map password_algorithms o)) ≡ o
+list_again : (o : Option (List IntegrityAlgorithm)) → option_map (map integrity_of) (option_and_then password_algorithms_in (option_map password_algorithms o)) ≡ o
 list_again None = refl
-list_again (Some list) = ap (option_map (map integrity_of)) (algorithms_of-written (map password_algorithm_of list) tt) ∙ ap (λ xs. Some xs) (integrity_again list)
+list_again (Some list) = ap (option_map (map integrity_of)) (password_algorithms_in-written (map password_algorithm_of list) tt) ∙ ap (λ xs. Some xs) (integrity_again list)
 
-algorithm_again : (o : Option IntegrityAlgorithm) → option_map integrity_of (option_and_then algorithm_of (option_map password_algorithm o)) ≡ o
+algorithm_again : (o : Option IntegrityAlgorithm) → option_map integrity_of (option_and_then password_algorithm_in (option_map password_algorithm o)) ≡ o
 algorithm_again None = refl
 algorithm_again (Some Sha1) = refl
 algorithm_again (Some Sha256) = refl
@@ -244,14 +244,14 @@ reads_as laws a message room page unsigned writable done =
           (none_before laws USERNAME message is_open none.1.1.0) (last-username a) ∙ text_again USERNAME 513 a.username writable.username;
       userhash_is = read_added hash_of USERHASH message list bytes (option_map (typed_as USERHASH) a.userhash) back refl
           (none_before laws USERHASH message is_open none.1.1.1.0) (last-userhash a) ∙ hash_again a.userhash writable.userhash;
-      algorithms_are = ap (option_map (map integrity_of)) (read_added algorithms_of PASSWORD_ALGORITHMS message list bytes (option_map password_algorithms a.algorithms) back refl
+      algorithms_are = ap (option_map (map integrity_of)) (read_added password_algorithms_in PASSWORD_ALGORITHMS message list bytes (option_map password_algorithms a.algorithms) back refl
           (none_before laws PASSWORD_ALGORITHMS message is_open none.1.1.1.1.0) (last-algorithms a)) ∙ list_again a.algorithms;
-      algorithm_is = ap (option_map integrity_of) (read_added algorithm_of PASSWORD_ALGORITHM message list bytes (option_map password_algorithm a.algorithm) back refl
+      algorithm_is = ap (option_map integrity_of) (read_added password_algorithm_in PASSWORD_ALGORITHM message list bytes (option_map password_algorithm a.algorithm) back refl
           (none_before laws PASSWORD_ALGORITHM message is_open none.1.1.1.1.1.0) (last-algorithm a)) ∙ algorithm_again a.algorithm;
-      integrity_is = is_some-cond (has_integrity bytes) (stands bytes) ∙ (added.integrity_is ∙ ap is_some protection);
+      integrity_is = is_some-cond (has_integrity bytes) (verified_algorithm bytes) ∙ (added.integrity_is ∙ ap is_some protection);
       digest_stands = λ p is.
           let has : has_integrity bytes ≡ true = added.integrity_is ∙ ap is_some (protection ∙ is) in
-          ap (λ holds. option_and_then (λ (verify : List ℕ → Option IntegrityAlgorithm). verify p.key) (if holds then Some (stands bytes) else None)) has
+          ap (λ holds. option_and_then (λ (verify : List ℕ → Option IntegrityAlgorithm). verify p.key) (if holds then Some (verified_algorithm bytes) else None)) has
           ∙ added.digest_stands p (protection ∙ is);
     }
 

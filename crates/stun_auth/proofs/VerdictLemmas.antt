@@ -19,10 +19,10 @@ use Rattle.stun_auth.specs.declared.server_reason.Refusal.{Refusal}
 use Rattle.stun_auth.specs.declared.server_reason.Refusal.TheVariants.{Unauthorized, BadRequest}
 use Rattle.stun_auth.specs.Algorithms.{same_list}
 use Rattle.stun_auth.specs.Feature.{is_possible}
-use Rattle.stun_auth.specs.Reading.{Reading, stands_under}
+use Rattle.stun_auth.specs.Reading.{Reading, verified_under}
 use Rattle.stun_auth.specs.Registered.{Registered, key_of, name_with_hash, user_named, user_with_hash}
 use Rattle.stun_auth.specs.Seen.{ClientSeen}
-use Rattle.stun_auth.specs.Server.{agreed, client_of, named, named_by, nonce_refusal, or_refused, proven, stands_for, their_nonce, verdict}
+use Rattle.stun_auth.specs.Server.{agreed, client_of, named, named_by, nonce_refusal, or_refused, proven, verified_for, their_nonce, verdict}
 use Rattle.stun_auth.specs.code.Judging.{name_by, name_in}
 use Rattle.stun_auth.proofs.VerdictSteps.{by_attributes, by_choice, by_name, by_steps}
 
@@ -131,19 +131,19 @@ name_or user = option_map_or (λ (u : NameAndPassword). u.username) user []
 -- the last two steps, of a name and an algorithm
 last_steps : (users : Registered) (r : Reading) (a : IntegrityAlgorithm) (name : Option (List ℕ))
     → by_name users r name a
-    ≡ unless (is_none (option_and_then (stands_for users r a) (option_and_then (user_named users) name)))
+    ≡ unless (is_none (option_and_then (verified_for users r a) (option_and_then (user_named users) name)))
     (record { name = name_or (option_and_then (user_named users) name); algorithm = a })
 last_steps users r a None = refl
 last_steps users r a (Some name) = of_password (fin.get users.passwords name)
   where
     of_password : (o : Option (List ℕ))
-        → cond (is_some (option_and_then (stands_under r) (option_and_then (λ (user : NameAndPassword). key_of users user a) (option_map (λ password. record { username = name; password = password }) o))))
+        → cond (is_some (option_and_then (verified_under r) (option_and_then (λ (user : NameAndPassword). key_of users user a) (option_map (λ password. record { username = name; password = password }) o))))
         (Ok (record { name = name; algorithm = a })) (Err Unauthorized)
-        ≡ unless (is_none (option_and_then (stands_for users r a) (option_map (λ password. record { username = name; password = password }) o)))
+        ≡ unless (is_none (option_and_then (verified_for users r a) (option_map (λ password. record { username = name; password = password }) o)))
         (record { name = name_or (option_map (λ password. record { username = name; password = password }) o); algorithm = a })
     of_password None = refl
     of_password (Some password) =
-        unless-is_some (option_and_then (stands_under r) (key_of users (record { username = name; password = password }) a)) (record { name = name; algorithm = a })
+        unless-is_some (option_and_then (verified_under r) (key_of users (record { username = name; password = password }) a)) (record { name = name; algorithm = a })
 
 -- the rows from the fourth on, where a nonce is named
 abbrev rows_from : Registered → Feature → List ℕ → Option AlgorithmSet → Reading → List ℕ → Option IntegrityAlgorithm → Result ClientSeen Refusal
@@ -158,15 +158,15 @@ by_choice-rows users feature ours offered r theirs None = refl
 by_choice-rows users feature ours offered r theirs (Some a) = by (bytes_eq theirs ours)
   where
     judged : by_name users r (name_in users feature r) a
-        ≡ cond (is_none (option_and_then (stands_for users r a) (named users feature r))) (Err Unauthorized) (Ok (record { name = name_or (named users feature r); algorithm = a }))
+        ≡ cond (is_none (option_and_then (verified_for users r a) (named users feature r))) (Err Unauthorized) (Ok (record { name = name_or (named users feature r); algorithm = a }))
     judged =
         last_steps users r a (name_in users feature r)
-        ∙ ap (λ (user : Option NameAndPassword). unless (is_none (option_and_then (stands_for users r a) user)) (record { name = name_or user; algorithm = a })) (sym (user_of users feature r.userhash r.username))
-        ∙ unless-cond (is_none (option_and_then (stands_for users r a) (named users feature r))) (record { name = name_or (named users feature r); algorithm = a })
+        ∙ ap (λ (user : Option NameAndPassword). unless (is_none (option_and_then (verified_for users r a) user)) (record { name = name_or user; algorithm = a })) (sym (user_of users feature r.userhash r.username))
+        ∙ unless-cond (is_none (option_and_then (verified_for users r a) (named users feature r))) (record { name = name_or (named users feature r); algorithm = a })
 
     by : (b : Bool)
         → cond b (by_name users r (name_in users feature r) a) (Err (nonce_refusal ours theirs))
-        ≡ cond (not b) (Err (nonce_refusal ours theirs)) (cond (is_none (option_and_then (stands_for users r a) (named users feature r))) (Err Unauthorized)
+        ≡ cond (not b) (Err (nonce_refusal ours theirs)) (cond (is_none (option_and_then (verified_for users r a) (named users feature r))) (Err Unauthorized)
         (Ok (record { name = name_or (named users feature r); algorithm = a })))
     by true = judged
     by false = refl

@@ -10,7 +10,7 @@ use Rattle.stun_auth.specs.declared.feature.Feature.{Feature}
 use Rattle.stun_auth.specs.declared.server_reason.Refusal.{Refusal}
 use Rattle.stun_auth.specs.declared.server_reason.Refusal.TheVariants.{Unauthorized, BadRequest}
 use Rattle.stun_auth.specs.code.Judging.{name_in}
-use Rattle.stun_auth.specs.Reading.{Reading, stands_under}
+use Rattle.stun_auth.specs.Reading.{Reading, verified_under}
 use Rattle.stun_auth.specs.Registered.{Registered, key_at}
 use Rattle.stun_auth.specs.Seen.{ClientSeen}
 use Rattle.stun_auth.specs.Server.{agreed, nonce_refusal}
@@ -18,7 +18,7 @@ use Rattle.stun_auth.specs.Validation.{is_complete}
 
 abbrev pub by_digest : Registered → Reading → List ℕ → IntegrityAlgorithm → Result ClientSeen Refusal
 by_digest users r name a =
-    if is_some (option_and_then (stands_under r) (key_at users name a)) then Ok (record { name = name; algorithm = a })
+    if is_some (option_and_then (verified_under r) (key_at users name a)) then Ok (record { name = name; algorithm = a })
     else Err Unauthorized
 
 abbrev pub by_name : Registered → Reading → Option (List ℕ) → IntegrityAlgorithm → Result ClientSeen Refusal

@@ -10,7 +10,7 @@ use Rattle.stun_auth.specs.Algorithms.{has}
 use Rattle.stun_auth.specs.Client.{ClientSettings, Naming, plain, hashed, Challenge, ClientState, initial, authenticating, authenticated}
 use Rattle.stun_auth.specs.Feature.{is_possible}
 use Rattle.stun_auth.specs.Nonces.{security_bits, asks_for_algorithms, asks_for_userhash}
-use Rattle.stun_auth.specs.Reading.{Reading, stands_under, is_success}
+use Rattle.stun_auth.specs.Reading.{Reading, verified_under, is_success}
 use Rattle.stun_auth.specs.declared.feature.Feature.{Feature}
 use Rattle.stun_auth.specs.declared.feature.Feature.TheVariants.{Auto, Required, Disabled}
 use Rattle.stun_auth.specs.declared.challenge.Refusal.{Refusal}
@@ -108,10 +108,10 @@ reason_of Refused.Unauthorized = Unauthorized
 reason_of Refused.UnsupportedFeature = UnsupportedFeature
 
 -- the algorithm whose digest verifies under the kept key
-abbrev pub standing_digest : ClientState → Reading → Option IntegrityAlgorithm
-standing_digest initial r = None
-standing_digest (authenticating c) r = stands_under r c.key
-standing_digest (authenticated c) r = stands_under r c.key
+abbrev pub verified_under_kept : ClientState → Reading → Option IntegrityAlgorithm
+verified_under_kept initial r = None
+verified_under_kept (authenticating c) r = verified_under r c.key
+verified_under_kept (authenticated c) r = verified_under r c.key
 
 abbrev pub after_challenge : ClientState → Option IntegrityAlgorithm → Result Challenge Refusal → ClientStep
 after_challenge state digest (Err refusal) = record { answer = Err (reason_of refusal); state = state }
@@ -161,9 +161,9 @@ is_code code (Some other) = other == code
 abbrev pub client_step : ClientSettings → ClientState → Reading → ClientStep
 client_step s state r =
     if is_code UNAUTHORIZED r.error && not (is_authenticated state) then
-    after_challenge state (standing_digest state r) (taken_up s state s.credentials r.realm r.nonce r.algorithms)
-    else if is_code STALE_NONCE r.error then after_stale state (standing_digest state r) r.realm r.nonce
-    else after_digest state (is_success r.class) (standing_digest state r)
+    after_challenge state (verified_under_kept state r) (taken_up s state s.credentials r.realm r.nonce r.algorithms)
+    else if is_code STALE_NONCE r.error then after_stale state (verified_under_kept state r) r.realm r.nonce
+    else after_digest state (is_success r.class) (verified_under_kept state r)
 
 -- the request is to be sent again: these answers alone keep something new
 abbrev pub IsResend : ClientAnswer → Type 0

@@ -4,7 +4,7 @@ use Rattle.std.specs.Option.{is_some, option_map, option_or}
 use Rattle.stun_base.specs.Header.{type_field, transaction_id_field}
 use Rattle.stun_base.specs.declared.algorithm.IntegrityAlgorithm.{IntegrityAlgorithm}
 use Rattle.stun_types.specs.Attribute.{TypedValue}
-use Rattle.stun_types.specs.Integrity.{stands}
+use Rattle.stun_types.specs.Integrity.{verified_algorithm}
 use Rattle.stun_types.specs.Message.{IsMessage}
 use Rattle.stun_types.specs.Visible.{visible}
 use Rattle.stun_types.specs.Walk.{Member}
@@ -60,7 +60,7 @@ pub record HasAdded (before : List ℕ) (list : List Addition) (after : List ℕ
   -- without a digest more can be added
   pub is_open : protection_in list ≡ None → IsOpen after
   -- with one, it verifies under its key
-  pub digest_stands : (p : Protection) → protection_in list ≡ Some p → stands after p.key ≡ Some p.algorithm
+  pub digest_stands : (p : Protection) → protection_in list ≡ Some p → verified_algorithm after p.key ≡ Some p.algorithm
 
 -- of each type, the attribute that was added is read, or else the one that was there
 abbrev pub IsReadBack : List ℕ → List Addition → List ℕ → Type 0

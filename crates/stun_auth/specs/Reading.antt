@@ -10,9 +10,9 @@ use Rattle.stun_base.specs.Header.{type_field}
 use Rattle.stun_base.specs.MessageType.{class_of}
 use Rattle.stun_types.specs.Attribute.{TypedValue}
 use Rattle.stun_types.specs.ErrorCode.{CodeAndReason, error_of}
-use Rattle.stun_types.specs.Integrity.{is_well_formed, stands}
+use Rattle.stun_types.specs.Integrity.{is_well_formed, verified_algorithm}
 use Rattle.stun_types.specs.Limits.{TEXT_LIMIT, USERNAME_LIMIT}
-use Rattle.stun_types.specs.PasswordAlgorithms.{algorithm_of, algorithms_of, integrity_of}
+use Rattle.stun_types.specs.PasswordAlgorithms.{password_algorithm_in, password_algorithms_in, integrity_of}
 use Rattle.stun_types.specs.Text.{text_of}
 use Rattle.stun_types.specs.Userhash.{hash_of}
 use Rattle.stun_types.specs.Walk.{Member}
@@ -71,8 +71,8 @@ pub record Reading : Type 0 where
   pub integrity : Option (List ℕ → Option IntegrityAlgorithm)
 
 -- the algorithm whose digest verifies under a key
-abbrev pub stands_under : Reading → List ℕ → Option IntegrityAlgorithm
-stands_under r key = option_and_then (λ (verify : List ℕ → Option IntegrityAlgorithm). verify key) r.integrity
+abbrev pub verified_under : Reading → List ℕ → Option IntegrityAlgorithm
+verified_under r key = option_and_then (λ (verify : List ℕ → Option IntegrityAlgorithm). verify key) r.integrity
 
 -- the class of a message
 abbrev pub class_in : List ℕ → MessageClass
@@ -92,7 +92,7 @@ reading_of bytes = record {
   nonce = last (text_of NONCE TEXT_LIMIT) NONCE bytes;
   username = last (text_of USERNAME USERNAME_LIMIT) USERNAME bytes;
   userhash = last hash_of USERHASH bytes;
-  algorithms = option_map (map integrity_of) (last algorithms_of PASSWORD_ALGORITHMS bytes);
-  algorithm = option_map integrity_of (last algorithm_of PASSWORD_ALGORITHM bytes);
-  integrity = if has_integrity bytes then Some (stands bytes) else None;
+  algorithms = option_map (map integrity_of) (last password_algorithms_in PASSWORD_ALGORITHMS bytes);
+  algorithm = option_map integrity_of (last password_algorithm_in PASSWORD_ALGORITHM bytes);
+  integrity = if has_integrity bytes then Some (verified_algorithm bytes) else None;
 }

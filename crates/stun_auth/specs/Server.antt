@@ -18,7 +18,7 @@ use Rattle.stun_auth.specs.declared.server_reason.Refusal.TheVariants.{Unauthori
 use Rattle.stun_auth.specs.Algorithms.{contains, has, offered_list, same_list}
 use Rattle.stun_auth.specs.Feature.{is_possible}
 use Rattle.stun_auth.specs.Nonces.{asks_for_algorithms, nonce_of, security_bits}
-use Rattle.stun_auth.specs.Reading.{Reading, stands_under}
+use Rattle.stun_auth.specs.Reading.{Reading, verified_under}
 use Rattle.stun_auth.specs.Registered.{Registered, key_of, user_named, user_with_hash}
 use Rattle.stun_auth.specs.Seen.{ClientSeen, PlaceSeen, renewed}
 
@@ -77,7 +77,7 @@ pub record IsAccepted (users : Registered) (feature : Feature) (ours : List ℕ)
   pub named : named users feature r ≡ Some (record { username = client.name; password = password })
   pub present : map.get users.passwords client.name ≡ Some password
   pub supported : contains client.algorithm users.algorithms ≡ true
-  pub digest : IsSome (stands_under r (long_term_key client.algorithm client.name users.realm password))
+  pub digest : IsSome (verified_under r (long_term_key client.algorithm client.name users.realm password))
 
 -- ---- the refusals, in a table
 
@@ -96,12 +96,12 @@ abbrev pub nonce_refusal : List ℕ → List ℕ → Refusal
 nonce_refusal ours theirs = if bits_differ (security_bits ours) (security_bits theirs) then Unauthorized else StaleNonce
 
 -- the algorithm whose digest verifies under the key that a user has for an algorithm
-abbrev pub stands_for : Registered → Reading → IntegrityAlgorithm → NameAndPassword → Option IntegrityAlgorithm
-stands_for users r a user = option_and_then (stands_under r) (key_of users user a)
+abbrev pub verified_for : Registered → Reading → IntegrityAlgorithm → NameAndPassword → Option IntegrityAlgorithm
+verified_for users r a user = option_and_then (verified_under r) (key_of users user a)
 
 -- the algorithm whose digest verifies, of the user who is named and the algorithm that both sides mean
 abbrev pub proven : Registered → Feature → Reading → Option IntegrityAlgorithm → Option IntegrityAlgorithm
-proven users feature r chosen = option_and_then (λ a. option_and_then (stands_for users r a) (named users feature r)) chosen
+proven users feature r chosen = option_and_then (λ a. option_and_then (verified_for users r a) (named users feature r)) chosen
 
 -- the refusals, in the order in which they are looked for
 abbrev pub refusals : Registered → Feature → List ℕ → Option AlgorithmSet → Reading → List (Bool × Refusal)

@@ -5,7 +5,7 @@ use Rattle.stun_base.specs.declared.algorithm.IntegrityAlgorithm.{IntegrityAlgor
 use Rattle.stun_base.specs.declared.error.ValidateError.{ValidateError}
 use Rattle.stun_base.specs.declared.error.StunWriteError.{StunWriteError}
 use Rattle.stun_types.specs.Attribute.{attribute_length}
-use Rattle.stun_types.specs.Integrity.{stands, integrity_refusal}
+use Rattle.stun_types.specs.Integrity.{verified_algorithm, integrity_refusal}
 use Rattle.stun_types.specs.Limits.{max_length}
 use Rattle.stun_types.specs.Writing.{has_integrity, length_with, signing_refusal, with_integrity}
 
@@ -48,4 +48,4 @@ verdict_of (Some algorithm) refusal = Ok (Some algorithm)
 -- what a message is answered: its digest is checked under the password (section 9.1.3), and without credentials nothing is
 abbrev pub short_term_answer : Option Secret → List ℕ → Result (Option IntegrityAlgorithm) ValidateError
 short_term_answer None message = Ok None
-short_term_answer (Some secret) message = verdict_of (stands message secret.password) (integrity_refusal message)
+short_term_answer (Some secret) message = verdict_of (verified_algorithm message secret.password) (integrity_refusal message)

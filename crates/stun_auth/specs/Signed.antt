@@ -18,7 +18,7 @@ use Rattle.stun_auth.specs.Algorithms.{is_sha256, listed}
 use Rattle.stun_auth.specs.Client.{Naming, plain, hashed, Challenge, ClientState}
 use Rattle.stun_auth.specs.ClientSigning.{kept_challenge}
 use Rattle.stun_auth.specs.Joined.{Protection}
-use Rattle.stun_auth.specs.Reading.{Reading, class_in, error_code, stands_under}
+use Rattle.stun_auth.specs.Reading.{Reading, class_in, error_code, verified_under}
 use Rattle.stun_auth.specs.Registered.{Registered, key_at}
 use Rattle.stun_auth.specs.Seen.{ClientSeen, PlaceSeen}
 use Rattle.stun_auth.specs.Server.{Sight}
@@ -134,7 +134,7 @@ pub record ReadsAs (class : MessageClass) (error : Option ℕ) (a : Added) (r : 
   pub algorithms_are : r.algorithms ≡ a.algorithms
   pub algorithm_is : r.algorithm ≡ a.algorithm
   pub integrity_is : is_some r.integrity ≡ is_some a.integrity
-  pub digest_stands : (p : Protection) → a.integrity ≡ Some p → stands_under r p.key ≡ Some p.algorithm
+  pub digest_stands : (p : Protection) → a.integrity ≡ Some p → verified_under r p.key ≡ Some p.algorithm
 
 abbrev pub only_if : {A : Type 0} → Bool → A → Option A
 only_if holds value = if holds then Some value else None

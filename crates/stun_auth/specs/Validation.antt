@@ -14,7 +14,7 @@ use Rattle.stun_auth.specs.declared.server_reason.LongTermServerAuthErrorReason.
 use Rattle.stun_auth.specs.declared.server_reason.LongTermServerAuthErrorReason.TheVariants.{IntegrityFailed, BadRequest}
 use Rattle.stun_auth.specs.declared.server_reason.LongTermServerValidation.{LongTermServerValidation}
 use Rattle.stun_auth.specs.declared.server_reason.LongTermServerValidation.TheVariants.{Validated}
-use Rattle.stun_auth.specs.Reading.{Reading, is_response, stands_under}
+use Rattle.stun_auth.specs.Reading.{Reading, is_response, verified_under}
 use Rattle.stun_auth.specs.Reasons.{reason_of}
 use Rattle.stun_auth.specs.Registered.{Registered, key_at, new_registered}
 use Rattle.stun_auth.specs.Seen.{ClientSeen, PlaceSeen}
@@ -39,11 +39,11 @@ abbrev pub Answer : Type 0
 Answer = Result LongTermServerValidation LongTermServerAuthErrorReason
 
 -- the algorithm whose digest verifies under the key that the present user of a client has for the client's algorithm
-abbrev pub client_stands : Registered → Reading → ClientSeen → Option IntegrityAlgorithm
-client_stands users r c = option_and_then (stands_under r) (key_at users c.name c.algorithm)
+abbrev pub verified_for_client : Registered → Reading → ClientSeen → Option IntegrityAlgorithm
+verified_for_client users r c = option_and_then (verified_under r) (key_at users c.name c.algorithm)
 
 abbrev pub client_verified : Registered → Reading → Option PlaceSeen → Option IntegrityAlgorithm
-client_verified users r place = option_and_then (client_stands users r) (option_and_then (λ (p : PlaceSeen). p.client) place)
+client_verified users r place = option_and_then (verified_for_client users r) (option_and_then (λ (p : PlaceSeen). p.client) place)
 
 abbrev pub validated_or_failed : Option IntegrityAlgorithm → Answer
 validated_or_failed None = Err IntegrityFailed

@@ -3,7 +3,7 @@ ghost use Rattle.std.specs.Prelude.{◌≡◌, ◌∷◌, [], Some, OnErr, map, 
 ghost use Rattle.std.specs.Fmt.{WritesOnOk, WritesStyledOnOk};
 ghost use Rattle.stun_auth.specs.Reading.{reading_of};
 ghost use Rattle.stun_auth.specs.Client.{new_client};
-ghost use Rattle.stun_auth.specs.ClientStep.{IsResend, OrMemory, after_challenge, after_digest, after_stale, client_step, is_authenticated, is_code, is_repeated, reason_of, standing_digest, taken_up};
+ghost use Rattle.stun_auth.specs.ClientStep.{IsResend, OrMemory, after_challenge, after_digest, after_stale, client_step, is_authenticated, is_code, is_repeated, reason_of, verified_under_kept, taken_up};
 ghost use Rattle.stun_auth.specs.code.ReadingSeen.{reading_seen};
 ghost use Rattle.stun_auth.specs.code.ClientKept.{challenge_seen, offer_seen, state_seen};
 ghost use Rattle.stun_auth.specs.Supported.{added};
@@ -195,13 +195,13 @@ impl<A: Allocator> LongTermClientAuth<A> {
     }
 
     /// The algorithm whose digest verifies under the kept key.
-    fn standing_digest(&self, reading: &Reading<'_, '_>) -> Option<IntegrityAlgorithm>
-        ensures { result ≡ standing_digest self.now.state (reading_seen reading.now) }
+    fn verified_under_kept(&self, reading: &Reading<'_, '_>) -> Option<IntegrityAlgorithm>
+        ensures { result ≡ verified_under_kept self.now.state (reading_seen reading.now) }
     {
         match &self.state {
             State::Initial => None,
-            State::Authenticating(kept) => reading.stands_under(&kept.key),
-            State::Authenticated(kept) => reading.stands_under(&kept.key),
+            State::Authenticating(kept) => reading.verified_under(&kept.key),
+            State::Authenticated(kept) => reading.verified_under(&kept.key),
         }
     }
 
@@ -300,7 +300,7 @@ impl<A: Allocator + Copy> LongTermClientAuth<A> {
         ensures refused { OnErr result (self.new ≡ self.old) }
     {
         let reading = Reading::of(message);
-        let digest = self.standing_digest(&reading);
+        let digest = self.verified_under_kept(&reading);
         if is_code(ErrorCode::UNAUTHORIZED, reading.error) && !self.is_authenticated() {
             return self.take_up(reading, digest);
         }

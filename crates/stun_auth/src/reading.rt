@@ -6,13 +6,13 @@ ghost use Rattle.std.specs.Prelude.{◌≡◌, Option, map};
 ghost use Rattle.std.specs.Option.{is_some, option_and_then, option_copied, option_map};
 ghost use Rattle.stun_base.specs.Attributes.{NONCE, REALM, USERNAME};
 ghost use Rattle.stun_types.specs.ErrorCode.{CodeAndReason, error_of};
-ghost use Rattle.stun_types.specs.Integrity.{stands};
+ghost use Rattle.stun_types.specs.Integrity.{verified_algorithm};
 ghost use Rattle.stun_types.specs.Limits.{TEXT_LIMIT, USERNAME_LIMIT};
-ghost use Rattle.stun_types.specs.PasswordAlgorithms.{algorithm_of, algorithms_of, integrity_of};
+ghost use Rattle.stun_types.specs.PasswordAlgorithms.{password_algorithm_in, password_algorithms_in, integrity_of};
 ghost use Rattle.stun_types.specs.Text.{text_of};
 ghost use Rattle.stun_types.specs.Userhash.{hash_of};
 ghost use Rattle.stun_types.specs.Visible.{visible};
-ghost use Rattle.stun_auth.specs.Reading.{is_response, is_success, reading_of, stands_under};
+ghost use Rattle.stun_auth.specs.Reading.{is_response, is_success, reading_of, verified_under};
 ghost use Rattle.stun_auth.specs.Validation.{is_complete, is_malformed};
 ghost use Rattle.stun_auth.specs.code.LastAttributes.{last_attributes, with_attribute};
 ghost use Rattle.stun_auth.specs.code.ReadingSeen.{error_in, reading_seen};
@@ -120,8 +120,8 @@ impl<'a, 'm> Model for Signature<'a, 'm> {
 
 impl Signature<'_, '_> {
     /// The algorithm whose digest verifies under a key.
-    fn verifies_under<A: Allocator>(&self, key: &IntegrityKey<A>) -> Option<IntegrityAlgorithm>
-        ensures { result ≡ stands self.now key.now }
+    fn verified_under<A: Allocator>(&self, key: &IntegrityKey<A>) -> Option<IntegrityAlgorithm>
+        ensures { result ≡ verified_algorithm self.now key.now }
     {
         match &self.decides {
             Some((place, attribute)) => {
@@ -199,7 +199,7 @@ fn userhash(attribute: Option<RawAttribute<'_>>) -> Option<[u8; 32]>
 
 /// The algorithm whose key the chosen password algorithm makes.
 fn algorithm(attribute: Option<RawAttribute<'_>>) -> Option<IntegrityAlgorithm>
-    ensures { result ≡ option_map integrity_of (option_and_then algorithm_of attribute.entry) }
+    ensures { result ≡ option_map integrity_of (option_and_then password_algorithm_in attribute.entry) }
 {
     match read::<PasswordAlgorithm>(attribute) {
         Some(chosen) => Some(chosen.algorithm().as_integrity()),
@@ -283,15 +283,15 @@ impl<'a, 'm> Reading<'a, 'm> {
     }
 
     /// The algorithm whose digest verifies under a key.
-    pub(crate) fn stands_under<A: Allocator>(
+    pub(crate) fn verified_under<A: Allocator>(
         &self,
         key: &IntegrityKey<A>,
     ) -> Option<IntegrityAlgorithm>
-        ensures { result ≡ stands_under (reading_seen self.now) key.now }
+        ensures { result ≡ verified_under (reading_seen self.now) key.now }
     {
         if !self.has_integrity {
             return None;
         }
-        self.signature.verifies_under(key)
+        self.signature.verified_under(key)
     }
 }

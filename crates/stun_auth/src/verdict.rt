@@ -169,7 +169,7 @@ pub(crate) fn verdict<'a, A: Allocator + Copy>(
     let Some(key) = registry.key(name, algorithm) else {
         return Err(Refusal::Unauthorized);
     };
-    match reading.stands_under(key) {
+    match reading.verified_under(key) {
         Some(_) => Ok(Accepted { name, algorithm }),
         None => Err(Refusal::Unauthorized),
     }

@@ -4,7 +4,7 @@ use Rattle.stun_base.specs.declared.error.StunParseError.{StunParseError}
 use Rattle.stun_base.specs.declared.error.ValidateError.{ValidateError}
 use Rattle.stun_base.specs.declared.algorithm.IntegrityAlgorithm.{IntegrityAlgorithm}
 use Rattle.stun_types.specs.Message.{refusal}
-use Rattle.stun_types.specs.Integrity.{stands, integrity_refusal}
+use Rattle.stun_types.specs.Integrity.{verified_algorithm, integrity_refusal}
 use Rattle.stun_c.specs.declared.codes.Refusal.{Refusal}
 use Rattle.stun_c.specs.declared.codes.Refusal.TheVariants.{BufferTooSmall}
 use Rattle.stun_c.specs.Codes.{code_of, refusal_of_parse, refusal_of_validate, algorithm_number}
@@ -30,7 +30,7 @@ unless_no_message (Some error) number = code_of (refusal_of_parse error)
 
 -- what verifying under a key answers
 abbrev pub verify_answer : List ℕ → List ℕ → ℤ
-verify_answer bytes key = unless_no_message (refusal bytes) (integrity_number (stands bytes key) (integrity_refusal bytes))
+verify_answer bytes key = unless_no_message (refusal bytes) (integrity_number (verified_algorithm bytes key) (integrity_refusal bytes))
 
 -- bytes for a buffer with so much room, which they must not exceed
 abbrev pub fitted : Result (List ℕ) Refusal → ℕ → Result (List ℕ) Refusal

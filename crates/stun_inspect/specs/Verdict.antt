@@ -7,7 +7,7 @@ use Rattle.stun_base.specs.declared.error.ValidateError.TheVariants.{Parse, Inte
 use Rattle.stun_base.specs.declared.algorithm.IntegrityAlgorithm.{IntegrityAlgorithm}
 use Rattle.stun_base.specs.declared.algorithm.IntegrityAlgorithm.TheVariants.{Sha1, Sha256}
 use Rattle.stun_types.specs.Message.{refusal}
-use Rattle.stun_types.specs.Integrity.{stands_by, integrity_refusal}
+use Rattle.stun_types.specs.Integrity.{verified_by, integrity_refusal}
 use Rattle.stun_inspect.specs.declared.verdict.Verdict.{Verdict}
 use Rattle.stun_inspect.specs.declared.verdict.Verdict.TheVariants.{Valid, OtherDigest, NoIntegrity, MalformedIntegrity, NotAMessage}
 use Rattle.stun_inspect.specs.declared.status.Status.{Status}
@@ -31,7 +31,7 @@ verdict_on_refusal None verdict = verdict
 
 -- the verdict on bytes under a key for each algorithm
 abbrev pub verdict_of : List ℕ → (IntegrityAlgorithm → List ℕ) → Verdict
-verdict_of bytes keys = verdict_on_refusal (refusal bytes) (verdict_on_integrity (stands_by keys bytes) (integrity_refusal bytes))
+verdict_of bytes keys = verdict_on_refusal (refusal bytes) (verdict_on_integrity (verified_by keys bytes) (integrity_refusal bytes))
 
 -- the words for a refusal
 abbrev pub refusal_text : StunParseError → List ℕ

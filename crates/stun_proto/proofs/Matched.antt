@@ -13,11 +13,11 @@ use Rattle.stun_auth.specs.declared.feature.Feature.{Feature}
 use Rattle.stun_auth.specs.Algorithms.{contains, listed, offered_list}
 use Rattle.stun_auth.specs.Client.{Challenge, Naming, plain, hashed}
 use Rattle.stun_auth.specs.Nonces.{asks_for_algorithms}
-use Rattle.stun_auth.specs.Reading.{Reading, stands_under}
+use Rattle.stun_auth.specs.Reading.{Reading, verified_under}
 use Rattle.stun_auth.specs.Registered.{Registered, key_at, key_if, key_of}
 use Rattle.stun_auth.specs.Seen.{ClientSeen, PlaceSeen}
 use Rattle.stun_auth.specs.Signed.{hashed_name, plain_name}
-use Rattle.stun_auth.specs.Server.{agreed, choice, client_of, named, named_by, nonce_refusal, or_refused, proven, stands_for, their_nonce, verdict}
+use Rattle.stun_auth.specs.Server.{agreed, choice, client_of, named, named_by, nonce_refusal, or_refused, proven, verified_for, their_nonce, verdict}
 use Rattle.stun_auth.specs.Validation.{is_complete}
 use Rattle.stun_proto.specs.Matching.{Matches}
 use Rattle.stun_proto.proofs.Hashes.{own_user}
@@ -89,8 +89,8 @@ module _ (say : NoncesAsk) (users : Registered) (feature : Feature) (p : PlaceSe
     proven_so : is_none (proven users feature r (agreed r (their_nonce r) p.offered)) ≡ false
     proven_so =
         ap (λ o. is_none (proven users feature r o)) agrees_so
-        ∙ ap (λ o. is_none (option_and_then (stands_for users r c.algorithm) o)) named_so
-        ∙ ap (λ o. is_none (option_and_then (stands_under r) o)) key_there
+        ∙ ap (λ o. is_none (option_and_then (verified_for users r c.algorithm) o)) named_so
+        ∙ ap (λ o. is_none (option_and_then (verified_under r) o)) key_there
         ∙ ap is_none reads.digest
 
     pub complete : is_complete r ≡ true

@@ -20,7 +20,7 @@ use Rattle.stun_auth.specs.ClientStep.{UNAUTHORIZED, STALE_NONCE, after_challeng
 use Rattle.stun_auth.specs.Feature.{is_possible}
 use Rattle.stun_auth.specs.Nonces.{asks_for_userhash, nonce_of}
 use Rattle.stun_auth.specs.Places.{with_offer}
-use Rattle.stun_auth.specs.Reading.{Reading, is_success, reading_of, stands_under}
+use Rattle.stun_auth.specs.Reading.{Reading, is_success, reading_of, verified_under}
 use Rattle.stun_auth.specs.Registered.{Registered, user_with_hash}
 use Rattle.stun_auth.specs.Seen.{PlaceSeen, renewed}
 use Rattle.stun_auth.specs.Signed.{added_under_key, added_without_client, hashed_name, plain_name}
@@ -57,7 +57,7 @@ challenge_step s who realm nonce list r credentials reads list_is =
 success_step : (s : ClientSettings) (c : Challenge) (r : Reading) (a : IntegrityAlgorithm) → IsSuccess a c.key r
     → client_step s (authenticating c) r ≡ record { answer = Ok (Read.Validated a); state = authenticated c }
 success_step s c r a reads =
-    let digest = stands_under r c.key in
+    let digest = verified_under r c.key in
     ap (λ e. cond (is_code UNAUTHORIZED e && true) (after_challenge (authenticating c) digest (taken_up s (authenticating c) s.credentials r.realm r.nonce r.algorithms)) (cond (is_code STALE_NONCE e) (after_stale (authenticating c) digest r.realm r.nonce) (after_digest (authenticating c) (is_success r.class) digest))) reads.error
     ∙ ap (λ b. after_digest (authenticating c) b digest) reads.success
     ∙ ap (after_digest (authenticating c) true) reads.digest

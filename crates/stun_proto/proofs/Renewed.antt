@@ -18,7 +18,7 @@ use Rattle.stun_auth.specs.Algorithms.{contains}
 use Rattle.stun_auth.specs.Client.{Challenge, ClientSettings, authenticated}
 use Rattle.stun_auth.specs.ClientStep.{ClientStep, STALE_NONCE, UNAUTHORIZED, after_challenge, after_digest, after_stale, client_step, is_code, taken_up}
 use Rattle.stun_auth.specs.Nonces.{nonce_of, security_bits}
-use Rattle.stun_auth.specs.Reading.{Reading, is_success, reading_of, stands_under}
+use Rattle.stun_auth.specs.Reading.{Reading, is_success, reading_of, verified_under}
 use Rattle.stun_auth.specs.Reasons.{ServerRefusal}
 use Rattle.stun_auth.specs.code.Reasons.{stale_nonce, unauthorized}
 use Rattle.stun_auth.specs.Registered.{Registered}
@@ -51,9 +51,9 @@ stale_of_settings say set feature words theirs others made =
 
 -- an authenticated client takes up the nonce of an error of code 438
 stale_step : (s : ClientSettings) (c : Challenge) (realm nonce : List ℕ) (r : Reading) → IsFailure STALE_NONCE realm nonce r
-    → client_step s (authenticated c) r ≡ record { answer = Ok (Read.ResendRequest (stands_under r c.key)); state = authenticated (record c { realm = realm; nonce = nonce }) }
+    → client_step s (authenticated c) r ≡ record { answer = Ok (Read.ResendRequest (verified_under r c.key)); state = authenticated (record c { realm = realm; nonce = nonce }) }
 stale_step s c realm nonce r reads =
-    let digest = stands_under r c.key in
+    let digest = verified_under r c.key in
     ap (λ e. cond (is_code UNAUTHORIZED e && false) (after_challenge (authenticated c) digest (taken_up s (authenticated c) s.credentials r.realm r.nonce r.algorithms)) (cond (is_code STALE_NONCE e) (after_stale (authenticated c) digest r.realm r.nonce) (after_digest (authenticated c) (is_success r.class) digest))) reads.error
     ∙ ap (λ o. after_stale (authenticated c) digest o r.nonce) reads.realm
     ∙ ap (λ o. after_stale (authenticated c) digest (Some realm) o) reads.nonce

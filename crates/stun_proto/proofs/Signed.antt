@@ -13,7 +13,7 @@ use Rattle.stun_auth.specs.ClientSigning.{kept_challenge}
 use Rattle.stun_auth.specs.ClientStep.{UNAUTHORIZED, STALE_NONCE, naming_of}
 use Rattle.stun_auth.specs.Feature.{is_possible}
 use Rattle.stun_auth.specs.Nonces.{asks_for_algorithms, asks_for_userhash, nonce_of, security_bits}
-use Rattle.stun_auth.specs.Reading.{Reading, is_response, is_success, reading_of, stands_under}
+use Rattle.stun_auth.specs.Reading.{Reading, is_response, is_success, reading_of, verified_under}
 use Rattle.stun_auth.specs.Registered.{key_at}
 use Rattle.stun_auth.specs.Seen.{ClientSeen, PlaceSeen}
 use Rattle.stun_auth.specs.Signed.{Added, IsSmall, added_by_client, added_by_server, hashed_name, plain_name}
@@ -44,7 +44,7 @@ pub record IsRequest (c : Challenge) (r : Reading) : Type 0 where
   pub userhash : r.userhash ≡ hashed_name c.naming
   pub algorithms : r.algorithms ≡ Some c.algorithms
   pub algorithm : r.algorithm ≡ Some c.algorithm
-  pub digest : stands_under r c.key ≡ Some c.algorithm
+  pub digest : verified_under r c.key ≡ Some c.algorithm
 
 -- an error with a nonce
 pub record IsFailure (code : ℕ) (its_realm its_nonce : List ℕ) (r : Reading) : Type 0 where
@@ -56,7 +56,7 @@ pub record IsFailure (code : ℕ) (its_realm its_nonce : List ℕ) (r : Reading)
 pub record IsSuccess (a : IntegrityAlgorithm) (key : List ℕ) (r : Reading) : Type 0 where
   pub error : r.error ≡ None
   pub success : is_success r.class ≡ true
-  pub digest : stands_under r key ≡ Some a
+  pub digest : verified_under r key ≡ Some a
 
 -- what is read of each message of a run
 pub record SignedIsRead : Type 0 where

@@ -108,7 +108,7 @@ SendsByPlan until a events steps =
 
 -- ---- Where the words are
 -- realm, current nonce, algorithms, user, digest   IsAccepted, standing, agreed, named   stun_auth/specs/Server.antt
--- what a message says; whose digest it is          reading_of, stands_under              stun_auth/specs/Reading.antt
+-- what a message says; whose digest it is          reading_of, verified_under            stun_auth/specs/Reading.antt
 -- an address's own calls                           concerns, own                         Isolation.antt
 -- what they leave, by the replies to them          sight_by_replies                      Replies.antt
 -- strongest that both support                      IsStrongestShared                     Best.antt

@@ -295,13 +295,13 @@ fn validate_message(
 {
     let mut source = WordSource::new(words);
     match server.validate_incoming_message(message, from, now, &mut source) {
-        Ok(validation) => Ok(algorithm_of(validation)),
+        Ok(validation) => Ok(validated_algorithm(validation)),
         Err(error) => Err(Refusal::from(error.reason())),
     }
 }
 
 /// The algorithm with which a message is accepted.
-fn algorithm_of(validation: LongTermServerValidation) -> IntegrityAlgorithm
+fn validated_algorithm(validation: LongTermServerValidation) -> IntegrityAlgorithm
     ensures { LongTermServerValidation.Validated result ≡ validation }
 {
     match validation {

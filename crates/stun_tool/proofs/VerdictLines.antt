@@ -5,7 +5,7 @@ use Rattle.stun_base.specs.Header.{HEADER_LENGTH, is_stun, length_field}
 use Rattle.stun_base.specs.declared.error.StunParseError.TheVariants.{Truncated, NotStun, TooLarge}
 use Rattle.stun_base.specs.declared.algorithm.IntegrityAlgorithm.{IntegrityAlgorithm}
 use Rattle.stun_base.specs.declared.algorithm.IntegrityAlgorithm.TheVariants.{Sha1, Sha256}
-use Rattle.stun_types.specs.Integrity.{refusal_of, is_well_formed, stands, integrity_refusal, deciding}
+use Rattle.stun_types.specs.Integrity.{refusal_of, is_well_formed, verified_algorithm, integrity_refusal, deciding}
 use Rattle.stun_types.specs.Message.{first_refusal}
 use Rattle.stun_types.specs.Walk.{Member, taken, walk}
 use Rattle.stun_tool.specs.declared.verdict.Verdict.{Verdict}
@@ -43,7 +43,7 @@ verdict_of-listed : (bytes password : List ℕ) → IsListed (verdict_of bytes p
 verdict_of-listed bytes password =
     on_refusal-listed (nat_lt (length bytes) HEADER_LENGTH) (is_stun bytes) (nat_lt (length bytes) (HEADER_LENGTH + length_field bytes))
     (nat_lt (HEADER_LENGTH + length_field bytes) (length bytes)) (HEADER_LENGTH + taken (walk bytes) == length bytes)
-    (verdict_on_integrity (stands bytes password) (integrity_refusal bytes)) (on_integrity-listed (stands bytes password) (deciding bytes))
+    (verdict_on_integrity (verified_algorithm bytes password) (integrity_refusal bytes)) (on_integrity-listed (verified_algorithm bytes password) (deciding bytes))
 
 -- so that verdict has a listed line
 pub verdict_listed : (verdict : Verdict) (bytes password : List ℕ) → verdict ≡ verdict_of bytes password → Contains printed_lines (line_of verdict)

@@ -7,7 +7,7 @@ use Rattle.stun_base.specs.declared.error.ValidateError.TheVariants.{Parse, Inte
 use Rattle.stun_base.specs.declared.algorithm.IntegrityAlgorithm.{IntegrityAlgorithm}
 use Rattle.stun_base.specs.declared.algorithm.IntegrityAlgorithm.TheVariants.{Sha1, Sha256}
 use Rattle.stun_types.specs.Message.{refusal}
-use Rattle.stun_types.specs.Integrity.{stands, integrity_refusal}
+use Rattle.stun_types.specs.Integrity.{verified_algorithm, integrity_refusal}
 use Rattle.stun_tool.specs.declared.verdict.Verdict.{Verdict}
 use Rattle.stun_tool.specs.declared.verdict.Verdict.TheVariants.{Valid, Invalid, NoIntegrity, MalformedIntegrity, NotAMessage, BadInput}
 use Rattle.stun_tool.specs.declared.status.Status.{Status}
@@ -32,7 +32,7 @@ verdict_on_refusal None verdict = verdict
 
 -- the verdict on bytes under a password, whose bytes are the key of the digest (RFC 8489, section 9.1.1)
 abbrev pub verdict_of : List ℕ → List ℕ → Verdict
-verdict_of bytes password = verdict_on_refusal (refusal bytes) (verdict_on_integrity (stands bytes password) (integrity_refusal bytes))
+verdict_of bytes password = verdict_on_refusal (refusal bytes) (verdict_on_integrity (verified_algorithm bytes password) (integrity_refusal bytes))
 
 -- on an input: the bytes that it spells, if it spells any
 abbrev pub verdict_of_read : Option (List ℕ) → List ℕ → Verdict

@@ -13,7 +13,7 @@ use Rattle.stun_base.specs.Attributes.{MESSAGE_INTEGRITY, MESSAGE_INTEGRITY_SHA2
 use Rattle.stun_base.specs.declared.algorithm.IntegrityAlgorithm.{IntegrityAlgorithm}
 use Rattle.stun_base.specs.declared.algorithm.IntegrityAlgorithm.TheVariants.{Sha1, Sha256}
 use Rattle.stun_types.specs.Grammar.{spelled_attribute}
-use Rattle.stun_types.specs.Integrity.{algorithm_of, covered, deciding, first_of, is_digest, standing, stands_by}
+use Rattle.stun_types.specs.Integrity.{integrity_algorithm, covered, deciding, first_of, is_digest, verified_at, verified_by}
 use Rattle.stun_types.specs.Message.{with_length}
 use Rattle.stun_types.specs.Visible.{visible}
 use Rattle.stun_types.specs.Walk.{Member, walk}
@@ -83,11 +83,11 @@ same : (xs : List ℕ) → pointwise nat_eq xs xs ≡ true
 same xs = nat_list_eq_equiv.refl xs
 
 -- a whole value that is the digest of what it covers is found to be
-is_digest-equal : (bytes key : List ℕ) (m : Member) → length m.1.value ≡ digest_length (algorithm_of m.1)
-    → m.1.value ≡ digest (algorithm_of m.1) key (covered bytes m.0 (length m.1.value)) → is_digest bytes key m ≡ true
+is_digest-equal : (bytes key : List ℕ) (m : Member) → length m.1.value ≡ digest_length (integrity_algorithm m.1)
+    → m.1.value ≡ digest (integrity_algorithm m.1) key (covered bytes m.0 (length m.1.value)) → is_digest bytes key m ≡ true
 is_digest-equal bytes key m whole equal =
-    let long : (length m.1.value == digest_length (algorithm_of m.1)) ≡ true = grind (arith, whole) in
-    let matches : pointwise nat_eq m.1.value (digest (algorithm_of m.1) key (covered bytes m.0 (length m.1.value))) ≡ true =
+    let long : (length m.1.value == digest_length (integrity_algorithm m.1)) ≡ true = grind (arith, whole) in
+    let matches : pointwise nat_eq m.1.value (digest (integrity_algorithm m.1) key (covered bytes m.0 (length m.1.value))) ≡ true =
     ap (λ v. pointwise nat_eq m.1.value v) (sym equal) ∙ same m.1.value in
     rw (long, matches) refl
 
@@ -102,23 +102,23 @@ covers-signed message algorithm key long =
     ∙ sym (covered-again message (spelled_attribute attribute) (length_with message (length attribute.value)) (length attribute.value) long)
 
 -- the digest that was written verifies
-standing-signed : (message : List ℕ) (algorithm : IntegrityAlgorithm) (keys : IntegrityAlgorithm → List ℕ) → 20 ≤ length message
-    → standing keys (with_integrity message algorithm (keys algorithm)) (length message, integrity_attribute message algorithm (keys algorithm)) ≡ Some algorithm
-standing-signed message Sha1 keys long =
+verified_at-signed : (message : List ℕ) (algorithm : IntegrityAlgorithm) (keys : IntegrityAlgorithm → List ℕ) → 20 ≤ length message
+    → verified_at keys (with_integrity message algorithm (keys algorithm)) (length message, integrity_attribute message algorithm (keys algorithm)) ≡ Some algorithm
+verified_at-signed message Sha1 keys long =
     let key = keys Sha1 in
     let digests = is_digest-equal (with_integrity message Sha1 key) key (length message, integrity_attribute message Sha1 key)
     (length-digest Sha1 key (covered_at_end message Sha1)) (ap (digest Sha1 key) (covers-signed message Sha1 key long)) in
     rw digests refl
-standing-signed message Sha256 keys long =
+verified_at-signed message Sha256 keys long =
     let key = keys Sha256 in
     let digests = is_digest-equal (with_integrity message Sha256 key) key (length message, integrity_attribute message Sha256 key)
     (length-digest Sha256 key (covered_at_end message Sha256)) (ap (digest Sha256 key) (covers-signed message Sha256 key long)) in
     rw digests refl
 
 -- what is signed verifies
-pub stands_by-signed : (message : List ℕ) (algorithm : IntegrityAlgorithm) (keys : IntegrityAlgorithm → List ℕ) → IsOpen message
-    → length_with message (digest_length algorithm) ≤ max_length → stands_by keys (with_integrity message algorithm (keys algorithm)) ≡ Some algorithm
-stands_by-signed message algorithm keys is_open short =
+pub verified_by-signed : (message : List ℕ) (algorithm : IntegrityAlgorithm) (keys : IntegrityAlgorithm → List ℕ) → IsOpen message
+    → length_with message (digest_length algorithm) ≤ max_length → verified_by keys (with_integrity message algorithm (keys algorithm)) ≡ Some algorithm
+verified_by-signed message algorithm keys is_open short =
     let key = keys algorithm in
     let longer = with_integrity message algorithm key in
     let attribute = integrity_attribute message algorithm key in
@@ -126,7 +126,7 @@ stands_by-signed message algorithm keys is_open short =
     let more = HasOneMore-added message attribute is_open (IsAddable-integrity message algorithm key short) in
     let shown : visible longer ≡ walk message ++ m ∷ [] = more.visible_is ∙ ap (λ ms. ms ++ m ∷ []) (visible-open message is_open) in
     let decides = deciding-signed message longer algorithm attribute.value (HideNone-open message is_open) shown in
-    ap (option_and_then (standing keys longer)) decides ∙ standing-signed message algorithm keys is_open.is_message.header.is_whole
+    ap (option_and_then (verified_at keys longer)) decides ∙ verified_at-signed message algorithm keys is_open.is_message.header.is_whole
 
 -- and it has one attribute more
 pub HasOneMore-signed : (message : List ℕ) (algorithm : IntegrityAlgorithm) (key : List ℕ) → IsOpen message → length_with message (digest_length algorithm) ≤ max_length

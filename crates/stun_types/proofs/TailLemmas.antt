@@ -5,7 +5,7 @@ use Rattle.std.specs.Option.{option_or, option_and_then}
 use Rattle.std.proofs.lemmas.List.{length-take-le}
 use Rattle.stun_base.specs.Attributes.{MESSAGE_INTEGRITY, MESSAGE_INTEGRITY_SHA256}
 use Rattle.stun_base.specs.declared.algorithm.IntegrityAlgorithm.{IntegrityAlgorithm}
-use Rattle.stun_types.specs.Integrity.{covered, deciding, first_of, standing, stands_by}
+use Rattle.stun_types.specs.Integrity.{covered, deciding, first_of, verified_at, verified_by}
 use Rattle.stun_types.specs.Message.{with_length}
 use Rattle.stun_types.specs.Visible.{visible}
 use Rattle.stun_types.specs.Walk.{Member}
@@ -36,9 +36,9 @@ covered-same bytes others m count long other_long same =
     sym (with_length-again (take m.0 bytes) 0 n long) ∙ (ap (λ xs. with_length xs n) same ∙ with_length-again (take m.0 others) 0 n other_long)
 
 -- so the same digest verifies
-pub stands_by-tail : (keys : IntegrityAlgorithm → List ℕ) (bytes others : List ℕ) (m : Member) → deciding bytes ≡ Some m → deciding others ≡ Some m
-    → with_length (take m.0 bytes) 0 ≡ with_length (take m.0 others) 0 → stands_by keys bytes ≡ stands_by keys others
-stands_by-tail keys bytes others m decides other_decides same =
+pub verified_by-tail : (keys : IntegrityAlgorithm → List ℕ) (bytes others : List ℕ) (m : Member) → deciding bytes ≡ Some m → deciding others ≡ Some m
+    → with_length (take m.0 bytes) 0 ≡ with_length (take m.0 others) 0 → verified_by keys bytes ≡ verified_by keys others
+verified_by-tail keys bytes others m decides other_decides same =
     let covers = covered-same bytes others m (length m.1.value) (long_before bytes m decides) (long_before others m other_decides) same in
-    ap (option_and_then (standing keys bytes)) decides
-    ∙ (rw covers refl ∙ sym (ap (option_and_then (standing keys others)) other_decides))
+    ap (option_and_then (verified_at keys bytes)) decides
+    ∙ (rw covers refl ∙ sym (ap (option_and_then (verified_at keys others)) other_decides))

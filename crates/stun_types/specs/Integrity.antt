@@ -29,26 +29,26 @@ abbrev pub covered : List ℕ → ℕ → ℕ → List ℕ
 covered bytes place count = with_length (take place bytes) (place + 4 + count - HEADER_LENGTH)
 
 -- the algorithm of an integrity attribute
-abbrev pub algorithm_of : TypedValue → IntegrityAlgorithm
-algorithm_of attribute = if attribute.kind == MESSAGE_INTEGRITY_SHA256 then Sha256 else Sha1
+abbrev pub integrity_algorithm : TypedValue → IntegrityAlgorithm
+integrity_algorithm attribute = if attribute.kind == MESSAGE_INTEGRITY_SHA256 then Sha256 else Sha1
 
 -- whether a member's value is the whole digest, under a key, of what it covers
 abbrev pub is_digest : List ℕ → List ℕ → Member → Bool
 is_digest bytes key m =
-    (length m.1.value == digest_length (algorithm_of m.1))
-    && pointwise nat_eq m.1.value (digest (algorithm_of m.1) key (covered bytes m.0 (length m.1.value)))
+    (length m.1.value == digest_length (integrity_algorithm m.1))
+    && pointwise nat_eq m.1.value (digest (integrity_algorithm m.1) key (covered bytes m.0 (length m.1.value)))
 
 -- the algorithm of a member whose value is its digest under that algorithm's key
-abbrev pub standing : (IntegrityAlgorithm → List ℕ) → List ℕ → Member → Option IntegrityAlgorithm
-standing keys bytes m = if is_digest bytes (keys (algorithm_of m.1)) m then Some (algorithm_of m.1) else None
+abbrev pub verified_at : (IntegrityAlgorithm → List ℕ) → List ℕ → Member → Option IntegrityAlgorithm
+verified_at keys bytes m = if is_digest bytes (keys (integrity_algorithm m.1)) m then Some (integrity_algorithm m.1) else None
 
 -- the algorithm whose digest verifies, if one does, where each algorithm has a key of its own (section 9.2.2)
-abbrev pub stands_by : (IntegrityAlgorithm → List ℕ) → List ℕ → Option IntegrityAlgorithm
-stands_by keys bytes = option_and_then (standing keys bytes) (deciding bytes)
+abbrev pub verified_by : (IntegrityAlgorithm → List ℕ) → List ℕ → Option IntegrityAlgorithm
+verified_by keys bytes = option_and_then (verified_at keys bytes) (deciding bytes)
 
 -- the algorithm whose digest verifies under one key for both, if one does (section 9.1)
-abbrev pub stands : List ℕ → List ℕ → Option IntegrityAlgorithm
-stands bytes key = stands_by (λ _. key) bytes
+abbrev pub verified_algorithm : List ℕ → List ℕ → Option IntegrityAlgorithm
+verified_algorithm bytes key = verified_by (λ _. key) bytes
 
 -- whether the value of an integrity attribute is well formed: a SHA-256 digest may be cut short to 16 bytes or more
 abbrev pub is_well_formed : TypedValue → Bool

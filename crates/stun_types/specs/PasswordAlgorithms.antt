@@ -57,19 +57,19 @@ entries (a ∷ b ∷ c ∷ []) = None
 entries (a ∷ b ∷ c ∷ d ∷ rest) = in_front_of (entries rest) (entry_at_front (a ∷ b ∷ c ∷ d ∷ []))
 
 -- the list in a PASSWORD-ALGORITHMS; it may be empty
-abbrev pub algorithms_of : TypedValue → Option (List PasswordAlgorithmValue)
-algorithms_of attribute = if attribute.kind == PASSWORD_ALGORITHMS then entries attribute.value else None
+abbrev pub password_algorithms_in : TypedValue → Option (List PasswordAlgorithmValue)
+password_algorithms_in attribute = if attribute.kind == PASSWORD_ALGORITHMS then entries attribute.value else None
 
 -- the algorithm in a PASSWORD-ALGORITHM: exactly one entry
-abbrev pub algorithm_of : TypedValue → Option PasswordAlgorithmValue
-algorithm_of attribute =
+abbrev pub password_algorithm_in : TypedValue → Option PasswordAlgorithmValue
+password_algorithm_in attribute =
     if attribute.kind == PASSWORD_ALGORITHM && (length attribute.value == 4) then entry_at_front attribute.value else None
 
 -- an algorithm that is written is read again
-pub algorithm_of-written : (algorithm : PasswordAlgorithmValue) → Unit {0}
-    → algorithm_of (record { kind = PASSWORD_ALGORITHM; value = spelled_entry algorithm }) ≡ Some algorithm
-algorithm_of-written MD5 holds = refl
-algorithm_of-written SHA256 holds = refl
+pub password_algorithm_in-written : (algorithm : PasswordAlgorithmValue) → Unit {0}
+    → password_algorithm_in (record { kind = PASSWORD_ALGORITHM; value = spelled_entry algorithm }) ≡ Some algorithm
+password_algorithm_in-written MD5 holds = refl
+password_algorithm_in-written SHA256 holds = refl
 
 -- an algorithm in front of a list whose entries are read again
 in_front : (list : List PasswordAlgorithmValue) (bytes : List ℕ) (algorithm : PasswordAlgorithmValue)
@@ -83,6 +83,6 @@ entries-written [] = refl
 entries-written (algorithm ∷ list) = in_front list (spelled_entries list) algorithm (entries-written list)
 
 -- a list that is written is read again
-pub algorithms_of-written : (list : List PasswordAlgorithmValue) → Unit {0}
-    → algorithms_of (record { kind = PASSWORD_ALGORITHMS; value = spelled_entries list }) ≡ Some list
-algorithms_of-written list holds = entries-written list
+pub password_algorithms_in-written : (list : List PasswordAlgorithmValue) → Unit {0}
+    → password_algorithms_in (record { kind = PASSWORD_ALGORITHMS; value = spelled_entries list }) ≡ Some list
+password_algorithms_in-written list holds = entries-written list

@@ -11,7 +11,7 @@ use Rattle.stun_base.specs.declared.message_type.MessageClass.{MessageClass}
 use Rattle.stun_base.specs.declared.error.StunWriteError.TheVariants.{NotAllowed, MessageIntegrityExists, AttributeExists, OutOfMemory, TooLarge, TooSmall}
 use Rattle.stun_types.specs.Attribute.{TypedValue, attribute_length}
 use Rattle.stun_types.specs.Grammar.{spelled, spelled_attribute}
-use Rattle.stun_types.specs.Integrity.{covered, stands_by}
+use Rattle.stun_types.specs.Integrity.{covered, verified_by}
 use Rattle.stun_types.specs.Message.{IsMessage, with_length}
 use Rattle.stun_types.specs.Visible.{has_kind, visible}
 use Rattle.stun_types.specs.Walk.{walk}
@@ -107,7 +107,7 @@ GainsIntegrity before after algorithm key = GainsOne before after (integrity_att
 -- an open message that was signed verifies by this algorithm, under each choice of keys that has this key for it
 abbrev pub VerifiesAfter : List ℕ → List ℕ → IntegrityAlgorithm → List ℕ → Type 0
 VerifiesAfter before after algorithm key =
-    IsOpen before → (keys : IntegrityAlgorithm → List ℕ) → keys algorithm ≡ key → stands_by keys after ≡ Some algorithm
+    IsOpen before → (keys : IntegrityAlgorithm → List ℕ) → keys algorithm ≡ key → verified_by keys after ≡ Some algorithm
 
 -- a message that was written attribute by attribute is written with one more
 abbrev pub SpellsOneMore : List ℕ → List ℕ → TypedValue → Type 0

@@ -6,7 +6,7 @@ ghost use Rattle.stun_base.specs.Header.{HEADER_LENGTH as header_length};
 ghost use Rattle.stun_base.specs.Keys.OfCredentials.{keys_of};
 ghost use Rattle.stun_types.specs.Visible.{visible};
 ghost use Rattle.stun_types.specs.code.Walk.{IsWithin};
-ghost use Rattle.stun_types.specs.Integrity.{first_of as first_member_of, algorithm_of, deciding, is_digest, is_well_formed, stands, stands_by, integrity_refusal};
+ghost use Rattle.stun_types.specs.Integrity.{first_of as first_member_of, integrity_algorithm, deciding, is_digest, is_well_formed, verified_algorithm, verified_by, integrity_refusal};
 
 use crate::attribute::{ATTRIBUTE_HEADER_LENGTH, AttributeType, RawAttribute};
 use crate::message::{Message, StunParseError, ValidateError};
@@ -53,8 +53,8 @@ fn deciding_attribute<'a>(message: &Message<'a>) -> Option<(usize, RawAttribute<
 }
 
 /// The algorithm of an integrity attribute.
-fn algorithm_of(attribute: &RawAttribute<'_>) -> IntegrityAlgorithm
-    ensures { result ≡ algorithm_of attribute.now }
+fn integrity_algorithm(attribute: &RawAttribute<'_>) -> IntegrityAlgorithm
+    ensures { result ≡ integrity_algorithm attribute.now }
 {
     if attribute.get_type() == AttributeType::MESSAGE_INTEGRITY_SHA256 {
         IntegrityAlgorithm::Sha256
@@ -68,7 +68,7 @@ pub(crate) fn is_well_formed(attribute: &RawAttribute<'_>) -> bool
     ensures { result ≡ is_well_formed attribute.now }
 {
     let length = attribute.length();
-    match algorithm_of(attribute) {
+    match integrity_algorithm(attribute) {
         IntegrityAlgorithm::Sha1 => length == SHA1_LENGTH,
         IntegrityAlgorithm::Sha256 => {
             (MIN_SHA256_LENGTH..=SHA256_LENGTH).contains(&length) && length % 4 == 0
@@ -79,12 +79,12 @@ pub(crate) fn is_well_formed(attribute: &RawAttribute<'_>) -> bool
 /// The attribute whose digest is to be compared, with its place, or why no digest can verify.
 fn claimed_digest<'a>(message: &Message<'a>) -> Result<(usize, RawAttribute<'a>), ValidateError>
     ensures deciding { IfOk result (λ m. deciding message.now ≡ Some m) }
-    ensures whole { IfOk result (λ m. length m.1.value ≡ digest_length (algorithm_of m.1)) }
+    ensures whole { IfOk result (λ m. length m.1.value ≡ digest_length (integrity_algorithm m.1)) }
     ensures within { IfOk result (IsWithin message.now) }
     ensures compared { OnOk result (integrity_refusal message.now ≡ ValidateError.IntegrityFailed) }
     ensures refused { IfErr result (λ error. error ≡ integrity_refusal message.now) }
     ensures none { IfErr result (λ _.
-        (keys : IntegrityAlgorithm → List ℕ) → stands_by keys message.now ≡ None) }
+        (keys : IntegrityAlgorithm → List ℕ) → verified_by keys message.now ≡ None) }
 {
     let Some((place, attribute)) = deciding_attribute(message) else {
         return Err(ValidateError::Parse(StunParseError::MissingAttribute(
@@ -98,10 +98,10 @@ fn claimed_digest<'a>(message: &Message<'a>) -> Result<(usize, RawAttribute<'a>)
 /// Refuses the value of an integrity attribute that is no whole digest.
 fn check_whole(attribute: &RawAttribute<'_>) -> Result<(), ValidateError>
     ensures whole { OnOk result (length attribute.now.value
-        ≡ digest_length (algorithm_of attribute.now)) }
+        ≡ digest_length (integrity_algorithm attribute.now)) }
     ensures well_formed { OnOk result (is_well_formed attribute.now ≡ true) }
     ensures not_whole { OnErr result
-        ((length attribute.now.value == digest_length (algorithm_of attribute.now)) ≡ false) }
+        ((length attribute.now.value == digest_length (integrity_algorithm attribute.now)) ≡ false) }
     ensures refused { IfErr result (λ error. error
         ≡ (if is_well_formed attribute.now then ValidateError.IntegrityFailed
         else ValidateError.Parse StunParseError.InvalidAttributeData)) }
@@ -109,7 +109,7 @@ fn check_whole(attribute: &RawAttribute<'_>) -> Result<(), ValidateError>
     if !is_well_formed(attribute) {
         return Err(ValidateError::Parse(StunParseError::InvalidAttributeData));
     }
-    if attribute.length() != algorithm_of(attribute).digest_length() {
+    if attribute.length() != integrity_algorithm(attribute).digest_length() {
         return Err(ValidateError::IntegrityFailed);
     }
     Ok(())
@@ -129,13 +129,13 @@ fn is_digest(message: &[u8], key: &[u8], place: usize, attribute: &RawAttribute<
     requires behind_header { header_length ≤ place }
     requires within { place + 4 + length attribute.now.value ≤ length message.now }
     requires limit { length message.now < header_length + 2 ^ 16 }
-    requires whole { length attribute.now.value ≡ digest_length (algorithm_of attribute.now) }
+    requires whole { length attribute.now.value ≡ digest_length (integrity_algorithm attribute.now) }
     ensures { result ≡ is_digest message.now key.now (place, attribute.now) }
 {
     let length = covered_length(place, attribute.length()).to_be_bytes();
     let pieces = [&message[..2], &length, &message[4..place]];
     let claimed = attribute.value();
-    match algorithm_of(attribute) {
+    match integrity_algorithm(attribute) {
         IntegrityAlgorithm::Sha1 => is_same_text(claimed, &hmac_sha1(key, &pieces)),
         IntegrityAlgorithm::Sha256 => is_same_text(claimed, &hmac_sha256(key, &pieces)),
     }
@@ -164,13 +164,13 @@ impl Message<'_> {
         credentials: &MessageIntegrityCredentials<A>,
     ) -> Result<IntegrityAlgorithm, ValidateError>
         ensures ok { IfOk result (λ algorithm.
-            stands_by (keys_of credentials.now) self.now ≡ Some algorithm) }
+            verified_by (keys_of credentials.now) self.now ≡ Some algorithm) }
         ensures refused { IfErr result (λ error.
-            (stands_by (keys_of credentials.now) self.now ≡ None)
+            (verified_by (keys_of credentials.now) self.now ≡ None)
             × (error ≡ integrity_refusal self.now)) }
     {
         let (place, attribute) = claimed_digest(self)?;
-        let algorithm = algorithm_of(&attribute);
+        let algorithm = integrity_algorithm(&attribute);
         let key = credentials.key(algorithm);
         if !is_digest(self.as_bytes(), key.as_bytes(), place, &attribute) {
             return Err(ValidateError::IntegrityFailed);
@@ -189,9 +189,9 @@ impl Message<'_> {
         &self,
         key: &IntegrityKey<A>,
     ) -> Result<IntegrityAlgorithm, ValidateError>
-        ensures ok { IfOk result (λ algorithm. stands self.now key.now ≡ Some algorithm) }
+        ensures ok { IfOk result (λ algorithm. verified_algorithm self.now key.now ≡ Some algorithm) }
         ensures refused { IfErr result (λ error.
-            (stands self.now key.now ≡ None) × (error ≡ integrity_refusal self.now)) }
+            (verified_algorithm self.now key.now ≡ None) × (error ≡ integrity_refusal self.now)) }
     {
         self.validate_integrity_with_key_bytes(key.as_bytes())
     }
@@ -201,15 +201,15 @@ impl Message<'_> {
         &self,
         key: &[u8],
     ) -> Result<IntegrityAlgorithm, ValidateError>
-        ensures ok { IfOk result (λ algorithm. stands self.now key.now ≡ Some algorithm) }
+        ensures ok { IfOk result (λ algorithm. verified_algorithm self.now key.now ≡ Some algorithm) }
         ensures refused { IfErr result (λ error.
-            (stands self.now key.now ≡ None) × (error ≡ integrity_refusal self.now)) }
+            (verified_algorithm self.now key.now ≡ None) × (error ≡ integrity_refusal self.now)) }
     {
         let (place, attribute) = claimed_digest(self)?;
         if !is_digest(self.as_bytes(), key, place, &attribute) {
             return Err(ValidateError::IntegrityFailed);
         }
-        Ok(algorithm_of(&attribute))
+        Ok(integrity_algorithm(&attribute))
     }
 
     /// The same as `validate_integrity_with_key`, where the caller has found the attribute that decides and its place already:
@@ -221,14 +221,14 @@ impl Message<'_> {
         key: &IntegrityKey<A>,
     ) -> Result<IntegrityAlgorithm, ValidateError>
         requires { deciding self.now ≡ Some (place, attribute.now) }
-        ensures ok { IfOk result (λ algorithm. stands self.now key.now ≡ Some algorithm) }
+        ensures ok { IfOk result (λ algorithm. verified_algorithm self.now key.now ≡ Some algorithm) }
         ensures refused { IfErr result (λ error.
-            (stands self.now key.now ≡ None) × (error ≡ integrity_refusal self.now)) }
+            (verified_algorithm self.now key.now ≡ None) × (error ≡ integrity_refusal self.now)) }
     {
         check_whole(attribute)?;
         if !is_digest(self.as_bytes(), key.as_bytes(), place, attribute) {
             return Err(ValidateError::IntegrityFailed);
         }
-        Ok(algorithm_of(attribute))
+        Ok(integrity_algorithm(attribute))
     }
 }

@@ -6,7 +6,7 @@ ghost use Rattle.stun_base.specs.Algorithm.{digest_length};
 ghost use Rattle.stun_base.specs.Attributes.{FINGERPRINT, MESSAGE_INTEGRITY, MESSAGE_INTEGRITY_SHA256};
 ghost use Rattle.stun_types.specs.Attribute.{TypedValue};
 ghost use Rattle.stun_types.specs.Grammar.{spelled, SpellsWhatIsFound, FindsWhatIsSpelled, FindsWhatIsWritten};
-ghost use Rattle.stun_types.specs.Integrity.{deciding, stands, stands_by};
+ghost use Rattle.stun_types.specs.Integrity.{deciding, verified_algorithm, verified_by};
 ghost use Rattle.stun_types.specs.Limits.{max_length};
 ghost use Rattle.stun_types.specs.Message.{with_length};
 ghost use Rattle.stun_types.specs.Visible.{of_kind, visible};
@@ -60,11 +60,11 @@ pub fn writing_adds_one_attribute()
 pub fn signed_message_stands()
     ensures stands { (message : List ℕ) (algorithm : IntegrityAlgorithm) (key : List ℕ)
         → IsOpen message → length_with message (digest_length algorithm) ≤ max_length
-        → stands (with_integrity message algorithm key) key ≡ Some algorithm }
+        → verified_algorithm (with_integrity message algorithm key) key ≡ Some algorithm }
     ensures stands_by { (message : List ℕ) (algorithm : IntegrityAlgorithm)
         (keys : IntegrityAlgorithm → List ℕ)
         → IsOpen message → length_with message (digest_length algorithm) ≤ max_length
-        → stands_by keys (with_integrity message algorithm (keys algorithm)) ≡ Some algorithm }
+        → verified_by keys (with_integrity message algorithm (keys algorithm)) ≡ Some algorithm }
     ensures added { (message : List ℕ) (algorithm : IntegrityAlgorithm) (key : List ℕ)
         → IsOpen message → length_with message (digest_length algorithm) ≤ max_length
         → HasOneMore message (with_integrity message algorithm key)
@@ -77,7 +77,7 @@ pub fn tail_does_not_count()
     ensures { (keys : IntegrityAlgorithm → List ℕ) (bytes others : List ℕ) (m : Member)
         → deciding bytes ≡ Some m → deciding others ≡ Some m
         → with_length (take m.0 bytes) 0 ≡ with_length (take m.0 others) 0
-        → stands_by keys bytes ≡ stands_by keys others }
+        → verified_by keys bytes ≡ verified_by keys others }
 {}
 
 /// Messages are equal where their bytes are.

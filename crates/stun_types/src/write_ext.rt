@@ -7,7 +7,7 @@ ghost use Rattle.stun_base.specs.Keys.OfCredentials.{keys_of};
 ghost use Rattle.stun_base.specs.MessageType.{class_of, IsResponse};
 ghost use Rattle.stun_types.specs.Attribute.{TypedValue, attribute_length};
 ghost use Rattle.stun_types.specs.Grammar.{spelled, spelled_attribute};
-ghost use Rattle.stun_types.specs.Integrity.{stands_by};
+ghost use Rattle.stun_types.specs.Integrity.{verified_by};
 ghost use Rattle.stun_types.specs.Limits.{max_length};
 ghost use Rattle.stun_types.specs.Visible.{has_kind};
 ghost use Rattle.stun_types.specs.Walk.{walk};

@@ -4,7 +4,7 @@ use Rattle.std.specs.Option.{option_and_then, option_copied, option_map}
 use Rattle.stun_base.specs.declared.message_type.MessageClass.{MessageClass}
 use Rattle.stun_types.specs.Attribute.{TypedValue}
 use Rattle.stun_types.specs.ErrorCode.{CodeAndReason, error_of}
-use Rattle.stun_types.specs.Integrity.{stands}
+use Rattle.stun_types.specs.Integrity.{verified_algorithm}
 use Rattle.stun_types.specs.PasswordAlgorithms.{integrity_of}
 use Rattle.stun_auth.specs.Reading as spec
 use Rattle.stun_auth.specs.Reading.{is_error}
@@ -20,7 +20,7 @@ reading_seen r = record {
   userhash = r.userhash;
   algorithms = option_map (map integrity_of) r.algorithms;
   algorithm = r.algorithm;
-  integrity = if r.has_integrity then Some (stands r.signature) else None;
+  integrity = if r.has_integrity then Some (verified_algorithm r.signature) else None;
 }
 
 -- the code that the last ERROR-CODE of a message of a class tells

@@ -231,7 +231,7 @@ impl<A: Allocator + Copy> LongTermServerAuth<A> {
         let Some(key) = self.registry.key(client.name.as_str(), client.algorithm) else {
             return Err(LongTermServerAuthErrorReason::IntegrityFailed);
         };
-        match reading.stands_under(key) {
+        match reading.verified_under(key) {
             Some(algorithm) => Ok(LongTermServerValidation::Validated(algorithm)),
             None => Err(LongTermServerAuthErrorReason::IntegrityFailed),
         }

@@ -33,13 +33,13 @@ pub(crate) fn judged<A: Allocator + Copy>(
 {
     let mut source = WordSource::new(words);
     match server.validate_incoming_message(message, from, now, &mut source) {
-        Ok(validation) => Ok(Ok(algorithm_of(validation))),
+        Ok(validation) => Ok(Ok(validated_algorithm(validation))),
         Err(error) => server_refusal(error.reason()),
     }
 }
 
 /// The algorithm with which a message is accepted.
-fn algorithm_of(validation: LongTermServerValidation) -> IntegrityAlgorithm
+fn validated_algorithm(validation: LongTermServerValidation) -> IntegrityAlgorithm
     ensures { LongTermServerValidation.Validated result ≡ validation }
 {
     match validation {

@@ -2,7 +2,7 @@
 
 ghost use Rattle.std.specs.Prelude.{◌≡◌, ◌≤◌, length};
 ghost use Rattle.stun_base.specs.Attributes.{PASSWORD_ALGORITHM};
-ghost use Rattle.stun_types.specs.PasswordAlgorithms.{algorithm_of, algorithm_of-written, entry_at_front, integrity_of, password_algorithm_of, spelled_entry};
+ghost use Rattle.stun_types.specs.PasswordAlgorithms.{password_algorithm_in, password_algorithm_in-written, entry_at_front, integrity_of, password_algorithm_of, spelled_entry};
 
 use crate::append::append_attribute;
 use crate::attribute::{
@@ -138,9 +138,9 @@ impl Attribute for PasswordAlgorithm {
 }
 
 impl<'a> AttributeFromRaw<'a> for PasswordAlgorithm {
-    ghost reading = { algorithm_of };
+    ghost reading = { password_algorithm_in };
 
-    ghost reads_back = { algorithm_of-written };
+    ghost reads_back = { password_algorithm_in-written };
 
     fn from_raw(raw: RawAttribute<'a>) -> Result<Self, StunParseError> {
         if raw.get_type() != Self::TYPE || raw.length() != ENTRY_LENGTH {

@@ -3,7 +3,7 @@
 ghost use Rattle.std.specs.Prelude.{◌≡◌, ◌≤◌, ◌<◌, ◌+◌, ◌*◌, ◌/◌, ◌++◌, ◌↔◌, [], IsTrue, length, ⊤};
 ghost use Rattle.std.specs.List.{Contains, slice_get};
 ghost use Rattle.stun_base.specs.Attributes.{PASSWORD_ALGORITHMS};
-ghost use Rattle.stun_types.specs.PasswordAlgorithms.{algorithms_of, algorithms_of-written, spelled_entries};
+ghost use Rattle.stun_types.specs.PasswordAlgorithms.{password_algorithms_in, password_algorithms_in-written, spelled_entries};
 ghost use Rattle.stun_types.specs.code.PasswordAlgorithms.{are_entries, entry_list};
 
 use crate::append::{append_header, append_padding};
@@ -209,9 +209,9 @@ impl<'a> Attribute for PasswordAlgorithms<'a> {
 }
 
 impl<'a> AttributeFromRaw<'a> for PasswordAlgorithms<'a> {
-    ghost reading = { algorithms_of };
+    ghost reading = { password_algorithms_in };
 
-    ghost reads_back = { algorithms_of-written };
+    ghost reads_back = { password_algorithms_in-written };
 
     fn from_raw(raw: RawAttribute<'a>) -> Result<Self, StunParseError> {
         let bytes = raw.value();

@@ -11,7 +11,7 @@ use Rattle.stun_state.proofs.server.validate_message.Goals as goal
 pub returns-in-Ok-clause-answer : goal.returns-in-Ok-clause-answer
 returns-in-Ok-clause-answer c =
     let drawn = next_words-source 16 c.new-source.result c.new-source.ensures.count ∙ c.new-source.ensures.words in
-    ap validation_answer (ap Ok c.algorithm_of.ensures ∙ c.in-Ok.ensures.answer
+    ap validation_answer (ap Ok c.validated_algorithm.ensures ∙ c.in-Ok.ensures.answer
     ∙ ap (λ ws. answer (sight c.args.server.now c.args.from) c.args.now ws (reading_of c.args.message.now)) drawn)
 
 pub returns-in-Ok-clause-state : goal.returns-in-Ok-clause-state

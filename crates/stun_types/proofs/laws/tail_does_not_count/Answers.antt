@@ -1,5 +1,5 @@
-use Rattle.stun_types.proofs.TailLemmas.{stands_by-tail}
+use Rattle.stun_types.proofs.TailLemmas.{verified_by-tail}
 use Rattle.stun_types.proofs.laws.tail_does_not_count.Goals as goal
 
 pub returns : goal.returns
-returns c = stands_by-tail
+returns c = verified_by-tail

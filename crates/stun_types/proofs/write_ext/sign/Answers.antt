@@ -1,9 +1,9 @@
 use Rattle.std.proofs.Common.{subst, sym, ◌≡◌, ◌+◌, ◌-◌, ◌^◌, min, length, arith, ap, ◌∙◌}
 use Rattle.stun_base.specs.Algorithm.{digest_length}
 use Rattle.stun_types.specs.Message.{with_length}
-use Rattle.stun_types.specs.Integrity.{stands_by}
+use Rattle.stun_types.specs.Integrity.{verified_by}
 use Rattle.stun_types.specs.Writing.{HasOneMore, integrity_attribute, length_with, with_integrity}
-use Rattle.stun_types.proofs.SigningLemmas.{HasOneMore-signed, stands_by-signed}
+use Rattle.stun_types.proofs.SigningLemmas.{HasOneMore-signed, verified_by-signed}
 use Rattle.stun_types.proofs.WritingLemmas.{with_integrity-signed}
 use Rattle.stun_types.proofs.write_ext.sign.Goals as goal
 
@@ -26,4 +26,4 @@ pub returns-clause-stands : goal.returns-clause-stands
 returns-clause-stands g c is_open keys is_key =
     let message = g.W.MessageWrite.bytes c.args.writer.now in
     let written = returns-clause-bytes g c ∙ ap (with_integrity message c.args.algorithm) (sym is_key) in
-    ap (stands_by keys) written ∙ stands_by-signed message c.args.algorithm keys is_open c.requires.short
+    ap (verified_by keys) written ∙ verified_by-signed message c.args.algorithm keys is_open c.requires.short

@@ -5,8 +5,8 @@ use Rattle.std.specs.Option.{option_and_then, option_map}
 use Rattle.stun_base.specs.Attributes.{ERROR_CODE, NONCE, PASSWORD_ALGORITHM, PASSWORD_ALGORITHMS, REALM, USERHASH, USERNAME}
 use Rattle.stun_base.specs.declared.message_type.MessageClass.{MessageClass}
 use Rattle.stun_types.specs.ErrorCode.{CodeAndReason, error_of}
-use Rattle.stun_types.specs.Integrity.{stands}
-use Rattle.stun_types.specs.PasswordAlgorithms.{algorithm_of, algorithms_of, integrity_of}
+use Rattle.stun_types.specs.Integrity.{verified_algorithm}
+use Rattle.stun_types.specs.PasswordAlgorithms.{password_algorithm_in, password_algorithms_in, integrity_of}
 use Rattle.stun_types.specs.Text.{text_of}
 use Rattle.stun_types.specs.Userhash.{hash_of}
 use Rattle.stun_types.specs.Visible.{visible}
@@ -32,7 +32,7 @@ returns c =
       nonce = (c.nonce.ensures ∙ ap (option_and_then (text_of NONCE 763)) (ap (λ l. l.nonce) last) ∙ and_then-map (text_of NONCE 763) (λ m. m.1) (last_of NONCE members)) i;
       username = (c.username.ensures ∙ ap (option_and_then (text_of USERNAME 513)) (ap (λ l. l.username) last) ∙ and_then-map (text_of USERNAME 513) (λ m. m.1) (last_of USERNAME members)) i;
       userhash = (c.userhash.ensures ∙ ap (option_and_then hash_of) (ap (λ l. l.userhash) last) ∙ and_then-map hash_of (λ m. m.1) (last_of USERHASH members)) i;
-      algorithms = ap (option_map (map integrity_of)) (c.read.ensures ∙ ap (option_and_then algorithms_of) (ap (λ l. l.password_algorithms) last) ∙ and_then-map algorithms_of (λ m. m.1) (last_of PASSWORD_ALGORITHMS members)) i;
-      algorithm = (c.algorithm.ensures ∙ ap (option_map integrity_of) (ap (option_and_then algorithm_of) (ap (λ l. l.password_algorithm) last) ∙ and_then-map algorithm_of (λ m. m.1) (last_of PASSWORD_ALGORITHM members))) i;
-      integrity = ap (λ b. cond b (Some (stands message)) None) (ap (λ l. l.has_integrity) last) i;
+      algorithms = ap (option_map (map integrity_of)) (c.read.ensures ∙ ap (option_and_then password_algorithms_in) (ap (λ l. l.password_algorithms) last) ∙ and_then-map password_algorithms_in (λ m. m.1) (last_of PASSWORD_ALGORITHMS members)) i;
+      algorithm = (c.algorithm.ensures ∙ ap (option_map integrity_of) (ap (option_and_then password_algorithm_in) (ap (λ l. l.password_algorithm) last) ∙ and_then-map password_algorithm_in (λ m. m.1) (last_of PASSWORD_ALGORITHM members))) i;
+      integrity = ap (λ b. cond b (Some (verified_algorithm message)) None) (ap (λ l. l.has_integrity) last) i;
     }

@@ -13,7 +13,7 @@ use Rattle.stun_proto.proofs.replay.judging.judged.Goals as goal
 pub returns-in-Ok-clause-answer : goal.returns-in-Ok-clause-answer
 returns-in-Ok-clause-answer g c =
     let drawn = next_words-source 16 c.new-source.result c.new-source.ensures.count ∙ c.new-source.ensures.words in
-    ap Ok c.algorithm_of.ensures ∙ c.in-Ok.ensures.answer ∙ ap (λ ws. answer (sight c.args.server.now c.args.from) c.args.now ws (reading_of c.args.message.now)) drawn
+    ap Ok c.validated_algorithm.ensures ∙ c.in-Ok.ensures.answer ∙ ap (λ ws. answer (sight c.args.server.now c.args.from) c.args.now ws (reading_of c.args.message.now)) drawn
 
 pub returns-in-Ok-clause-server : goal.returns-in-Ok-clause-server
 returns-in-Ok-clause-server g c =

@@ -1,4 +1,6 @@
--- What a client's signing adds to a message (RFC 8489, section 9.2.5).
+-- What a client's signing adds to a message, one addition after another (RFC 8489, section 9.2.5): the order in which it is written,
+-- and in which it may be refused. `added_by_client` in Signed.antt says it by attribute, which is what a reader finds.
+-- `laws::sides_add_by_attribute` says that both add the same.
 use Rattle.std.specs.Prelude.{List, [], ◌∷◌, ◌++◌, Bool, true, false, if◌then◌else◌, Option, Some, None}
 use Rattle.stun_base.specs.declared.algorithm.IntegrityAlgorithm.{IntegrityAlgorithm}
 use Rattle.stun_base.specs.declared.message_type.MessageClass.{MessageClass}

@@ -1,4 +1,6 @@
--- What a server's signing adds to a message (RFC 8489, section 9.2.4).
+-- What a server's signing adds to a message, one addition after another (RFC 8489, section 9.2.4): the order in which it is written,
+-- and in which it may be refused, also where the client's user is gone and nothing but the digest fails. `added_by_server` in
+-- Signed.antt says it by attribute, which is what a reader finds. `laws::sides_add_by_attribute` says that both add the same.
 use Rattle.std.specs.Prelude.{ℕ, ◌+◌, List, [], ◌∷◌, ◌++◌, Bool, if◌then◌else◌, Option, Some, None, Result, Ok, Err}
 use Rattle.std.specs.declared.net.socket_addr.SocketAddr.{SocketAddr}
 use Rattle.stun_base.specs.Algorithm.{digest_length}

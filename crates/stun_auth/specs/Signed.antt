@@ -1,4 +1,6 @@
 -- What signing adds to a message, by attribute, and what is read of a message that was signed (RFC 8489, sections 9.2.3 to 9.2.5).
+-- ClientSigning.antt and ServerSigning.antt say what is added as a list, in the order in which it is written or refused; here it is
+-- a record, so that each field is what a reader finds of its type. `laws::sides_add_by_attribute` says that both add the same.
 use Rattle.std.specs.Prelude.{◌≡◌, ℕ, ◌+◌, ◌-◌, ◌≤◌, Bool, true, false, ◌||◌, if◌then◌else◌, List, [], ◌∷◌, length, Option, Some, None, IsUtf8}
 use Rattle.std.specs.List.{AllByRecursion}
 use Rattle.std.specs.Option.{IfSome, IsSomeAnd, is_some, option_map}

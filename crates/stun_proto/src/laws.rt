@@ -42,8 +42,9 @@ pub fn events_have_runs()
     ensures { EventsHaveRuns }
 {}
 
-/// The steps of a run and the counters of its agent tell the same: of requests that timed out or were cancelled, of indications and
-/// responses sent, and of bytes sent, retransmissions among them (RFC 8489, section 6.2). Whoever keeps the steps can do without counters.
+/// The steps of a run and the counters of its agent tell the same: of requests that timed out or were cancelled, of
+/// indications and responses sent, and of bytes sent, retransmissions among them (RFC 8489, section 6.2). Whoever keeps the
+/// steps can do without counters.
 pub fn runs_count_steps()
     ensures { RunsCountSteps }
 {}
@@ -55,9 +56,10 @@ pub fn runs_send_by_plan()
         → IsDriven until a events steps b → SendsByPlan until (requester a) events steps }
 {}
 
-/// The plan of one request, spelled out. With the default settings, over UDP: a transmission at 0, 500, 1500, 3500, 7500, 15500 and
-/// 31500 ms, and its time-out at 39500 ms. Over TCP: one transmission, and the time-out at the same moment (RFC 8489, sections
-/// 6.2.1 and 6.2.2). A new agent that is asked this request and nothing else meets the premise of `runs_send_by_plan`.
+/// The plan of one request, spelled out. With the default settings, over UDP: a transmission at 0, 500, 1500, 3500, 7500,
+/// 15500 and 31500 ms, and its time-out at 39500 ms. Over TCP: one transmission, and the time-out at the same moment (RFC
+/// 8489, sections 6.2.1 and 6.2.2). A new agent that is asked this request and nothing else meets the premise of
+/// `runs_send_by_plan`.
 pub fn plan_of_a_request()
     ensures udp { (to : Address) → plan Udp 0 default_settings 7 to binding_request ≡ udp_steps to }
     ensures tcp { (to : Address) → plan Tcp 0 default_settings 7 to binding_request ≡ tcp_steps to }
@@ -79,9 +81,9 @@ pub fn best_is_strongest()
     ensures { BestIsStrongest }
 {}
 
-/// Addresses can be dealt out to any number of servers that start alike, each of which takes the calls of its addresses and all
-/// calls that concern every address (users, settings, forgetting): each address then gets the replies that one server that takes all calls would give it, and the
-/// same is kept for it.
+/// Addresses can be dealt out to any number of servers that start alike, each of which takes the calls of its addresses and
+/// all calls that concern every address (users, settings, forgetting): each address then gets the replies that one server that
+/// takes all calls would give it, and the same is kept for it.
 pub fn shards_serve_as_one()
     ensures { ShardsServeAsOne }
 {}
@@ -111,13 +113,14 @@ pub fn short_names_are_signed()
     auth_laws::sides_sign_with_room();
 }
 
-/// A request of an authenticated client whose nonce has ended is answered `StaleNonce`, unless the nonce that is current by then is
-/// the old one, drawn again. Once the client has read one error of code 438 that the server signed, its request is accepted while
-/// that nonce is current (RFC 8489, sections 9.2.4 and 9.2.5). The messages are of any method, and have any attributes of their own
-/// but those that signing adds. Between them users and settings stay. Before the request other messages of the client's address may
-/// be read at any moment, so that one of them has made the nonce that is current; after it they are read while that nonce is
-/// current. Expired nonces are forgotten up to the end of the client's nonce before the request, and while the new one is current
-/// after it: a server that has removed the client of the address would forget the place.
+/// A request of an authenticated client whose nonce has ended is answered `StaleNonce`, unless the nonce that is current by
+/// then is the old one, drawn again. Once the client has read one error of code 438 that the server signed, its request is
+/// accepted while that nonce is current (RFC 8489, sections 9.2.4 and 9.2.5). The messages are of any method, and have any
+/// attributes of their own but those that signing adds. Between them users and settings stay. Before the request other
+/// messages of the client's address may be read at any moment, so that one of them has made the nonce that is current; after
+/// it they are read while that nonce is current. Expired nonces are forgotten up to the end of the client's nonce before the
+/// request, and while the new one is current after it: a server that has removed the client of the address would forget the
+/// place.
 pub fn nonce_is_renewed()
     ensures { NonceIsRenewed }
 {

@@ -185,7 +185,8 @@ impl<'a> Message<'a> {
         )
     }
 
-    /// A success response to a message, with its method and id and without attributes, in an empty writer. It refuses as `builder` does.
+    /// A success response to a message, with its method and id and without attributes, in an empty writer. It refuses as
+    /// `builder` does.
     pub fn builder_success<W: MessageWrite>(
         message: &Message<'_>,
         writer: W,

@@ -13,7 +13,8 @@ use stun_base::algorithm::IntegrityAlgorithm;
 use stun_base::error::{StunParseError, StunWriteError};
 use stun_base::instant::Instant;
 
-/// A call of a server. `Debug` shows which call it is and none of its values, whatever options a formatter has: a password is one.
+/// A call of a server. `Debug` shows which call it is and none of its values, whatever options a formatter has: a password is
+/// one.
 #[derive(Drop)]
 #[derive_where(PartialEq, Eq)]
 pub enum ServerCall {

@@ -26,19 +26,20 @@ use stun_types::message::Message;
 
 /// Makes the calls in their order, and answers the reply to each.
 ///
-/// The replies to an address are those of a run over its own calls and those that concern every address (on users and settings, and
-/// `ForgetExpired`): no call of another address has a part in them. A request or an indication is validated if and only if it has a
-/// realm, the nonce that is current at its address, consistent algorithms, and the digest under the key of the registered user whom
-/// it names (RFC 8489, section 9.2.4), at the place that its address's own earlier calls leave.
+/// The replies to an address are those of a run over its own calls and those that concern every address (on users and
+/// settings, and `ForgetExpired`): no call of another address has a part in them. A request or an indication is validated if
+/// and only if it has a realm, the nonce that is current at its address, consistent algorithms, and the digest under the key of
+/// the registered user whom it names (RFC 8489, section 9.2.4), at the place that its address's own earlier calls leave.
 ///
-/// The one error is that an allocation failed: the server is then as after the first `done` calls. The call whose allocation failed
-/// is none of them, unless it was complete and only its reply found no room.
+/// The one error is that an allocation failed: the server is then as after the first `done` calls. The call whose allocation
+/// failed is none of them, unless it was complete and only its reply found no room.
 pub fn serve<A: Allocator + Copy>(
     alloc: A,
     server: &mut LongTermServerAuth<A>,
     calls: &[ServerCall],
 ) -> Result<Vec<ServerReply<A>, A>, Stopped>
-    ensures headline { IfOk result (λ given. ValidatesEachCall message_read replies server.old calls.now (replies_of given.items)) }
+    ensures headline { IfOk result (λ given. ValidatesEachCall message_read replies
+        server.old calls.now (replies_of given.items)) }
     ensures replies { IfOk result (λ given. replies_of given.items ≡ replies server.old calls.now) }
     ensures server { OnOk result (server.new ≡ after_calls server.old calls.now) }
     ensures isolated { IfOk result (λ given. IsIsolated server.old calls.now

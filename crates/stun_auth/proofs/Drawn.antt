@@ -21,6 +21,11 @@ next_words-more n source = rw add-one (next_words-suc n source)
 pub after_words-more : (n : ℕ) (source : Stream) → after_words (n + 1) source ≡ (next_u32 (after_words n source)).1
 after_words-more n source = rw add-one (after_words-suc n source)
 
+pub length-next_words : (n : ℕ) (source : Stream) → length (next_words n source) ≡ n
+unfolding next_words
+length-next_words zero source = refl
+length-next_words (suc n) source = ap (λ k. suc k) (length-next_words n (next_u32 source).1)
+
 pub next_words-none : (source : Stream) → next_words 0 source ≡ []
 unfolding next_words
 next_words-none source = refl

@@ -21,6 +21,7 @@ pub mod Renamed
 pub mod SignedBases
 pub mod SignedBefore
 pub mod SignedGrowth
+pub mod SignedLimits
 pub mod SignedReading
 pub mod SignedRoom
 pub mod SignedSides

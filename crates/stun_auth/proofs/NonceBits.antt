@@ -88,19 +88,6 @@ asks_for_algorithms-nonce_of algorithms feature words = ap (first_has 0x80) (bit
 pub asks_for_userhash-nonce_of : (algorithms : AlgorithmSet) (feature : Feature) (words : List ℕ) → asks_for_userhash (nonce_of algorithms feature words) ≡ is_possible feature
 asks_for_userhash-nonce_of algorithms feature words = ap (first_has 0x40) (bits-nonce_of algorithms feature words) ∙ (asks_by_cases (contains Sha256 algorithms) (is_possible feature)).1
 
--- what a nonce that was made asks for
-pub asks_for_algorithms-made : {A E : Type 0} (algorithms : AlgorithmSet) (feature : Feature) (words : List ℕ) (made : Result (String A) E)
-    → IfOk made (λ text. string_bytes text ≡ nonce_of algorithms feature words)
-    → IfOk made (λ text. asks_for_algorithms (string_bytes text) ≡ contains Sha256 algorithms)
-asks_for_algorithms-made algorithms feature words (Ok text) is = ap asks_for_algorithms is ∙ asks_for_algorithms-nonce_of algorithms feature words
-asks_for_algorithms-made algorithms feature words (Err e) is = tt
-
-pub asks_for_userhash-made : {A E : Type 0} (algorithms : AlgorithmSet) (feature : Feature) (words : List ℕ) (made : Result (String A) E)
-    → IfOk made (λ text. string_bytes text ≡ nonce_of algorithms feature words)
-    → IfOk made (λ text. asks_for_userhash (string_bytes text) ≡ is_possible feature)
-asks_for_userhash-made algorithms feature words (Ok text) is = ap asks_for_userhash is ∙ asks_for_userhash-nonce_of algorithms feature words
-asks_for_userhash-made algorithms feature words (Err e) is = tt
-
 -- ---- bits that were spelled
 
 three_small : (a b c : ℕ) → a < 256 → b < 256 → c < 256 → IsBytes (a ∷ b ∷ c ∷ [])

@@ -218,10 +218,24 @@ added_by_server s response = added_at response s.registered s.place
 
 -- ---- unchecked signings
 
+-- as `IsSignable`, where a client adds: nonce and realm, which it read from a message, are within their limits at every client
+pub record IsSignableByClient (a : Added) (message : List ℕ) (room : ℕ) : Type 0 where
+  pub is_open : IsOpen message
+  pub none_there : AllByRecursion (λ kind. has_kind kind (walk message) ≡ false) (kinds_in (additions_of a))
+  pub username : IfSome a.username (λ text. length text ≤ 513)
+  pub has_room : HasRoomFor a message room
+
+-- as `IsSignable`, where a server adds: its nonces, which it made, are within their limit at every server, and it names no user
+pub record IsSignableByServer (a : Added) (message : List ℕ) (room : ℕ) : Type 0 where
+  pub is_open : IsOpen message
+  pub none_there : AllByRecursion (λ kind. has_kind kind (walk message) ≡ false) (kinds_in (additions_of a))
+  pub realm : IfSome a.realm (λ text. length text ≤ 763)
+  pub has_room : HasRoomFor a message room
+
 -- the caller of an unchecked signing at a client knows this
 abbrev pub ClientMaySign : Bool → ClientState → List ℕ → ℕ → Type 0
-ClientMaySign request state message room = IsSignable (added_by_client request state) message room
+ClientMaySign request state message room = IsSignableByClient (added_by_client request state) message room
 
 -- and at a server this, where the client's user and key are still there
 abbrev pub ServerMaySign : Sight → Bool → List ℕ → ℕ → Type 0
-ServerMaySign s response message room = IsSomeAnd (added_by_server s response) (λ a. IsSignable a message room)
+ServerMaySign s response message room = IsSomeAnd (added_by_server s response) (λ a. IsSignableByServer a message room)

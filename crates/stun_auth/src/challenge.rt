@@ -1,14 +1,14 @@
 //! A server's challenge, as a client takes it up and keeps it (RFC 8489, section 9.2.5).
-ghost use Rattle.std.specs.Prelude.{◌≡◌, IfOk, Ok, Err, Some, None, find, map};
+ghost use Rattle.std.specs.Prelude.{◌≡◌, ◌≤◌, IfOk, Ok, Err, Some, None, find, length, map};
 ghost use Rattle.std.specs.Option.{option_map};
 ghost use Rattle.stun_types.specs.PasswordAlgorithms.{integrity_of};
 ghost use Rattle.stun_auth.specs.ClientStep.{choose, choose_by_list, choose_without_bits, first_supported, is_required, list_or_none, naming_of, unless};
-ghost use Rattle.stun_auth.specs.code.ClientKept.{challenge_seen, naming_seen, offer_kept};
 ghost use Rattle.stun_auth.specs.Nonces.{asks_for_userhash};
 ghost use Rattle.stun_auth.specs.code.Supported.{in_order};
 
 use crate::feature::Feature;
 use crate::nonce::NonceSecurityBits;
+use crate::short_text::ShortText;
 use crate::supported::Supported;
 use std::alloc::{AllocError, Allocator};
 use stun_base::key::{long_term_key, userhash};
@@ -33,8 +33,8 @@ pub(crate) enum UserNaming<A: Allocator> {
 #[derive(Drop)]
 pub(crate) struct KeptChallenge<A: Allocator> {
     pub(crate) naming: UserNaming<A>,
-    pub(crate) realm: String<A>,
-    pub(crate) nonce: String<A>,
+    pub(crate) realm: ShortText<A>,
+    pub(crate) nonce: ShortText<A>,
     pub(crate) algorithms: Vec<PasswordAlgorithmValue, A>,
     pub(crate) algorithm: IntegrityAlgorithm,
     pub(crate) key: IntegrityKey<A>,
@@ -49,9 +49,12 @@ pub(crate) struct Offer<'a, 'm> {
     pub(crate) nonce: &'m str,
     pub(crate) list: Option<PasswordAlgorithms<'m>>,
     pub(crate) algorithm: IntegrityAlgorithm,
+    ghost short: { (length realm.now ≤ 763) × (length nonce.now ≤ 763) },
 }
 
 impl<A: Allocator + Copy> UserNaming<A> {
+    ghost use Rattle.stun_auth.specs.code.ClientKept.{naming_seen};
+
     /// The name of a user at a realm, as it is or hashed.
     fn new(alloc: A, hashes: bool, username: &str, realm: &str) -> Result<Self, AllocError>
         ensures { IfOk result (λ naming. naming_seen naming
@@ -66,6 +69,8 @@ impl<A: Allocator + Copy> UserNaming<A> {
 }
 
 impl Offer<'_, '_> {
+    ghost use Rattle.stun_auth.specs.code.ClientKept.{challenge_seen, offer_kept};
+
     /// What is kept of the challenge.
     pub(crate) fn kept<A: Allocator + Copy>(
         &self,
@@ -76,8 +81,8 @@ impl Offer<'_, '_> {
     {
         let hashes = asks_for_userhash(self.nonce) && feature.is_possible();
         let naming = UserNaming::new(alloc, hashes, self.username, self.realm)?;
-        let realm = String::from_str(alloc, self.realm)?;
-        let nonce = String::from_str(alloc, self.nonce)?;
+        let realm = ShortText::copied(alloc, self.realm)?;
+        let nonce = ShortText::copied(alloc, self.nonce)?;
         let algorithms = copied(alloc, &self.list)?;
         let key = long_term_key(
             alloc,

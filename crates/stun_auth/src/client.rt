@@ -17,6 +17,7 @@ use crate::client_answer::{
 };
 use crate::feature::Feature;
 use crate::reading::Reading;
+use crate::short_text::ShortText;
 use crate::supported::Supported;
 use std::alloc::{Allocator, Global};
 use std::marker::Model;
@@ -36,9 +37,9 @@ impl<A: Allocator> State<A> {
     ghost use Rattle.stun_auth.specs.ClientStep.{confirmed, renewed};
 
     /// Replaces the kept realm and nonce. The key stays.
-    fn renew(&mut self, realm: String<A>, nonce: String<A>)
-        ensures { state_seen self.new ≡ renewed (state_seen self.old) (string_bytes realm)
-            (string_bytes nonce) }
+    fn renew(&mut self, realm: ShortText<A>, nonce: ShortText<A>)
+        ensures { state_seen self.new ≡ renewed (state_seen self.old) (string_bytes realm.text)
+            (string_bytes nonce.text) }
     {
         match self {
             State::Initial => {}
@@ -362,10 +363,10 @@ impl<A: Allocator + Copy> LongTermClientAuth<A> {
         let Some(nonce) = reading.nonce else {
             return self.settle(false, digest);
         };
-        let Ok(realm) = String::from_str(self.alloc, realm) else {
+        let Ok(realm) = ShortText::copied(self.alloc, realm) else {
             return Err(LongTermClientAuthError::new(LongTermClientAuthErrorReason::OutOfMemory));
         };
-        let Ok(nonce) = String::from_str(self.alloc, nonce) else {
+        let Ok(nonce) = ShortText::copied(self.alloc, nonce) else {
             return Err(LongTermClientAuthError::new(LongTermClientAuthErrorReason::OutOfMemory));
         };
         self.state.renew(realm, nonce);

@@ -1,7 +1,7 @@
 //! Laws over the definitions that the contracts of this crate cite.
 ghost use Rattle.std.specs.Prelude.{◌≡◌, ◌<◌, ◌≤◌, ◌^◌, ◌||◌, ℕ, ◌+◌, Bool, true, false, List, [], ◌∷◌, ◌++◌, length, Ok, Err, Option, Some, None, if◌then◌else◌, IsOk, IsTrue, IsUtf8, ◌↔◌, ◌⊎◌};
 ghost use Rattle.std.specs.List.{AllByRecursion};
-ghost use Rattle.std.specs.Option.{IsSome, is_some};
+ghost use Rattle.std.specs.Option.{IsSome, IsSomeAnd, is_some};
 ghost use Rattle.std.specs.FinMap as map;
 ghost use Rattle.std.specs.declared.net.socket_addr.SocketAddr.{SocketAddr};
 ghost use Rattle.stun_base.specs.MessageType.{class_of};
@@ -166,14 +166,14 @@ pub fn nonces_ask_for_what_is_supported()
         → length (nonce_of set feature words) ≤ 13 + length words }
 {}
 
-/// Both sides sign what they may sign: nothing but want of memory refuses it.
+/// Both sides sign what can be signed: nothing but want of memory refuses it.
 pub fn sides_sign_what_they_may()
     ensures client { (request : Bool) (state : ClientState) (message : List ℕ) (room : ℕ)
-        → ClientMaySign request state message room
+        → IsSignable (added_by_client request state) message room
         → IsOk (added_all (client_additions request state)
         (record { bytes = message; room = room })) }
     ensures server { (s : Sight) (response : Bool) (message : List ℕ) (room : ℕ)
-        → ServerMaySign s response message room
+        → IsSomeAnd (added_by_server s response) (λ a. IsSignable a message room)
         → IsOk (server_signed s response (record { bytes = message; room = room })) }
 {
     signing_succeeds_with_room();

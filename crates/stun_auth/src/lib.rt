@@ -17,5 +17,6 @@ mod registry;
 mod server;
 mod server_reason;
 mod short_term;
+mod short_text;
 mod supported;
 mod verdict;

@@ -9,6 +9,7 @@ ghost use Rattle.stun_auth.specs.Feature.{is_possible};
 
 use crate::algorithm_set::AlgorithmSet;
 use crate::feature::Feature;
+use crate::short_text::ShortText;
 use base64::engine::general_purpose::STANDARD;
 use rand_core::Rng;
 use std::alloc::{AllocError, Allocator};
@@ -231,15 +232,16 @@ pub(crate) fn make_nonce<A: Allocator + Copy, R: Rng>(
     algorithms: AlgorithmSet,
     feature: Feature,
     rng: &mut R,
-) -> Result<String<A>, AllocError>
-    ensures nonce { IfOk result (λ text. string_bytes text
+) -> Result<ShortText<A>, AllocError>
+    ensures nonce { IfOk result (λ nonce. string_bytes nonce.text
         ≡ nonce_of algorithms feature (next_words 16 (R.stream rng.old))) }
-    ensures asks_for_algorithms { IfOk result (λ text. asks_for_algorithms (string_bytes text)
+    ensures asks_for_algorithms { IfOk result (λ nonce. asks_for_algorithms (string_bytes nonce.text)
         ≡ contains IntegrityAlgorithm.Sha256 algorithms) }
-    ensures asks_for_userhash { IfOk result (λ text. asks_for_userhash (string_bytes text)
+    ensures asks_for_userhash { IfOk result (λ nonce. asks_for_userhash (string_bytes nonce.text)
         ≡ is_possible feature) }
     ensures source { R.stream rng.new ≡ after_words 16 (R.stream rng.old) }
 {
     let words = draw_words(rng);
-    nonce_of_words(alloc, algorithms, feature, &words)
+    let text = nonce_of_words(alloc, algorithms, feature, &words)?;
+    Ok(ShortText::new(text))
 }

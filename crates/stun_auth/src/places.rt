@@ -10,6 +10,7 @@ ghost use Rattle.stun_auth.specs.Places.{with_change, with_client, with_offer};
 ghost use Rattle.stun_auth.specs.code.Places.{client_seen, place_seen};
 
 use crate::algorithm_set::AlgorithmSet;
+use crate::short_text::ShortText;
 use std::alloc::{AllocError, Allocator};
 use std::collections::BTreeMap;
 use std::marker::Model;
@@ -44,7 +45,7 @@ impl<A: Allocator> Client<A> {
 /// What is kept for an address.
 #[derive(Drop)]
 pub(crate) struct Place<A: Allocator> {
-    pub(crate) nonce: String<A>,
+    pub(crate) nonce: ShortText<A>,
     pub(crate) expires: Instant,
     pub(crate) offered: Option<AlgorithmSet>,
     pub(crate) client: Option<Client<A>>,
@@ -57,8 +58,8 @@ impl<A: Allocator> Place<A> {
     ghost use Rattle.stun_auth.specs.code.Places.{place_seen, client_seen};
 
     /// The place of an address that had none.
-    fn new(nonce: String<A>, expires: Instant, client: Option<Client<A>>) -> Self
-        ensures { place_seen result ≡ renewed None (string_bytes nonce) expires
+    fn new(nonce: ShortText<A>, expires: Instant, client: Option<Client<A>>) -> Self
+        ensures { place_seen result ≡ renewed None (string_bytes nonce.text) expires
             (option_map client_seen client) }
     {
         Place {
@@ -97,9 +98,9 @@ impl<A: Allocator> Place<A> {
     }
 
     /// Gives the place another nonce, and another client if there is one.
-    fn renew(&mut self, nonce: String<A>, expires: Instant, client: Option<Client<A>>)
+    fn renew(&mut self, nonce: ShortText<A>, expires: Instant, client: Option<Client<A>>)
         ensures { place_seen self.new ≡ renewed (Some (place_seen self.old))
-            (string_bytes nonce) expires (option_map client_seen client) }
+            (string_bytes nonce.text) expires (option_map client_seen client) }
     {
         self.nonce = nonce;
         self.expires = expires;
@@ -188,12 +189,12 @@ impl<A: Allocator + Copy> Places<A> {
     pub(crate) fn renew(
         &mut self,
         address: SocketAddr,
-        nonce: String<A>,
+        nonce: ShortText<A>,
         expires: Instant,
         client: Option<Client<A>>,
     ) -> Result<(), AllocError>
         ensures ok { OnOk result (self.new ≡ map.insert self.old address
-            (renewed (map.get self.old address) (string_bytes nonce) expires
+            (renewed (map.get self.old address) (string_bytes nonce.text) expires
             (option_map client_seen client))) }
         ensures err { OnErr result (self.new ≡ self.old) }
     {

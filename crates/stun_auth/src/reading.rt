@@ -2,8 +2,8 @@
 //!
 //! Nothing here allocates.
 
-ghost use Rattle.std.specs.Prelude.{◌≡◌, Option, map};
-ghost use Rattle.std.specs.Option.{is_some, option_and_then, option_copied, option_map};
+ghost use Rattle.std.specs.Prelude.{◌≡◌, ◌≤◌, Option, length, map};
+ghost use Rattle.std.specs.Option.{is_some, option_and_then, option_copied, option_map, option_map_or};
 ghost use Rattle.stun_base.specs.Attributes.{NONCE, REALM, USERNAME};
 ghost use Rattle.stun_types.specs.ErrorCode.{CodeAndReason, error_of};
 ghost use Rattle.stun_types.specs.Integrity.{verified_algorithm};
@@ -14,8 +14,7 @@ ghost use Rattle.stun_types.specs.Userhash.{hash_of};
 ghost use Rattle.stun_types.specs.Visible.{visible};
 ghost use Rattle.stun_auth.specs.Reading.{is_response, is_success, reading_of, verified_under};
 ghost use Rattle.stun_auth.specs.Validation.{is_complete, is_malformed};
-ghost use Rattle.stun_auth.specs.code.LastAttributes.{last_attributes, with_attribute};
-ghost use Rattle.stun_auth.specs.code.ReadingSeen.{error_in, reading_seen};
+ghost use Rattle.stun_auth.specs.code.LastAttributes.{error_in, last_attributes, with_attribute};
 
 use std::alloc::Allocator;
 use std::marker::Model;
@@ -159,7 +158,8 @@ fn error(class: MessageClass, attribute: Option<RawAttribute<'_>>) -> Option<u16
 
 /// The text of a REALM.
 fn realm<'a>(attribute: Option<RawAttribute<'a>>) -> Option<&'a str>
-    ensures { option_copied result ≡ option_and_then (text_of REALM TEXT_LIMIT) attribute.entry }
+    ensures text { option_copied result ≡ option_and_then (text_of REALM TEXT_LIMIT) attribute.entry }
+    ensures short { option_map_or (λ text. length text.now) result 0 ≤ TEXT_LIMIT }
 {
     match read::<Realm<'a>>(attribute) {
         Some(realm) => Some(realm.realm()),
@@ -169,7 +169,8 @@ fn realm<'a>(attribute: Option<RawAttribute<'a>>) -> Option<&'a str>
 
 /// The text of a NONCE.
 fn nonce<'a>(attribute: Option<RawAttribute<'a>>) -> Option<&'a str>
-    ensures { option_copied result ≡ option_and_then (text_of NONCE TEXT_LIMIT) attribute.entry }
+    ensures text { option_copied result ≡ option_and_then (text_of NONCE TEXT_LIMIT) attribute.entry }
+    ensures short { option_map_or (λ text. length text.now) result 0 ≤ TEXT_LIMIT }
 {
     match read::<Nonce<'a>>(attribute) {
         Some(nonce) => Some(nonce.nonce()),
@@ -225,9 +226,13 @@ pub(crate) struct Reading<'a, 'm> {
     pub(crate) algorithm: Option<IntegrityAlgorithm>,
     /// Whether a well-formed integrity attribute is visible.
     pub(crate) has_integrity: bool,
+    ghost short_realm: { option_map_or (λ text. length text.now) realm 0 ≤ 763 },
+    ghost short_nonce: { option_map_or (λ text. length text.now) nonce 0 ≤ 763 },
 }
 
 impl<'a, 'm> Reading<'a, 'm> {
+    ghost use Rattle.stun_auth.specs.code.ReadingSeen.{reading_seen};
+
     /// Reads a message, in one walk of its attributes.
     #[tactic(auto, unfolding(crate::specs::Reading::reading_of))]
     pub(crate) fn of(message: &'m Message<'a>) -> Self

@@ -1,8 +1,9 @@
 -- What a client keeps, as its settings and its state.
-use Rattle.std.specs.Prelude.{map, Result, Ok, Err, string_bytes}
-use Rattle.std.specs.Option.{option_map}
+use Rattle.std.specs.Prelude.{◌≤◌, length, map, Result, Ok, Err, string_bytes}
+use Rattle.std.specs.Option.{IfSome, option_map}
 use Rattle.stun_types.specs.PasswordAlgorithms.{integrity_of}
 use Rattle.stun_auth.specs.Client.{Naming, plain, hashed, Challenge, ClientState, initial, authenticating, authenticated}
+use Rattle.stun_auth.specs.ClientSigning.{kept_challenge}
 use Rattle.stun_auth.specs.ClientStep.{kept}
 use Rattle.stun_auth.specs.declared.challenge.Refusal.{Refusal}
 use Rattle.stun_auth.specs.declared.challenge.UserNaming.{UserNaming}
@@ -19,8 +20,8 @@ naming_seen (Hashed hash) = hashed hash
 abbrev pub challenge_seen : {A : Type 0} → KeptChallenge A → Challenge
 challenge_seen c = record {
   naming = naming_seen c.naming;
-  realm = string_bytes c.realm;
-  nonce = string_bytes c.nonce;
+  realm = string_bytes c.realm.text;
+  nonce = string_bytes c.nonce.text;
   algorithms = map integrity_of c.algorithms.items;
   algorithm = c.algorithm;
   key = c.key;
@@ -30,6 +31,10 @@ abbrev pub state_seen : {A : Type 0} → State A → ClientState
 state_seen State.Initial = initial
 state_seen (State.Authenticating c) = authenticating (challenge_seen c)
 state_seen (State.Authenticated c) = authenticated (challenge_seen c)
+
+-- nonce and realm that are kept are within their limits
+abbrev pub KeepsShortTexts : ClientState → Type 0
+KeepsShortTexts state = IfSome (kept_challenge state) (λ c. (length c.nonce ≤ 763) × (length c.realm ≤ 763))
 
 -- the challenge that an offer comes to
 abbrev pub offer_kept : Feature → Offer → Challenge

@@ -39,7 +39,7 @@ name_in users feature r = name_by r.userhash r.username users feature
 
 -- a new nonce with its end
 abbrev pub renewal_seen : {A : Type 0} → Renewal A → List ℕ × ℕ
-renewal_seen renewal = (string_bytes renewal.nonce, renewal.expires)
+renewal_seen renewal = (string_bytes renewal.nonce.text, renewal.expires)
 
 -- the place at which a message is judged: with the new nonce, if one was made, and else as it is kept
 abbrev pub place_with : Option PlaceSeen → Option (List ℕ × ℕ) → PlaceSeen

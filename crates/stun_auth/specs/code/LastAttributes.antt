@@ -1,11 +1,14 @@
--- The last attribute of each type that is read of a message.
-use Rattle.std.specs.Prelude.{◌==◌, ◌||◌, if◌then◌else◌, List, Some, None}
+-- The last attribute of each type that is read of a message, and the code that an ERROR-CODE tells.
+use Rattle.std.specs.Prelude.{ℕ, ◌==◌, ◌||◌, if◌then◌else◌, List, Option, Some, None}
 use Rattle.std.specs.List.{find}
-use Rattle.std.specs.Option.{is_some, option_map, option_or}
+use Rattle.std.specs.Option.{is_some, option_and_then, option_map, option_or}
 use Rattle.stun_base.specs.Attributes.{ERROR_CODE, MESSAGE_INTEGRITY, MESSAGE_INTEGRITY_SHA256, NONCE, PASSWORD_ALGORITHM, PASSWORD_ALGORITHMS, REALM, USERHASH, USERNAME}
+use Rattle.stun_base.specs.declared.message_type.MessageClass.{MessageClass}
+use Rattle.stun_types.specs.Attribute.{TypedValue}
+use Rattle.stun_types.specs.ErrorCode.{CodeAndReason, error_of}
 use Rattle.stun_types.specs.Integrity.{first_of}
 use Rattle.stun_types.specs.Walk.{Member}
-use Rattle.stun_auth.specs.Reading.{is_integrity, last_of}
+use Rattle.stun_auth.specs.Reading.{is_error, is_integrity, last_of}
 use Rattle.stun_auth.specs.declared.reading.LastAttributes.{LastAttributes}
 
 -- those of the members of a message
@@ -37,3 +40,8 @@ with_attribute last m = record {
   integrity_sha256 = option_or last.integrity_sha256 (if m.1.kind == MESSAGE_INTEGRITY_SHA256 then Some m else None);
   has_integrity = is_integrity m.1 || last.has_integrity;
 }
+
+-- the code that the last ERROR-CODE of a message of a class tells
+abbrev pub error_in : MessageClass → Option TypedValue → Option ℕ
+error_in class attribute =
+    if is_error class then option_map (λ (e : CodeAndReason). e.code) (option_and_then error_of attribute) else None

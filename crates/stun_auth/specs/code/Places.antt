@@ -14,7 +14,7 @@ client_seen c = record { name = string_bytes c.name; algorithm = c.algorithm }
 
 abbrev pub place_seen : {A : Type 0} → Place A → PlaceSeen
 place_seen p = record {
-  nonce = string_bytes p.nonce;
+  nonce = string_bytes p.nonce.text;
   expires = p.expires;
   offered = p.offered;
   client = option_map client_seen p.client;

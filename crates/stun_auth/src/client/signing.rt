@@ -8,7 +8,7 @@ ghost use Rattle.stun_types.specs.Attribute.{attribute_length};
 ghost use Rattle.stun_auth.specs.code.AddedAttribute.{attribute_of};
 ghost use Rattle.stun_auth.specs.Additions.{UnlessMemory, WantsMemory, added_all, growth, page_in, written};
 ghost use Rattle.stun_auth.specs.code.Additions.{IsAdded, IsOutcome};
-ghost use Rattle.stun_auth.specs.code.ClientKept.{challenge_seen, naming_seen, state_seen};
+ghost use Rattle.stun_auth.specs.code.ClientKept.{KeepsShortTexts, challenge_seen, naming_seen, state_seen};
 ghost use Rattle.stun_auth.specs.ClientSigning.{algorithm_choice, challenge_additions, client_additions, identity, is_request, kept_challenge, name_attribute};
 ghost use Rattle.stun_auth.specs.Signed.{ClientMaySign};
 
@@ -199,7 +199,15 @@ impl<A: Allocator> LongTermClientAuth<A> {
         ensures stays { self.new ≡ self.old }
     {
         sides_sign_what_they_may();
+        self.keeps_short_texts();
         self.signed(writer)
+    }
+
+    /// The nonce and the realm that are kept are within their limits, as those of a message are.
+    fn keeps_short_texts(&self)
+        ensures { KeepsShortTexts self.now.state }
+    {
+        let _ = &self.state;
     }
 
     /// The message with what the challenge that was taken up asks for.
@@ -220,8 +228,8 @@ impl<A: Allocator> LongTermClientAuth<A> {
     }
 
     /// Signs a message of which the caller knows that nothing but want of memory refuses it: it has no integrity attribute
-    /// and none that signing adds, name, realm and nonce are within their limits (a nonce that was read is), and writer and
-    /// length field have room for what is added. The message is the one that `sign_outgoing_message` gives.
+    /// and none that signing adds, the user name is within its limit of 513 bytes, and writer and length field have room for
+    /// what is added. The message is the one that `sign_outgoing_message` gives.
     pub fn sign_outgoing_message_unchecked<W: MessageWrite>(
         &mut self,
         writer: W,

@@ -1,7 +1,7 @@
 //! What a server's signing adds to a message (RFC 8489, section 9.2.4).
 
 ghost use Rattle.std.specs.Prelude.{◌≡◌, ◌≤◌, ◌<◌, ◌+◌, ◌-◌, ◌^◌, ◌++◌, length, min, not, true, Some, IfOk, IsOk, OnOk, OnErr, Ok};
-ghost use Rattle.std.specs.Option.{option_map};
+ghost use Rattle.std.specs.Option.{IfSome, option_map};
 ghost use Rattle.stun_base.specs.Header.{BeginsWithHeader, type_field};
 ghost use Rattle.stun_base.specs.MessageType.{class_of};
 ghost use Rattle.stun_auth.specs.Additions.{UnlessMemory, WantsMemory, growth, page_in, written};
@@ -9,6 +9,7 @@ ghost use Rattle.stun_auth.specs.code.Additions.{IsAdded, IsOutcome, outcome_of}
 ghost use Rattle.stun_auth.specs.code.Places.{client_seen, place_seen};
 ghost use Rattle.stun_auth.specs.Reading.{is_response as is_response_class};
 ghost use Rattle.stun_auth.specs.ServerSigning.{additions_at, after_signing, algorithms_for, attributes_for, challenge, digest_for, growth_at, named_algorithm, offer, protected_for, protection_growth, server_additions, server_growth, server_signed, signed_at};
+ghost use Rattle.stun_auth.specs.Seen.{PlaceSeen};
 ghost use Rattle.stun_auth.specs.Signed.{ServerMaySign};
 ghost use Rattle.stun_auth.specs.Validation.{sight};
 
@@ -93,9 +94,8 @@ impl<A: Allocator + Copy> LongTermServerAuth<A> {
     }
 
     /// Signs a message of which the caller knows that nothing but want of memory refuses it: it has no integrity attribute
-    /// and none that signing adds, realm and nonce are within their limits of 763 bytes (the server's own nonces are), writer
-    /// and length field have room for what is added, and the client's user and key are still there. The message is the one
-    /// that `sign_outgoing_message` gives.
+    /// and none that signing adds, the realm is within its limit of 763 bytes, writer and length field have room for what is
+    /// added, and the client's user and key are still there. The message is the one that `sign_outgoing_message` gives.
     pub fn sign_outgoing_message_unchecked<W: MessageWrite>(
         &mut self,
         writer: W,
@@ -136,10 +136,11 @@ impl<A: Allocator + Copy> LongTermServerAuth<A> {
         is_response: bool,
     ) -> Result<(), StunWriteError>
         requires { 20 ≤ length (W.bytes writer.old) }
-        ensures { UnlessMemory result (outcome_of result (page_in W.bytes W.room writer.new)
+        ensures signed { UnlessMemory result (outcome_of result (page_in W.bytes W.room writer.new)
             ≡ server_signed (sight self.now to) is_response (page_in W.bytes W.room writer.old))
             (WantsMemory (server_additions (sight self.now to) is_response)
             (page_in W.bytes W.room writer.old) (W.reserved writer.old)) }
+        ensures short { IfSome (sight self.now to).place (λ (p : PlaceSeen). length p.nonce ≤ 763) }
     {
         match self.places.get(to) {
             Some(place) => self.sign_at(writer, place, is_response),

@@ -22,6 +22,7 @@ use crate::server_reason::{
     LongTermServerAuthError, LongTermServerAuthErrorReason, LongTermServerValidation, Refusal,
     refused,
 };
+use crate::short_text::ShortText;
 use crate::verdict::{Accepted, verdict};
 use rand_core::Rng;
 use std::alloc::{AllocError, Allocator};
@@ -33,7 +34,7 @@ use stun_types::message::Message;
 /// A nonce that was made for an address, with its end.
 #[derive(Drop)]
 struct Renewal<A: Allocator> {
-    nonce: String<A>,
+    nonce: ShortText<A>,
     expires: Instant,
 }
 

@@ -11,7 +11,7 @@ use Rattle.stun_types.specs.Text.{text_of}
 use Rattle.stun_types.specs.Userhash.{hash_of}
 use Rattle.stun_types.specs.Visible.{visible}
 use Rattle.stun_auth.specs.Reading.{is_error, last_of, reading_of}
-use Rattle.stun_auth.specs.code.ReadingSeen.{error_in}
+use Rattle.stun_auth.specs.code.LastAttributes.{error_in}
 use Rattle.stun_auth.proofs.ReadingLemmas.{and_then-map}
 use Rattle.stun_auth.proofs.reading.Reading.of.Goals as goal
 
@@ -28,8 +28,8 @@ returns c =
       class = c.class-class.ensures i;
       error = (c.error.ensures ∙ ap (error_in c.class-class.result) (ap (λ l. l.error_code) last)
           ∙ (λ j. read_code (c.class-class.ensures j) (and_then-map error_of (λ m. m.1) (last_of ERROR_CODE members) j))) i;
-      realm = (c.realm.ensures ∙ ap (option_and_then (text_of REALM 763)) (ap (λ l. l.realm) last) ∙ and_then-map (text_of REALM 763) (λ m. m.1) (last_of REALM members)) i;
-      nonce = (c.nonce.ensures ∙ ap (option_and_then (text_of NONCE 763)) (ap (λ l. l.nonce) last) ∙ and_then-map (text_of NONCE 763) (λ m. m.1) (last_of NONCE members)) i;
+      realm = (c.realm.ensures.text ∙ ap (option_and_then (text_of REALM 763)) (ap (λ l. l.realm) last) ∙ and_then-map (text_of REALM 763) (λ m. m.1) (last_of REALM members)) i;
+      nonce = (c.nonce.ensures.text ∙ ap (option_and_then (text_of NONCE 763)) (ap (λ l. l.nonce) last) ∙ and_then-map (text_of NONCE 763) (λ m. m.1) (last_of NONCE members)) i;
       username = (c.username.ensures ∙ ap (option_and_then (text_of USERNAME 513)) (ap (λ l. l.username) last) ∙ and_then-map (text_of USERNAME 513) (λ m. m.1) (last_of USERNAME members)) i;
       userhash = (c.userhash.ensures ∙ ap (option_and_then hash_of) (ap (λ l. l.userhash) last) ∙ and_then-map hash_of (λ m. m.1) (last_of USERHASH members)) i;
       algorithms = ap (option_map (map integrity_of)) (c.read.ensures ∙ ap (option_and_then password_algorithms_in) (ap (λ l. l.password_algorithms) last) ∙ and_then-map password_algorithms_in (λ m. m.1) (last_of PASSWORD_ALGORITHMS members)) i;

@@ -1,0 +1,42 @@
+//! Texts within the limit of REALM and NONCE (RFC 8489, sections 14.9 and 14.10).
+ghost use Rattle.std.specs.Prelude.{◌≡◌, ◌≤◌, length, IfOk};
+ghost use Rattle.std.specs.String.{string_bytes};
+
+use std::alloc::{AllocError, Allocator};
+
+/// A text of at most 763 bytes.
+#[derive(Drop)]
+pub(crate) struct ShortText<A: Allocator> {
+    text: String<A>,
+    ghost short: { length (string_bytes text) ≤ 763 },
+}
+
+impl<A: Allocator> ShortText<A> {
+    pub(crate) fn new(text: String<A>) -> Self
+        requires { length (string_bytes text) ≤ 763 }
+        ensures { string_bytes result.text ≡ string_bytes text }
+    {
+        ShortText { text }
+    }
+
+    /// A copy of a text.
+    pub(crate) fn copied(alloc: A, text: &str) -> Result<Self, AllocError>
+        requires { length text.now ≤ 763 }
+        ensures { IfOk result (λ copy. string_bytes copy.text ≡ text.now) }
+    {
+        let text = String::from_str(alloc, text)?;
+        Ok(ShortText { text })
+    }
+
+    pub(crate) fn as_str(&self) -> &str
+        ensures value { result.now ≡ string_bytes self.now.text }
+    {
+        self.text.as_str()
+    }
+
+    pub(crate) fn len(&self) -> usize
+        ensures { result ≡ length (string_bytes self.now.text) }
+    {
+        self.text.len()
+    }
+}

@@ -25,9 +25,9 @@ ghost use Rattle.stun_auth.specs.Reading.{Reading, class_in, error_code, is_erro
 ghost use Rattle.stun_auth.specs.Reasons.{ServerRefusal};
 ghost use Rattle.stun_auth.specs.Seen.{ClientSeen, PlaceSeen};
 ghost use Rattle.stun_auth.specs.Server.{Sight, stands_at};
-ghost use Rattle.stun_auth.specs.ServerSigning.{server_signed};
+ghost use Rattle.stun_auth.specs.ServerSigning.{after_signing, server_signed};
 ghost use Rattle.stun_auth.specs.Signed.{Added, ClientMaySign, HasRoomFor, IsBuilt, IsSignable, IsSmall, IsText, IsUnsigned, IsWithinLimits, IsWritable, ReadsAs, ServerMaySign, added_by_client, added_by_server, additions_of, error_attribute};
-ghost use Rattle.stun_auth.specs.Validation.{ChangesNothing, ServerSeen, ValidatesAccepted, answer, needs_nonce, verdict_at};
+ghost use Rattle.stun_auth.specs.Validation.{ChangesNothing, ServerSeen, ValidatesAccepted, answer, needs_nonce, sight, verdict_at};
 
 use crate::client_answer::{LongTermClientAuthErrorReason, LongTermClientValidation};
 use crate::feature::Feature;
@@ -196,6 +196,14 @@ pub fn what_was_signed_may_be_signed()
     stun_types::laws::signed_message_stands();
     sides_add_by_attribute();
 }
+
+/// Signing changes nothing of what a server adds to later messages to the address: what it signed once with success it may sign
+/// again unchecked.
+pub fn signing_leaves_what_is_added()
+    ensures { (s : ServerSeen) (to : SocketAddr) (response later : Bool)
+        → added_by_server (sight (after_signing s to response) to) later
+        ≡ added_by_server (sight s to) later }
+{}
 
 /// The security bits of a nonce are those that it begins with, whatever text follows them (RFC 8489, section 9.2).
 pub fn security_bits_are_read_back()

@@ -222,14 +222,14 @@ added_by_server s response = added_at response s.registered s.place
 pub record IsSignableByClient (a : Added) (message : List ℕ) (room : ℕ) : Type 0 where
   pub is_open : IsOpen message
   pub none_there : AllByRecursion (λ kind. has_kind kind (walk message) ≡ false) (kinds_in (additions_of a))
-  pub username : IfSome a.username (λ text. length text ≤ 513)
+  pub username : IfSome a.username (λ text. length text ≤ USERNAME_LIMIT)
   pub has_room : HasRoomFor a message room
 
 -- as `IsSignable`, where a server adds: its nonces, which it made, are within their limit at every server, and it names no user
 pub record IsSignableByServer (a : Added) (message : List ℕ) (room : ℕ) : Type 0 where
   pub is_open : IsOpen message
   pub none_there : AllByRecursion (λ kind. has_kind kind (walk message) ≡ false) (kinds_in (additions_of a))
-  pub realm : IfSome a.realm (λ text. length text ≤ 763)
+  pub realm : IfSome a.realm (λ text. length text ≤ TEXT_LIMIT)
   pub has_room : HasRoomFor a message room
 
 -- the caller of an unchecked signing at a client knows this

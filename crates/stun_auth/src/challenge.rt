@@ -1,6 +1,7 @@
 //! A server's challenge, as a client takes it up and keeps it (RFC 8489, section 9.2.5).
 ghost use Rattle.std.specs.Prelude.{◌≡◌, ◌≤◌, IfOk, Ok, Err, Some, None, find, length, map};
 ghost use Rattle.std.specs.Option.{option_map};
+ghost use Rattle.stun_types.specs.Limits.{TEXT_LIMIT};
 ghost use Rattle.stun_types.specs.PasswordAlgorithms.{integrity_of};
 ghost use Rattle.stun_auth.specs.ClientStep.{choose, choose_by_list, choose_without_bits, first_supported, is_required, list_or_none, naming_of, unless};
 ghost use Rattle.stun_auth.specs.Nonces.{asks_for_userhash};
@@ -49,7 +50,7 @@ pub(crate) struct Offer<'a, 'm> {
     pub(crate) nonce: &'m str,
     pub(crate) list: Option<PasswordAlgorithms<'m>>,
     pub(crate) algorithm: IntegrityAlgorithm,
-    ghost short: { (length realm.now ≤ 763) × (length nonce.now ≤ 763) },
+    ghost short: { (length realm.now ≤ TEXT_LIMIT) × (length nonce.now ≤ TEXT_LIMIT) },
 }
 
 impl<A: Allocator + Copy> UserNaming<A> {

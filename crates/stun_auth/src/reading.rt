@@ -226,8 +226,8 @@ pub(crate) struct Reading<'a, 'm> {
     pub(crate) algorithm: Option<IntegrityAlgorithm>,
     /// Whether a well-formed integrity attribute is visible.
     pub(crate) has_integrity: bool,
-    ghost short_realm: { option_map_or (λ text. length text.now) realm 0 ≤ 763 },
-    ghost short_nonce: { option_map_or (λ text. length text.now) nonce 0 ≤ 763 },
+    ghost short_realm: { option_map_or (λ text. length text.now) realm 0 ≤ TEXT_LIMIT },
+    ghost short_nonce: { option_map_or (λ text. length text.now) nonce 0 ≤ TEXT_LIMIT },
 }
 
 impl<'a, 'm> Reading<'a, 'm> {

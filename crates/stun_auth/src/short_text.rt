@@ -1,6 +1,7 @@
 //! Texts within the limit of REALM and NONCE (RFC 8489, sections 14.9 and 14.10).
 ghost use Rattle.std.specs.Prelude.{◌≡◌, ◌≤◌, length, IfOk};
 ghost use Rattle.std.specs.String.{string_bytes};
+ghost use Rattle.stun_types.specs.Limits.{TEXT_LIMIT};
 
 use std::alloc::{AllocError, Allocator};
 
@@ -8,12 +9,12 @@ use std::alloc::{AllocError, Allocator};
 #[derive(Drop)]
 pub(crate) struct ShortText<A: Allocator> {
     text: String<A>,
-    ghost short: { length (string_bytes text) ≤ 763 },
+    ghost short: { length (string_bytes text) ≤ TEXT_LIMIT },
 }
 
 impl<A: Allocator> ShortText<A> {
     pub(crate) fn new(text: String<A>) -> Self
-        requires { length (string_bytes text) ≤ 763 }
+        requires { length (string_bytes text) ≤ TEXT_LIMIT }
         ensures { string_bytes result.text ≡ string_bytes text }
     {
         ShortText { text }
@@ -21,7 +22,7 @@ impl<A: Allocator> ShortText<A> {
 
     /// A copy of a text.
     pub(crate) fn copied(alloc: A, text: &str) -> Result<Self, AllocError>
-        requires { length text.now ≤ 763 }
+        requires { length text.now ≤ TEXT_LIMIT }
         ensures { IfOk result (λ copy. string_bytes copy.text ≡ text.now) }
     {
         let text = String::from_str(alloc, text)?;

@@ -1,6 +1,7 @@
 -- What a client keeps, as its settings and its state.
 use Rattle.std.specs.Prelude.{◌≤◌, length, map, Result, Ok, Err, string_bytes}
 use Rattle.std.specs.Option.{IfSome, option_map}
+use Rattle.stun_types.specs.Limits.{TEXT_LIMIT}
 use Rattle.stun_types.specs.PasswordAlgorithms.{integrity_of}
 use Rattle.stun_auth.specs.Client.{Naming, plain, hashed, Challenge, ClientState, initial, authenticating, authenticated}
 use Rattle.stun_auth.specs.ClientSigning.{kept_challenge}
@@ -34,7 +35,7 @@ state_seen (State.Authenticated c) = authenticated (challenge_seen c)
 
 -- nonce and realm that are kept are within their limits
 abbrev pub KeepsShortTexts : ClientState → Type 0
-KeepsShortTexts state = IfSome (kept_challenge state) (λ c. (length c.nonce ≤ 763) × (length c.realm ≤ 763))
+KeepsShortTexts state = IfSome (kept_challenge state) (λ c. (length c.nonce ≤ TEXT_LIMIT) × (length c.realm ≤ TEXT_LIMIT))
 
 -- the challenge that an offer comes to
 abbrev pub offer_kept : Feature → Offer → Challenge

@@ -4,6 +4,7 @@ ghost use Rattle.std.specs.Prelude.{◌≡◌, ◌≤◌, ◌<◌, ◌+◌, ◌-
 ghost use Rattle.std.specs.Option.{IfSome, option_map};
 ghost use Rattle.stun_base.specs.Header.{BeginsWithHeader, type_field};
 ghost use Rattle.stun_base.specs.MessageType.{class_of};
+ghost use Rattle.stun_types.specs.Limits.{TEXT_LIMIT};
 ghost use Rattle.stun_auth.specs.Additions.{UnlessMemory, WantsMemory, growth, page_in, written};
 ghost use Rattle.stun_auth.specs.code.Additions.{IsAdded, IsOutcome, outcome_of};
 ghost use Rattle.stun_auth.specs.code.Places.{client_seen, place_seen};
@@ -140,7 +141,7 @@ impl<A: Allocator + Copy> LongTermServerAuth<A> {
             ≡ server_signed (sight self.now to) is_response (page_in W.bytes W.room writer.old))
             (WantsMemory (server_additions (sight self.now to) is_response)
             (page_in W.bytes W.room writer.old) (W.reserved writer.old)) }
-        ensures short { IfSome (sight self.now to).place (λ (p : PlaceSeen). length p.nonce ≤ 763) }
+        ensures short { IfSome (sight self.now to).place (λ (p : PlaceSeen). length p.nonce ≤ TEXT_LIMIT) }
     {
         match self.places.get(to) {
             Some(place) => self.sign_at(writer, place, is_response),

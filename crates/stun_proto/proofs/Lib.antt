@@ -31,6 +31,7 @@ pub mod Signed
 pub mod SignedRuns
 pub mod SigningLemmas
 pub mod Small
+pub mod Stages
 pub mod Standing
 pub mod Strongest
 pub mod TurnLemmas

@@ -17,7 +17,6 @@ use Rattle.stun_auth.specs.ClientStep.{ClientAnswer, ClientStep, IsResend, UNAUT
 use Rattle.stun_auth.specs.Reading.{reading_of}
 use Rattle.stun_auth.specs.ServerSigning.{after_signing}
 use Rattle.stun_auth.specs.Validation.{Answer, ServerSeen, after_message, answer, sight}
-use Rattle.stun_proto.specs.code.FirstAnswers.{end_of, is_unauthorized}
 use Rattle.stun_proto.specs.Negotiating.{error_of, met_by}
 use Rattle.stun_proto.specs.Negotiation.{Meeting, Met, asked, challenge_answered, challenged, ended, failure, first_answered, first_asked, negotiated, outcome_of, responded, second_answered, second_asked, succeeded, success, unwritten}
 use Rattle.stun_proto.specs.Serving.{after_calls}
@@ -309,36 +308,6 @@ module _ (m : Meeting) (client : ClientSide) (before : ServerSeen) where
         (there first (if_unauthorized first_answer (sides client.state first_left ∷ sides_after_challenge m client.state first_left)) (sides new.state server)
         (subst (λ g. Contains (if_unauthorized g (sides client.state first_left ∷ sides_after_challenge m client.state first_left)) (sides new.state server)) told h)))
         from_server
-
--- ---- answers to a challenge
-pub challenge_ends : (m : Meeting) (server : ServerSeen) (state : ClientState) (given : ClientAnswer) (outcome : Outcome) → end_of given ≡ Some outcome
-    → ended outcome state server ≡ challenge_answered m server state given
-challenge_ends m server state (Ok (Read.ResendRequest a)) outcome h = cc
-challenge_ends m server state (Ok (Read.Validated a)) outcome h = let is : outcome ≡ ClientRefused Client.Unauthorized = cc in ap (λ o. ended o state server) is
-challenge_ends m server state (Err reason) outcome h = let is : outcome ≡ ClientRefused reason = cc in ap (λ o. ended o state server) is
-
-pub resent : (given : ClientAnswer) → end_of given ≡ None → (a : Option IntegrityAlgorithm) × (given ≡ Ok (Read.ResendRequest a))
-resent (Ok (Read.ResendRequest a)) h = (a, refl)
-resent (Ok (Read.Validated a)) h = cc
-resent (Err reason) h = cc
-
--- ---- refusals of a first request
-pub first_refused : (m : Meeting) (state : ClientState) (server : ServerSeen) (reason : LongTermServerAuthErrorReason) → is_unauthorized reason ≡ false
-    → ended (ServerRefused reason) state server ≡ first_answered m state server (Err reason)
-first_refused m state server Server.Unauthorized h = cc
-first_refused m state server Server.IntegrityFailed h = refl
-first_refused m state server Server.UnsupportedFeature h = refl
-first_refused m state server Server.BadRequest h = refl
-first_refused m state server Server.StaleNonce h = refl
-first_refused m state server Server.OutOfMemory h = refl
-
-pub unauthorized_is : (reason : LongTermServerAuthErrorReason) → is_unauthorized reason ≡ true → reason ≡ Server.Unauthorized
-unauthorized_is Server.Unauthorized h = refl
-unauthorized_is Server.IntegrityFailed h = cc
-unauthorized_is Server.UnsupportedFeature h = cc
-unauthorized_is Server.BadRequest h = cc
-unauthorized_is Server.StaleNonce h = cc
-unauthorized_is Server.OutOfMemory h = cc
 
 -- what an error is converted to
 pub by_error : (r : Result Outcome NegotiateError) (Q : NegotiateError → Type 0) (P : Result Outcome NegotiateError → Type 0) → IsErrAnd r Q → ((e : NegotiateError) → Q e → P (Err e)) → P r

@@ -1,5 +1,5 @@
 -- What the sides of a meeting answer to the first messages, as the code has it (RFC 8489, sections 9.2.4 and 9.2.5).
-use Rattle.std.specs.Prelude.{Bool, true, false, Option, Some, None}
+use Rattle.std.specs.Prelude.{Option, Some, None}
 use Rattle.std.specs.declared.result.Result.{Result}
 use Rattle.std.specs.declared.result.Result.TheVariants.{Ok, Err}
 use Rattle.stun_base.specs.declared.algorithm.IntegrityAlgorithm.{IntegrityAlgorithm}
@@ -9,26 +9,23 @@ use Rattle.stun_auth.specs.declared.client_answer.LongTermClientAuthErrorReason.
 use Rattle.stun_auth.specs.declared.client_answer.LongTermClientValidation.TheVariants as Read
 use Rattle.stun_auth.specs.declared.server_reason.LongTermServerValidation.TheVariants.{Validated}
 use Rattle.stun_auth.specs.declared.server_reason.LongTermServerAuthErrorReason.{LongTermServerAuthErrorReason}
-use Rattle.stun_auth.specs.declared.server_reason.LongTermServerAuthErrorReason.TheVariants.{Unauthorized, IntegrityFailed, UnsupportedFeature, BadRequest, StaleNonce, OutOfMemory}
+use Rattle.stun_auth.specs.declared.server_reason.LongTermServerAuthErrorReason.TheVariants.{Unauthorized}
 use Rattle.stun_proto.specs.declared.replay.negotiation.Outcome.{Outcome}
-use Rattle.stun_proto.specs.declared.replay.negotiation.Outcome.TheVariants.{ClientRefused}
-
--- whether a refusal of the server asks for a challenge
-abbrev pub is_unauthorized : LongTermServerAuthErrorReason → Bool
-is_unauthorized Unauthorized = true
-is_unauthorized IntegrityFailed = false
-is_unauthorized UnsupportedFeature = false
-is_unauthorized BadRequest = false
-is_unauthorized StaleNonce = false
-is_unauthorized OutOfMemory = false
+use Rattle.stun_proto.specs.declared.replay.negotiation.Outcome.TheVariants.{AlreadyValidated, ServerRefused, ClientRefused}
 
 -- the answer by the algorithm of an accepted request, or by the reason of a refusal
 abbrev pub answer_of : Result IntegrityAlgorithm LongTermServerAuthErrorReason → Answer
 answer_of (Ok algorithm) = Ok (Validated algorithm)
 answer_of (Err reason) = Err reason
 
+-- the outcome where a first request is not to be challenged
+abbrev pub end_of_first : Result IntegrityAlgorithm LongTermServerAuthErrorReason → Option Outcome
+end_of_first (Ok algorithm) = Some (AlreadyValidated algorithm)
+end_of_first (Err Unauthorized) = None
+end_of_first (Err reason) = Some (ServerRefused reason)
+
 -- the outcome where a client does not take up a challenge
-abbrev pub end_of : ClientAnswer → Option Outcome
-end_of (Ok (Read.ResendRequest a)) = None
-end_of (Ok (Read.Validated a)) = Some (ClientRefused Client.Unauthorized)
-end_of (Err reason) = Some (ClientRefused reason)
+abbrev pub end_of_challenge : ClientAnswer → Option Outcome
+end_of_challenge (Ok (Read.ResendRequest a)) = None
+end_of_challenge (Ok (Read.Validated a)) = Some (ClientRefused Client.Unauthorized)
+end_of_challenge (Err reason) = Some (ClientRefused reason)

@@ -1,15 +1,11 @@
 //! The steps of a meeting: a request, its challenge, the request with credentials, its success.
 #![tactic(none)]
 
-ghost use Rattle.std.specs.Prelude.{◌≡◌, ◌∷◌};
-ghost use Rattle.stun_base.specs.Header.{transaction_id_field, type_field};
-ghost use Rattle.stun_base.specs.MessageType.{method_of};
-ghost use Rattle.stun_auth.specs.ClientStep.{UNAUTHORIZED};
-ghost use Rattle.stun_auth.specs.Validation.{sight};
-ghost use Rattle.stun_proto.specs.code.FirstAnswers.{end_of, is_unauthorized};
+ghost use Rattle.std.specs.Prelude.{◌≡◌};
+ghost use Rattle.stun_proto.specs.Negotiation.{negotiated, outcome_of};
+ghost use Rattle.stun_proto.specs.Sides.{sides_of};
+ghost use Rattle.stun_proto.specs.code.FirstAnswers.{end_of_challenge, end_of_first};
 ghost use Rattle.stun_proto.specs.code.Meetings.{meeting_of};
-ghost use Rattle.stun_proto.specs.Negotiation.{BINDING, asked, challenged, failure, negotiated, outcome_of, responded, second_asked, succeeded, success};
-ghost use Rattle.stun_proto.specs.Sides.{sides_after_challenge, sides_after_second, sides_after_success, sides, sides_of};
 ghost use Rattle.stun_proto.specs.code.Sides.{IsRun};
 
 use crate::replay::call::ServerCall;
@@ -46,7 +42,8 @@ pub(crate) struct Meeting<'a> {
     pub(crate) second: Turn<'a>,
 }
 
-/// The first request: signed by the client, read and answered by the server.
+/// The two sides meet: a request, its challenge, the request with credentials and its success, each read by the other side, with the
+/// server's calls before it. The first answer that is no step of this is the outcome.
 pub(crate) fn meet<A: Allocator + Copy>(
     alloc: A,
     client: &mut LongTermClientAuth<A>,
@@ -57,61 +54,56 @@ pub(crate) fn meet<A: Allocator + Copy>(
         IsRun result client.old client.new server.new (negotiated m client.old.state server.old)
         (sides_of m client.old.state server.old) }
 {
-    let signed = request(alloc, client, meeting.first.id)?;
-    let request = message_in(signed.data());
+    let from = meeting.from;
     let first = &meeting.first;
-    let answer = judged(server, &request, meeting.from, first.moment, first.words)?;
-    match answer {
-        Ok(algorithm) => Ok(Outcome::AlreadyValidated(algorithm)),
-        Err(reason) => {
-            if is_unauthorized(reason) {
-                answer_challenge(alloc, client, server, meeting, &request)
-            } else {
-                Ok(Outcome::ServerRefused(reason))
-            }
-        }
+    let second = &meeting.second;
+
+    let unproven = request(alloc, client, first.id)?;
+    let asked = message_in(unproven.data());
+    let answer = judged(server, &asked, from, first.moment, first.words)?;
+    if let Some(outcome) = end_of_first(answer) {
+        return Ok(outcome);
     }
+    let failure = challenge(alloc, server, &asked, from)?;
+    serve(alloc, server, first.before)?;
+    let taken = read(client, failure.data())?;
+    if let Some(outcome) = end_of_challenge(taken) {
+        return Ok(outcome);
+    }
+
+    let proven = request(alloc, client, second.id)?;
+    let again = message_in(proven.data());
+    serve(alloc, server, second.before)?;
+    let verdict = judged(server, &again, from, second.moment, second.words)?;
+    let algorithm = match verdict {
+        Ok(algorithm) => algorithm,
+        Err(reason) => return Ok(Outcome::ServerRefused(reason)),
+    };
+    let granted = success(alloc, server, &again, from)?;
+    let told = read(client, granted.data())?;
+    Ok(outcome(algorithm, told))
 }
 
-/// Whether a refusal asks for a challenge.
+/// The outcome where the first request is not to be challenged.
 #[tactic(auto)]
-fn is_unauthorized(reason: LongTermServerAuthErrorReason) -> bool
-    ensures { result ≡ is_unauthorized reason }
+fn end_of_first(
+    answer: Result<IntegrityAlgorithm, LongTermServerAuthErrorReason>,
+) -> Option<Outcome>
+    ensures { result ≡ end_of_first answer }
 {
-    matches!(reason, LongTermServerAuthErrorReason::Unauthorized)
-}
-
-/// The challenge: signed by the server, and read by the client after the first list of calls.
-fn answer_challenge<A: Allocator + Copy>(
-    alloc: A,
-    client: &mut LongTermClientAuth<A>,
-    server: &mut LongTermServerAuth<A>,
-    meeting: &Meeting<'_>,
-    request: &Message<'_>,
-) -> Result<Outcome, NegotiateError>
-    requires method { method_of (type_field request.now) ≡ BINDING }
-    requires id { transaction_id_field request.now ≡ meeting.now.first.id }
-    ensures { let m = meeting_of client.old.settings meeting.now in
-        IsRun result client.old client.new server.new
-        (challenged m client.old.state server.old
-        (responded (failure UNAUTHORIZED m.first.id) (sight server.old m.from)))
-        (sides client.old.state server.old ∷ sides_after_challenge m client.old.state server.old) }
-{
-    let signed = challenge(alloc, server, request, meeting.from)?;
-    serve(alloc, server, meeting.first.before)?;
-    let answer = read(client, signed.data())?;
-    match end_of(answer) {
-        None => ask_again(alloc, client, server, meeting),
-        Some(outcome) => Ok(outcome),
+    match answer {
+        Ok(algorithm) => Some(Outcome::AlreadyValidated(algorithm)),
+        Err(LongTermServerAuthErrorReason::Unauthorized) => None,
+        Err(reason) => Some(Outcome::ServerRefused(reason)),
     }
 }
 
 /// The outcome where the client does not take up the challenge.
 #[tactic(auto)]
-fn end_of(
+fn end_of_challenge(
     answer: Result<LongTermClientValidation, LongTermClientAuthErrorReason>,
 ) -> Option<Outcome>
-    ensures { result ≡ end_of answer }
+    ensures { result ≡ end_of_challenge answer }
 {
     match answer {
         Ok(LongTermClientValidation::ResendRequest(_)) => None,
@@ -120,51 +112,6 @@ fn end_of(
         )),
         Err(reason) => Some(Outcome::ClientRefused(reason)),
     }
-}
-
-/// The second request: signed by the client, read and answered by the server after the second list of calls.
-fn ask_again<A: Allocator + Copy>(
-    alloc: A,
-    client: &mut LongTermClientAuth<A>,
-    server: &mut LongTermServerAuth<A>,
-    meeting: &Meeting<'_>,
-) -> Result<Outcome, NegotiateError>
-    ensures { let m = meeting_of client.old.settings meeting.now in
-        IsRun result client.old client.new server.new
-        (second_asked m client.old.state server.old (asked m.second.id client.old.state))
-        (sides client.old.state server.old ∷ sides_after_second m client.old.state server.old) }
-{
-    let signed = request(alloc, client, meeting.second.id)?;
-    let request = message_in(signed.data());
-    serve(alloc, server, meeting.second.before)?;
-    let second = &meeting.second;
-    let answer = judged(server, &request, meeting.from, second.moment, second.words)?;
-    match answer {
-        Ok(algorithm) => confirm(alloc, client, server, meeting, &request, algorithm),
-        Err(reason) => Ok(Outcome::ServerRefused(reason)),
-    }
-}
-
-/// The success: signed by the server, and read by the client.
-fn confirm<A: Allocator + Copy>(
-    alloc: A,
-    client: &mut LongTermClientAuth<A>,
-    server: &mut LongTermServerAuth<A>,
-    meeting: &Meeting<'_>,
-    request: &Message<'_>,
-    algorithm: IntegrityAlgorithm,
-) -> Result<Outcome, NegotiateError>
-    requires method { method_of (type_field request.now) ≡ BINDING }
-    requires id { transaction_id_field request.now ≡ meeting.now.second.id }
-    ensures { let m = meeting_of client.old.settings meeting.now in
-        IsRun result client.old client.new server.new
-        (succeeded m algorithm client.old.state server.old
-        (responded (success m.second.id) (sight server.old m.from)))
-        (sides client.old.state server.old ∷ sides_after_success m client.old.state server.old) }
-{
-    let signed = success(alloc, server, request, meeting.from)?;
-    let answer = read(client, signed.data())?;
-    Ok(outcome(algorithm, answer))
 }
 
 /// The outcome of a second request that the server accepted with an algorithm, by the client's answer to the success.

@@ -6,6 +6,8 @@ mod expect;
 #[cfg(test)]
 mod hostile;
 #[cfg(test)]
+mod long;
+#[cfg(test)]
 mod memory;
 #[cfg(test)]
 mod messages;

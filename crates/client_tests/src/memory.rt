@@ -1,5 +1,5 @@
 //! Each allocation that a client asks for refused in turn: it is then as before, and the call succeeds when it is made again.
-use crate::expect::{expect_error, expect_request};
+use crate::expect::{expect_error, expect_request, expect_told};
 use fail_alloc::RefusingAllocator;
 use std::alloc::Global;
 use std::process::Abort;
@@ -120,6 +120,20 @@ fn a_nonce_is_renewed_or_not(rt: HostRuntime) -> Result<(), Fail> {
     let heap = RefusingAllocator::new(rt.alloc());
     let bytes = message(rt.alloc(), MessageClass::Error, &STALE)?;
     heap.each_refusal(|nth| stale_nonce(&rt, (rt.alloc(), &heap), bytes.as_slice(), nth))
+}
+
+/// A client that knows its server gives back the realm and the nonce that a stale nonce replaces.
+#[test]
+fn an_old_nonce_is_given_back(rt: HostRuntime) -> Result<(), Fail> {
+    let alloc = rt.alloc();
+    let heap = RefusingAllocator::new(alloc);
+    let mut client = asked_client(&rt, (alloc, &heap))?;
+    let success = (MessageClass::Success, [Part::Sha1(&MD5_KEY)].as_slice());
+    expect_told(&rt, alloc, &mut client, success, SHA1)?;
+    let live = heap.live();
+    expect_error(&rt, alloc, &mut client, &STALE, RESEND)?;
+    assert_eq!(rt; heap.live(), live);
+    Ok(())
 }
 
 /// Signs a request while the nth allocation is refused: its length or the refusal, and whether none was refused.

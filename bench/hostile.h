@@ -15,12 +15,12 @@
 static uint8_t *pages;
 static size_t pages_length;
 
-static void fail(const char *what, long number) {
+static inline void fail(const char *what, long number) {
     fprintf(stderr, "hostile: %s: %ld\n", what, number);
     exit(1);
 }
 
-static void make_pages(void) {
+static inline void make_pages(void) {
     size_t page = (size_t)sysconf(_SC_PAGESIZE);
     pages_length = (STUN_LONGEST_MESSAGE / page + 2) * page;
     uint8_t *all = mmap(NULL, pages_length + 2 * page, PROT_NONE, MAP_PRIVATE | MAP_ANONYMOUS, -1, 0);
@@ -29,7 +29,7 @@ static void make_pages(void) {
 }
 
 /* A Binding request with id 1 and the attributes that hexadecimal digits spell, and its length. */
-static size_t spell(uint8_t *message, const char *const *digits, int pieces) {
+static inline size_t spell(uint8_t *message, const char *const *digits, int pieces) {
     static const uint8_t header[20] = "\x00\x01\x00\x00\x21\x12\xa4\x42\0\0\0\0\0\0\0\0\0\0\0\x01";
     size_t length = sizeof header;
     memcpy(message, header, sizeof header);
@@ -111,7 +111,7 @@ static const uint8_t sample[108] =
 static const char password[] = "VOkJxbRl1RmTxUk/WvJxBt";
 
 /* A fixed sequence of numbers (xorshift), below `limit` each. */
-static uint32_t draw(uint32_t limit) {
+static inline uint32_t draw(uint32_t limit) {
     static uint64_t state = 0x9e3779b97f4a7c15;
     state ^= state << 13;
     state ^= state >> 7;
@@ -121,7 +121,7 @@ static uint32_t draw(uint32_t limit) {
 
 /* Changes some bytes of a message, then the length in one of four cases, up to 63 bytes more. Every second mutation states
  * the length that it has. */
-static size_t mutate(uint8_t *message, const uint8_t *from, size_t length) {
+static inline size_t mutate(uint8_t *message, const uint8_t *from, size_t length) {
     memcpy(message, from, length);
     for (uint32_t changes = draw(4); changes > 0; changes--) {
         uint8_t *byte = message + draw((uint32_t)length);

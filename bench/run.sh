@@ -3,23 +3,7 @@
 # It needs a C compiler, OpenSSL's headers (libssl-dev) and valgrind; without valgrind it counts nothing.
 set -eu
 cd "$(dirname "$0")"
-CC=${CC:-cc}
-archive=../crates/stun_c/out/libstun_c.a
-mkdir -p out
-
-# tried NAME COMMAND..: runs it and says how long it took; where it fails, prints it with its output and ends.
-tried() {
-    name=$1 began=$(date +%s)
-    shift
-    if ! "$@" >out/log 2>&1; then
-        cat out/log >&2
-        echo "bench: failed: $name: $*" >&2
-        exit 1
-    fi
-    echo "$name: $(($(date +%s) - began)) s" >&2
-}
-library() { (cd ../crates/stun_c && rt lib); }
-tried 'the archive, proved and built' library
+. ./common.sh
 tried 'the driver' "$CC" -O2 -Wall -Wextra -Werror -Wno-deprecated-declarations -I../include bench.c "$archive" -lcrypto -o out/bench
 
 # Instructions of one call: those from entering its function to leaving it, over so many calls. `prepare` makes a few

@@ -1,49 +1,12 @@
 /* What strangers may send, through stun_next and the calls that write: mutations of the request of RFC 5769, section 2.1,
  * each flush against memory that may not be touched, at its end and then at its front. The attributes that are found are
  * compared with a walk of this file's own. check.sh builds it with an address sanitizer where the compiler has one. */
-#include "stun.h"
-#include <stdbool.h>
-#include <stdio.h>
-#include <stdlib.h>
-#include <string.h>
-#include <sys/mman.h>
-#include <unistd.h>
+#include "../../bench/hostile.h"
 
 enum { MUTATIONS = 100000 };
 
-static const uint8_t sample[108] =
-    "\x00\x01\x00\x58\x21\x12\xa4\x42\xb7\xe7\xa7\x01\xbc\x34\xd6\x86\xfa\x87\xdf\xae\x80\x22\x00\x10STUN test client"
-    "\x00\x24\x00\x04\x6e\x00\x01\xff\x80\x29\x00\x08\x93\x2f\xf9\xb1\x51\x26\x3b\x36\x00\x06\x00\x09" "evtj:h6vY   "
-    "\x00\x08\x00\x14\x9a\xea\xa7\x0c\xbf\xd8\xcb\x56\x78\x1e\xf2\xb5\xb2\xd3\xf2\x49\xc1\xb5\x71\xa2\x80\x28\x00\x04"
-    "\xe5\x7a\x3b\xcf";
-
-static uint8_t *pages;
-static size_t pages_length;
-
-static void fail(const char *what, long number) {
-    fprintf(stderr, "hostile_messages: %s: %ld\n", what, number);
-    exit(1);
-}
-
-static void make_pages(void) {
-    size_t page = (size_t)sysconf(_SC_PAGESIZE);
-    pages_length = 2 * page;
-    uint8_t *all = mmap(NULL, pages_length + 2 * page, PROT_NONE, MAP_PRIVATE | MAP_ANONYMOUS, -1, 0);
-    if (all == MAP_FAILED || mprotect(all + page, pages_length, PROT_READ | PROT_WRITE) != 0) fail("no pages", 0);
-    pages = all + page;
-}
-
-/* A fixed sequence of numbers (xorshift), below `limit` each. */
-static uint32_t draw(uint32_t limit) {
-    static uint64_t state = 0x9e3779b97f4a7c15;
-    state ^= state << 13;
-    state ^= state >> 7;
-    state ^= state << 17;
-    return (uint32_t)(state >> 32) % limit;
-}
-
 /* Changes some bytes, or the type or length of an attribute, and sometimes the length of the message. */
-static size_t mutate(uint8_t *message) {
+static size_t mutate_attributes(uint8_t *message) {
     static const uint8_t places[] = {20, 40, 48, 60, 76, 100};
     static const uint16_t types[] = {STUN_MESSAGE_INTEGRITY, STUN_MESSAGE_INTEGRITY_SHA256, STUN_FINGERPRINT, STUN_XOR_MAPPED_ADDRESS, STUN_ERROR_CODE, STUN_USERNAME};
     size_t length = sizeof sample;
@@ -156,7 +119,7 @@ int main(void) {
     make_pages();
     for (long i = 0; i < MUTATIONS; i++) {
         uint8_t message[256];
-        size_t length = mutate(message);
+        size_t length = mutate_attributes(message);
         uint8_t *at_end = pages + pages_length - length;
         memcpy(at_end, message, length);
         read_all(at_end, length, i);

@@ -1,87 +1,74 @@
-/* What the library leaves to its caller and both UDP programs need: a clock, random bytes, addresses of sockets, and
- * FINGERPRINT (RFC 8489, section 14.7). */
+/* What the library leaves to its caller and both UDP programs need: a clock, random bytes, sockets and their addresses,
+ * processes, and the words of a command line. */
 #ifndef STUN_NET_H
 #define STUN_NET_H
 
 #include "stun_state.h"
-#include <arpa/inet.h>
 #include <netinet/in.h>
-#include <stdio.h>
-#include <stdlib.h>
-#include <string.h>
-#include <sys/random.h>
+#include <signal.h>
 #include <sys/socket.h>
-#include <time.h>
+#include <sys/types.h>
 
-static const uint64_t SECOND = 1000000000;
+#define SECOND UINT64_C(1000000000)
 
 /* Nanoseconds since some start, which never go back. */
-static inline uint64_t moment(void) {
-    struct timespec now;
-    clock_gettime(CLOCK_MONOTONIC, &now);
-    return (uint64_t)now.tv_sec * SECOND + (uint64_t)now.tv_nsec;
-}
+uint64_t moment(void);
 
-/* Without random bytes there are no ids and no nonces. At most 256 bytes, which come whole. */
-static inline void fill_randomly(void *out, size_t length) {
-    if (getrandom(out, length, 0) == (ssize_t)length) return;
-    perror("getrandom");
-    exit(1);
-}
+/* Without random bytes there are no ids and no nonces, so it ends the program. At most 256 bytes, which come whole. */
+void fill_randomly(void *out, size_t length);
 
-/* The address of a socket for the library. An IPv4 address that is mapped into IPv6 is IPv4. */
-static inline stun_address of_socket(const struct sockaddr_storage *from) {
-    stun_address address = {{0}, 0, 0};
-    if (from->ss_family == AF_INET) {
-        const struct sockaddr_in *four = (const struct sockaddr_in *)from;
-        address.length = 4;
-        address.port = ntohs(four->sin_port);
-        memcpy(address.octets, &four->sin_addr, 4);
-    } else {
-        const struct sockaddr_in6 *six = (const struct sockaddr_in6 *)from;
-        size_t mapped = IN6_IS_ADDR_V4MAPPED(&six->sin6_addr) ? 12 : 0;
-        address.length = (uint16_t)(16 - mapped);
-        address.port = ntohs(six->sin6_port);
-        memcpy(address.octets, six->sin6_addr.s6_addr + mapped, address.length);
-    }
-    return address;
-}
+/* The other end of a datagram, and at which address of this machine it came. */
+struct peer {
+    struct sockaddr_storage name;
+    socklen_t name_length;
+    size_t here[CMSG_SPACE(sizeof(struct in6_pktinfo)) / sizeof(size_t)]; /* aligned as its headers must be */
+    size_t here_length;
+};
 
-/* Room for `[IPv6]:PORT` and a zero. */
-enum { ADDRESS_TEXT = INET6_ADDRSTRLEN + 9 };
+/* The address of a peer for the library. An IPv4 address that is mapped into IPv6 is IPv4. */
+stun_address address_of(const struct peer *peer);
 
-static inline void write_address(const stun_address *address, char text[ADDRESS_TEXT]) {
-    char octets[INET6_ADDRSTRLEN] = "?";
-    inet_ntop(address->length == 4 ? AF_INET : AF_INET6, address->octets, octets, sizeof octets);
-    snprintf(text, ADDRESS_TEXT, address->length == 4 ? "%s:%u" : "[%s]:%u", octets, (unsigned)address->port);
-}
+/* An address as `IPv4:PORT` or `[IPv6]:PORT`, until the next call. */
+const char *text_of(const stun_address *address);
 
-/* CRC-32 of ITU-T V.42 under the mask of FINGERPRINT. */
-static inline uint32_t fingerprint(const uint8_t *bytes, size_t length) {
-    uint32_t sum = 0xffffffff;
-    for (size_t i = 0; i < length; i++) {
-        sum ^= bytes[i];
-        for (int bit = 0; bit < 8; bit++) sum = (sum >> 1) ^ ((sum & 1) * 0xedb88320);
-    }
-    return ~sum ^ 0x5354554e;
-}
+/* A socket on a port for IPv6 and IPv4, or for IPv4 where there is no IPv6. Port 0 becomes the one that was found. A shared
+ * port may have more sockets. Waits for a datagram end after a second. Answers -1 after it told why on standard error. */
+int open_server(unsigned long *port, bool is_shared);
 
-/* Whether the FINGERPRINT at a place of a message is right for the bytes before it. */
-static inline bool has_fingerprint(const uint8_t *message, size_t place) {
-    uint32_t wanted;
-    memcpy(&wanted, message + place + STUN_ATTRIBUTE_HEADER_LENGTH, 4);
-    return ntohl(wanted) == fingerprint(message, place);
-}
+/* Finds a server, and opens a socket of its kind, whose own address it writes. Answers -1 after it told why. */
+int open_client(const char *host, const char *port, struct peer *server, stun_address *own);
 
-/* Adds FINGERPRINT to a finished message, whose length field counts it, and answers its new length. */
-static inline size_t add_fingerprint(uint8_t *message, size_t room, size_t length) {
-    if (length + 8 > room || length + 8 - STUN_HEADER_LENGTH > 65532) return length;
-    uint16_t counted = htons((uint16_t)(length + 8 - STUN_HEADER_LENGTH));
-    memcpy(message + 2, &counted, 2);
-    uint32_t sum = htonl(fingerprint(message, length));
-    memcpy(message + length, "\x80\x28\x00\x04", 4);
-    memcpy(message + length + 4, &sum, 4);
-    return length + 8;
-}
+/* Whether a datagram comes within so many nanoseconds. */
+bool is_readable(int socket, uint64_t nanoseconds);
+
+/* Takes a datagram, and answers its length, or -1 where none came or there was no room for it. */
+ssize_t receive_from(int socket, uint8_t *bytes, size_t room, struct peer *peer);
+
+/* Sends a datagram from the address that the peer's came to. What is lost here is as what is lost on the way. */
+void send_to(int socket, const uint8_t *bytes, size_t length, const struct peer *peer);
+
+/* SIGTERM or SIGINT came, once `end_at_signals` was called. */
+extern volatile sig_atomic_t is_ending;
+void end_at_signals(void);
+
+/* Prints `port N` and serves, in one process or in more, of which each has a socket of its own on the port: the kernel gives
+ * an address's datagrams to one of them, as long as none comes or goes. Answers the status of the program. */
+enum { MOST_PROCESSES = 64 };
+int serve_in_processes(unsigned long processes, unsigned long port, void (*serve)(int socket));
+
+/* An option of the command line: a flag, or what follows it, a number or seconds within bounds. */
+struct option {
+    const char *name;
+    bool *flag;
+    unsigned long *number;
+    uint64_t *nanoseconds;
+    unsigned long least, most;
+};
+
+bool read_number(const char *word, unsigned long least, unsigned long most, unsigned long *number);
+
+/* Takes the options, which end with one without a name, out of the words. The others are left at their front, and their
+ * number is the answer, or -1. */
+int read_options(int count, char **words, const struct option *options);
 
 #endif

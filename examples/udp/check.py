@@ -54,14 +54,14 @@ def build(folder):
     for archive in (STATE, STATELESS):
         if not archive.exists():
             return None, f"no {archive.name}"
-    flags = ["-std=c99", "-Wall", "-Wextra", "-Wpedantic", "-Werror", "-g", "-O1", f"-I{TOP}/include"]
+    flags = ["-Wall", "-Wextra", "-Wpedantic", "-Wconversion", "-Werror", "-g", "-O1"]
     sanitized = ["-fsanitize=address,undefined", "-fno-sanitize-recover=all"]
     empty = folder / "empty.c"
     empty.write_text("int main(void) { return 0; }\n")
     has = subprocess.run([compiler, *sanitized, empty, "-o", folder / "empty"], capture_output=True).returncode == 0
-    for name in ("udp_server", "udp_client"):
-        sources = [TOP / "examples/c" / f"{name}.c", TOP / "examples/c/heap.c"]
-        subprocess.run([compiler, *flags, *(sanitized if has else []), *sources, STATE, STATELESS, "-o", folder / name], check=True)
+    flags = " ".join(flags + (sanitized if has else []))
+    made = ["make", "-s", "-C", TOP / "examples/c", f"CC={compiler}", f"CFLAGS={flags}", f"OUT={folder}", f"STATE={STATE}", "udp"]
+    subprocess.run(made, check=True)
     return has, None
 
 

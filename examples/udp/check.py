@@ -502,18 +502,21 @@ def label(program):
 
 
 def cases(servers, clients, hosts):
-    """Each case with its name. The first server has what the others need not: nonces that expire at a signal, FINGERPRINT,
-    workers, the address that was asked, and a bound on attributes."""
+    """Each case with its name. The first server has what the others need not: nonces that expire at a signal, the address
+    that was asked, and a bound on addresses."""
     both = ((), ("--sha256",))
     for server in servers:
         name = label(server)
         one = lambda what, *words: (f"{name}: {what.__name__} {words}", what, (server, *words))
-        yield from (one(unknown_attributes), one(choices), one(hostile, ()), one(hostile, USER))
+        yield from (one(what) for what in (unknown_attributes, choices, many_attributes, fingerprints, workers))
+        yield from (one(hostile, ()), one(hostile, USER))
         if server == servers[0]:
-            yield from (one(what) for what in (many_attributes, fingerprints, another_address, addresses, workers))
+            yield from (one(another_address), one(addresses))
         for words, algorithm in zip(both, (stun.SHA1, stun.SHA256)):
             yield from (one(unknown_and_signed, words, algorithm), one(challenges, words, algorithm))
-        yield f"{name}: wrong words", wrong_words, (server, (), ("x",), ("0", "realm"), ("0", "realm", "name"))
+        wrong = ((), ("x",), ("0", "realm"), ("0", "realm", "name"), ("0", "--workers"), ("0", "--workers", "0"),
+                 ("0", "--expiry", "29"), ("0", "--what"))
+        yield f"{name}: wrong words", wrong_words, (server, *wrong)
     for client in clients:
         name = label(client)
         yield f"{name}: nobody there", nobody_there, (client,)

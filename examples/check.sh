@@ -120,5 +120,9 @@ if [ -n "$has_state" ] && python3 -c "$loopback" >/dev/null 2>&1; then
         exit 1
     fi
     checked="$checked; $(tail -n 1 "$scratch/udp")"
+    # Three servers behind one address, where network namespaces can be made; once more for the same reason.
+    shards() { python3 udp/shards.py >"$scratch/shards" 2>&1 || { cat "$scratch/shards" >&2 && false; }; }
+    shards || shards
+    checked="$checked; $(tail -n 1 "$scratch/shards")"
 fi
 echo "examples: passed in $checked"

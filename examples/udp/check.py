@@ -68,9 +68,10 @@ def build(folder):
 class Server:
     """A running server, which is ended at the end, and has then nothing to complain of."""
 
-    def __init__(self, program, *words):
+    def __init__(self, program, *words, port=0, within=()):
         self.errors = tempfile.TemporaryFile("w+")
-        self.process = subprocess.Popen([program, "0", *words], stdout=subprocess.PIPE, stderr=self.errors, text=True)
+        words = [*within, program, str(port), *words]
+        self.process = subprocess.Popen(words, stdout=subprocess.PIPE, stderr=self.errors, text=True)
         RUNNING.append(self.process)
         self.lines, self.is_up = [], threading.Event()
         threading.Thread(target=self.listen, daemon=True).start()

@@ -44,6 +44,8 @@ pub mod Counters
 pub mod Stopped
 -- a call of a server as a value: what its equality compares, and what is shown of it
 pub mod CallValues
+-- an event as a value: what its equality compares
+pub mod EventValues
 -- words that are handed in, as a source of random words
 pub mod Words
 -- what no clause of a public call says: codings of models, views of structs, steps of the code

@@ -14,6 +14,7 @@ ghost use Rattle.stun_proto.specs.Best.{BestIsStrongest};
 ghost use Rattle.stun_proto.specs.Examples.{binding_request, udp_steps, tcp_steps};
 ghost use Rattle.stun_proto.specs.CallValues.{value_of};
 ghost use Rattle.stun_proto.specs.Counters.{RunsCountSteps};
+ghost use Rattle.stun_proto.specs.EventValues.{event_value};
 ghost use Rattle.stun_proto.specs.Honest.{ShortNamesAreSigned, StrongestIsAgreed};
 ghost use Rattle.stun_proto.specs.Renewal.{NonceIsRenewed};
 ghost use Rattle.stun_proto.specs.Headline.{IsAskedOnce, SendsByPlan, ValidatesOneCall};
@@ -26,7 +27,7 @@ ghost use Rattle.stun_proto.specs.Steps.{Step, step_of};
 ghost use Rattle.stun_proto.specs.declared.replay.event.AgentEvent.{AgentEvent as TheEvent};
 
 use crate::replay::{
-    AgentStep, NegotiateError, Outcome, ServerCall, ServerReply, Stopped, WordSource,
+    AgentEvent, AgentStep, NegotiateError, Outcome, ServerCall, ServerReply, Stopped, WordSource,
 };
 use std::alloc::Allocator;
 use stun_auth::laws as auth_laws;
@@ -154,6 +155,13 @@ pub fn is_same_reply<A: Allocator>(one: &ServerReply<A>, other: &ServerReply<A>)
 /// Calls are equal as values: messages by their bytes, names and passwords by theirs.
 pub fn is_same_call(one: &ServerCall, other: &ServerCall) -> bool
     ensures { IsTrue result ↔ (value_of one.now ≡ value_of other.now) }
+{
+    one == other
+}
+
+/// Events are equal as values: bytes, addresses, ids and timeouts as they are.
+pub fn is_same_event(one: &AgentEvent, other: &AgentEvent) -> bool
+    ensures { IsTrue result ↔ (event_value one.now ≡ event_value other.now) }
 {
     one == other
 }

@@ -6,6 +6,7 @@ pub mod Chosen
 pub mod Counting
 pub mod DrawnWords
 pub mod DriveLemmas
+pub mod Driven
 pub mod Existence
 pub mod Hashes
 pub mod Heard

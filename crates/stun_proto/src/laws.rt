@@ -19,7 +19,7 @@ ghost use Rattle.stun_proto.specs.Honest.{ShortNamesAreSigned, StrongestIsAgreed
 ghost use Rattle.stun_proto.specs.Renewal.{NonceIsRenewed};
 ghost use Rattle.stun_proto.specs.Headline.{IsAskedOnce, SendsByPlan, ValidatesOneCall};
 ghost use Rattle.stun_proto.specs.Run.{IsDriven};
-ghost use Rattle.stun_proto.specs.RunLaws.{EventsHaveRuns, IsDetermined, IsDeterminedThroughout, requester};
+ghost use Rattle.stun_proto.specs.RunLaws.{EventsHaveRuns, IsDetermined, IsDeterminedThroughout, KeepPlans, requester};
 ghost use Rattle.stun_proto.specs.Schedule.{AreInOrder, plan};
 ghost use Rattle.stun_proto.specs.Serving.{reply_of};
 ghost use Rattle.stun_proto.specs.Shards.{ShardsServeAsOne};
@@ -55,6 +55,13 @@ pub fn runs_send_by_plan()
     ensures { (until : ℕ) (a b : Agent) (events : List (ℕ × TheEvent)) (steps : List Step)
         → until ≤ last_moment → IsAscending a.transactions → AreInOrder until 0 events
         → IsDriven until a events steps b → SendsByPlan until (requester a) events steps }
+{}
+
+/// The same of ids that come again: each request that the agent accepts and that is undisturbed goes by its plan up to its end.
+pub fn runs_keep_plans()
+    ensures { (until : ℕ) (a b : Agent) (events : List (ℕ × TheEvent)) (steps : List Step)
+        → until ≤ last_moment → IsAscending a.transactions → AreInOrder until 0 events
+        → IsDriven until a events steps b → KeepPlans until a events steps }
 {}
 
 /// The plan of one request, spelled out. With the default settings, over UDP: a transmission at 0, 500, 1500, 3500, 7500,

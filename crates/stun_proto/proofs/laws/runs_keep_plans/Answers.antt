@@ -1,0 +1,5 @@
+use Rattle.stun_proto.proofs.Driven.{driven_keeps_plans}
+use Rattle.stun_proto.proofs.laws.runs_keep_plans.Goals as goal
+
+pub returns : goal.returns
+returns c = driven_keeps_plans

@@ -10,7 +10,7 @@ use std::alloc::Allocator;
 use stun_types::attribute::{
     Nonce, PasswordAlgorithm, PasswordAlgorithmValue, PasswordAlgorithms, Realm, Userhash, Username,
 };
-use stun_types::message::{IntegrityAlgorithm, IntegrityKey, StunWriteError};
+use stun_types::message::{IntegrityAlgorithm, PreparedKey, StunWriteError};
 use stun_types::prelude::*;
 
 /// An attribute that signing adds before the integrity attribute.
@@ -69,7 +69,7 @@ fn add_made<W: MessageWrite, M: Attribute>(writer: &mut W, made: &M) -> Result<(
 #[tactic(auto, unfolding(crate::specs::Additions::added_one))]
 pub(crate) fn add_integrity<W: MessageWrite, A: Allocator>(
     writer: &mut W,
-    key: &IntegrityKey<A>,
+    key: &PreparedKey<A>,
     algorithm: IntegrityAlgorithm,
 ) -> Result<(), StunWriteError>
     requires { 20 ≤ length (W.bytes writer.old) }
@@ -77,7 +77,7 @@ pub(crate) fn add_integrity<W: MessageWrite, A: Allocator>(
         (W.reserved writer.old)
         result (page_in W.bytes W.room writer.new) }
 {
-    writer.add_message_integrity_with_key(key, algorithm)
+    writer.add_message_integrity_with_key(key.key(), algorithm)
 }
 
 /// How many bytes the integrity attribute of an algorithm takes.

@@ -14,7 +14,7 @@ use crate::supported::Supported;
 use std::alloc::{AllocError, Allocator};
 use stun_base::key::{long_term_key, userhash};
 use stun_types::attribute::{PasswordAlgorithmValue, PasswordAlgorithms};
-use stun_types::message::{IntegrityAlgorithm, IntegrityKey};
+use stun_types::message::{IntegrityAlgorithm, PreparedKey};
 
 /// Why a client does not take up a challenge.
 #[derive(Clone, Copy, Debug, PartialEq, Eq)]
@@ -38,7 +38,7 @@ pub(crate) struct KeptChallenge<A: Allocator> {
     pub(crate) nonce: ShortText<A>,
     pub(crate) algorithms: Vec<PasswordAlgorithmValue, A>,
     pub(crate) algorithm: IntegrityAlgorithm,
-    pub(crate) key: IntegrityKey<A>,
+    pub(crate) key: PreparedKey<A>,
 }
 
 /// A challenge that is to be taken up: the user it is for, what the message says, and the algorithm it comes to.
@@ -98,7 +98,7 @@ impl Offer<'_, '_> {
             nonce,
             algorithms,
             algorithm: self.algorithm,
-            key,
+            key: PreparedKey::new(key, self.algorithm),
         })
     }
 }

@@ -19,7 +19,7 @@ ghost use Rattle.stun_auth.specs.code.LastAttributes.{error_in, last_attributes,
 use std::alloc::Allocator;
 use std::marker::Model;
 use stun_base::algorithm::IntegrityAlgorithm;
-use stun_base::key::IntegrityKey;
+use stun_base::prepared_key::PreparedKey;
 use stun_types::attribute::{
     AttributeType, ErrorCode, Nonce, PasswordAlgorithm, PasswordAlgorithms, RawAttribute, Realm,
     Userhash, Username,
@@ -119,13 +119,13 @@ impl<'a, 'm> Model for Signature<'a, 'm> {
 
 impl Signature<'_, '_> {
     /// The algorithm whose digest verifies under a key.
-    fn verified_under<A: Allocator>(&self, key: &IntegrityKey<A>) -> Option<IntegrityAlgorithm>
+    fn verified_under<A: Allocator>(&self, key: &PreparedKey<A>) -> Option<IntegrityAlgorithm>
         ensures { result ≡ verified_algorithm self.now key.now }
     {
         match &self.decides {
             Some((place, attribute)) => {
                 self.message
-                    .validate_integrity_at(*place, attribute, key)
+                    .validate_integrity_prepared(*place, attribute, key)
                     .ok()
             }
             None => None,
@@ -290,7 +290,7 @@ impl<'a, 'm> Reading<'a, 'm> {
     /// The algorithm whose digest verifies under a key.
     pub(crate) fn verified_under<A: Allocator>(
         &self,
-        key: &IntegrityKey<A>,
+        key: &PreparedKey<A>,
     ) -> Option<IntegrityAlgorithm>
         ensures { result ≡ verified_under (reading_seen self.now) key.now }
     {

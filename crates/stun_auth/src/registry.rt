@@ -17,14 +17,15 @@ use std::collections::BTreeMap;
 use std::marker::Model;
 use stun_base::algorithm::IntegrityAlgorithm;
 use stun_base::credentials::LongTermCredentials;
-use stun_base::key::{IntegrityKey, long_term_key, userhash};
+use stun_base::key::{long_term_key, userhash};
+use stun_base::prepared_key::PreparedKey;
 
-/// A user with a key for each supported algorithm. The keys are inline.
+/// A user with a key for each supported algorithm, prepared for its digests. The keys are inline.
 #[derive(Drop)]
 pub(crate) struct User<A: Allocator> {
     password: String<A>,
-    sha1: Option<IntegrityKey<A>>,
-    sha256: Option<IntegrityKey<A>>,
+    sha1: Option<PreparedKey<A>>,
+    sha256: Option<PreparedKey<A>>,
 }
 
 /// The key of a user for an algorithm, if it is supported.
@@ -35,11 +36,12 @@ fn key_if<A: Allocator>(
     name: &str,
     realm: &str,
     password: &str,
-) -> Option<IntegrityKey<A>>
+) -> Option<PreparedKey<A>>
     ensures { result ≡ key_if (contains algorithm supported) algorithm name.now realm.now password.now }
 {
     if supported.contains(algorithm) {
-        Some(long_term_key(alloc, algorithm, name, realm, password))
+        let key = long_term_key(alloc, algorithm, name, realm, password);
+        Some(PreparedKey::new(key, algorithm))
     } else {
         None
     }
@@ -88,7 +90,7 @@ impl<A: Allocator + Copy> User<A> {
         self.sha256 = sha256;
     }
 
-    fn key(&self, algorithm: IntegrityAlgorithm) -> Option<&IntegrityKey<A>>
+    fn key(&self, algorithm: IntegrityAlgorithm) -> Option<&PreparedKey<A>>
         ensures { option_copied result ≡ key_in self.now algorithm }
     {
         match algorithm {
@@ -155,7 +157,7 @@ impl<A: Allocator + Copy> Registry<A> {
     }
 
     /// The key of a present user for a supported algorithm.
-    pub(crate) fn key(&self, name: &str, algorithm: IntegrityAlgorithm) -> Option<&IntegrityKey<A>>
+    pub(crate) fn key(&self, name: &str, algorithm: IntegrityAlgorithm) -> Option<&PreparedKey<A>>
         ensures { option_copied result ≡ key_at self.now name.now algorithm }
     {
         match self.users.get(name) {

@@ -1,10 +1,11 @@
 //! HMAC (RFC 2104) over SHA-1 and SHA-256.
 
-ghost use Rattle.std.specs.Prelude.{◌≡◌, ◌≤◌, length, map};
+ghost use Rattle.std.specs.Prelude.{◌≡◌, ◌≤◌, ◌++◌, ℕ, List, length, map};
 ghost use Rattle.std.specs.List.{concat};
 ghost use Rattle.sha1.specs.Sha1.{sha1};
 ghost use Rattle.sha2.specs.Sha256.{sha256};
 ghost use Rattle.stun_base.specs.Hmac as spec;
+ghost use Rattle.stun_base.specs.code.Padded.{IsBegun};
 
 use crate::hash::HashFunction;
 use sha1::Sha1;
@@ -61,6 +62,25 @@ fn padded(block: &[u8; BLOCK_LENGTH], pad: u8) -> [u8; BLOCK_LENGTH]
     masked
 }
 
+/// A hasher that holds the key's block under a pad.
+fn begun<H: HashFunction>(block: &[u8; BLOCK_LENGTH], pad: u8) -> H
+    ensures { H.holds result (spec.padded pad block.now) }
+{
+    let mut hasher = H::start();
+    hasher.feed(&padded(block, pad));
+    hasher
+}
+
+/// Feeds the pieces in their order.
+fn feed_all<H: HashFunction>(hasher: &mut H, pieces: &[&[u8]])
+    ensures { (message : List ℕ) → H.holds hasher.old message →
+        H.holds hasher.new (message ++ concat (map (λ piece. piece.now) pieces.now)) }
+{
+    for piece in pieces {
+        hasher.feed(piece);
+    }
+}
+
 /// HMAC over a hash function, of the pieces in their order as one text.
 #[tactic(auto, unfolding(crate::specs::Hmac::hmac))]
 fn hmac<H: HashFunction>(key: &[u8], pieces: &[&[u8]]) -> H::Digest
@@ -68,15 +88,47 @@ fn hmac<H: HashFunction>(key: &[u8], pieces: &[&[u8]]) -> H::Digest
         spec.hmac H.digest key.now (concat (map (λ piece. piece.now) pieces.now)) }
 {
     let block = key_block::<H>(key);
-    let mut inner = H::start();
-    inner.feed(&padded(&block, INNER_PAD));
-    for piece in pieces {
-        inner.feed(piece);
-    }
-    let mut outer = H::start();
-    outer.feed(&padded(&block, OUTER_PAD));
+    let mut inner = begun::<H>(&block, INNER_PAD);
+    feed_all(&mut inner, pieces);
+    let mut outer = begun::<H>(&block, OUTER_PAD);
     outer.feed(inner.finish().as_slice());
     outer.finish()
+}
+
+/// What HMAC does before it reads the text (RFC 2104, section 4): a hasher that holds the key's block under the inner pad, and
+/// one that holds it under the outer pad. Who has them can make digests of the key, so they are kept as a key is.
+#[derive(Drop)]
+pub(crate) struct BegunHmac<H: HashFunction> {
+    inner: H,
+    outer: H,
+}
+
+impl<H: HashFunction> BegunHmac<H> {
+    /// The hashers of a key.
+    pub(crate) fn of(key: &[u8]) -> Self
+        ensures { IsBegun H.holds H.digest key.now result.inner result.outer }
+    {
+        let block = key_block::<H>(key);
+        BegunHmac {
+            inner: begun::<H>(&block, INNER_PAD),
+            outer: begun::<H>(&block, OUTER_PAD),
+        }
+    }
+
+    /// HMAC of the pieces in their order as one text, under the key whose hashers these are.
+    #[tactic(auto, unfolding(crate::specs::Hmac::hmac))]
+    pub(crate) fn digest(&self, pieces: &[&[u8]]) -> H::Digest
+        ensures { (key : List ℕ) →
+            IsBegun H.holds H.digest key self.now.inner self.now.outer →
+            H.Digest.items result ≡
+            spec.hmac H.digest key (concat (map (λ piece. piece.now) pieces.now)) }
+    {
+        let mut inner = self.inner.copy();
+        feed_all(&mut inner, pieces);
+        let mut outer = self.outer.copy();
+        outer.feed(inner.finish().as_slice());
+        outer.finish()
+    }
 }
 
 /// HMAC-SHA1 (RFC 2104) of the pieces in their order, as one text. Keys and texts of any length are

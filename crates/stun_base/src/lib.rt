@@ -15,6 +15,7 @@ pub mod key;
 pub mod laws;
 pub mod message_type;
 mod no_memory;
+pub mod prepared_key;
 mod short_text;
 pub mod transaction_id;
 pub mod transport;

@@ -1,5 +1,5 @@
 -- Where the deciding attribute is.
-use Rattle.std.proofs.Common.{◌≡◌, ℕ, zero, suc, ◌+◌, ◌-◌, ◌≤◌, Bool, true, false, cond, List, [], ◌∷◌, length, take, drop, Some, None, refl, sym, subst, arith, append_assoc}
+use Rattle.std.proofs.Common.{◌≡◌, ℕ, zero, suc, ◌+◌, ◌++◌, ◌-◌, ◌≤◌, Bool, true, false, cond, List, [], ◌∷◌, length, take, drop, Some, None, refl, subst, arith}
 use Rattle.std.specs.Prelude.{find, IfSome, IsTrue, Option, nat_eq, ◌==◌, ◌↔◌}
 use Rattle.std.specs.Cmp.Lexicographic.{other_text, pointwise, same_text}
 use Rattle.std.specs.Option.{option_or}
@@ -69,14 +69,14 @@ take-header (suc (suc p)) [] h = refl
 take-header (suc (suc p)) (x ∷ []) h = refl
 take-header (suc (suc p)) (x ∷ y ∷ bytes) h = refl
 
--- what is covered, in three pieces
+-- what is covered, in two pieces
 pub covered_pieces : (bytes : List ℕ) (place count : ℕ) → 20 ≤ place
-    → concat (take 2 bytes ∷ big_bytes 2 (place + 4 + count - 20) ∷ take (place - 4) (drop 4 bytes) ∷ []) ≡ covered bytes place count
+    → concat ((take 2 bytes ++ big_bytes 2 (place + 4 + count - 20)) ∷ take (place - 4) (drop 4 bytes) ∷ []) ≡ covered bytes place count
 covered_pieces bytes place count behind =
     let front = take-header place bytes behind in
     let sum : 4 + (place - 4) ≡ place = omega arith in
     let back : drop 4 (take place bytes) ≡ take (place - 4) (drop 4 bytes) = rw sum at (drop-take 4 (place - 4) bytes) in
-    rw (front, back, append-nil) (sym (append_assoc (take 2 bytes) (big_bytes 2 (place + 4 + count - 20)) (take (place - 4) (drop 4 bytes))))
+    rw (front, back, append-nil) refl
 
 -- a test that holds of two texts if and only if they are equal is the test of their bytes one by one
 pub test_of_texts : (r : Bool) (xs ys : List ℕ) → IsTrue r ↔ (xs ≡ ys) → r ≡ pointwise nat_eq xs ys

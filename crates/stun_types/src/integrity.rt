@@ -1,5 +1,6 @@
 //! The check of a message's integrity (RFC 8489, sections 14.5, 14.6 and 9.2.4).
-ghost use Rattle.std.specs.Prelude.{◌≡◌, ◌+◌, ◌-◌, ◌^◌, ◌<◌, ◌≤◌, List, ℕ, length, IfOk, OnOk, IfErr, OnErr, IfSome, Some, None, true, false, ◌==◌, ◌||◌, ◌&&◌, if◌then◌else◌};
+ghost use Rattle.byteorder.specs.Endian.{big_bytes};
+ghost use Rattle.std.specs.Prelude.{◌≡◌, ◌++◌, take, ◌+◌, ◌-◌, ◌^◌, ◌<◌, ◌≤◌, List, ℕ, length, IfOk, OnOk, IfErr, OnErr, IfSome, Some, None, true, false, ◌==◌, ◌||◌, ◌&&◌, if◌then◌else◌};
 ghost use Rattle.stun_base.specs.Algorithm.{digest_length};
 ghost use Rattle.stun_base.specs.Attributes.{MESSAGE_INTEGRITY, MESSAGE_INTEGRITY_SHA256};
 ghost use Rattle.stun_base.specs.Header.{HEADER_LENGTH as header_length};
@@ -17,6 +18,7 @@ use stun_base::credentials::MessageIntegrityCredentials;
 use stun_base::header::HEADER_LENGTH;
 use stun_base::hmac::{SHA1_LENGTH, SHA256_LENGTH, hmac_sha1, hmac_sha256};
 use stun_base::key::IntegrityKey;
+use stun_base::prepared_key::PreparedKey;
 
 /// The bytes of the shortest cut of an HMAC-SHA256 (RFC 8489, section 14.6).
 const MIN_SHA256_LENGTH: usize = 16;
@@ -124,6 +126,18 @@ fn covered_length(place: usize, value_length: usize) -> u16
     (place + ATTRIBUTE_HEADER_LENGTH + value_length - HEADER_LENGTH) as u16
 }
 
+/// The header's first four bytes as the digest of an attribute at this place covers them: type, and length as it is to be.
+fn covered_start(message: &[u8], place: usize, value_length: usize) -> [u8; 4]
+    requires behind_header { header_length ≤ place }
+    requires within { place + 4 + value_length ≤ length message.now }
+    requires limit { length message.now < header_length + 2 ^ 16 }
+    ensures { result ≡
+        take 2 message.now ++ big_bytes 2 (place + 4 + value_length - header_length) }
+{
+    let length = covered_length(place, value_length).to_be_bytes();
+    [message[0], message[1], length[0], length[1]]
+}
+
 /// Whether the value of the integrity attribute at this place is the digest of what it covers, which is not copied.
 fn is_digest(message: &[u8], key: &[u8], place: usize, attribute: &RawAttribute<'_>) -> bool
     requires behind_header { header_length ≤ place }
@@ -132,12 +146,34 @@ fn is_digest(message: &[u8], key: &[u8], place: usize, attribute: &RawAttribute<
     requires whole { length attribute.now.value ≡ digest_length (integrity_algorithm attribute.now) }
     ensures { result ≡ is_digest message.now key.now (place, attribute.now) }
 {
-    let length = covered_length(place, attribute.length()).to_be_bytes();
-    let pieces = [&message[..2], &length, &message[4..place]];
+    let start = covered_start(message, place, attribute.length());
+    let pieces: [&[u8]; 2] = [&start, &message[4..place]];
     let claimed = attribute.value();
     match integrity_algorithm(attribute) {
         IntegrityAlgorithm::Sha1 => is_same_text(claimed, &hmac_sha1(key, &pieces)),
         IntegrityAlgorithm::Sha256 => is_same_text(claimed, &hmac_sha256(key, &pieces)),
+    }
+}
+
+/// The same under a key that is prepared.
+fn is_prepared_digest<A: Allocator>(
+    message: &[u8],
+    key: &PreparedKey<A>,
+    place: usize,
+    attribute: &RawAttribute<'_>,
+) -> bool
+    requires behind_header { header_length ≤ place }
+    requires within { place + 4 + length attribute.now.value ≤ length message.now }
+    requires limit { length message.now < header_length + 2 ^ 16 }
+    requires whole { length attribute.now.value ≡ digest_length (integrity_algorithm attribute.now) }
+    ensures { result ≡ is_digest message.now key.now (place, attribute.now) }
+{
+    let start = covered_start(message, place, attribute.length());
+    let pieces: [&[u8]; 2] = [&start, &message[4..place]];
+    let claimed = attribute.value();
+    match integrity_algorithm(attribute) {
+        IntegrityAlgorithm::Sha1 => is_same_text(claimed, &key.hmac_sha1(&pieces)),
+        IntegrityAlgorithm::Sha256 => is_same_text(claimed, &key.hmac_sha256(&pieces)),
     }
 }
 
@@ -227,6 +263,25 @@ impl Message<'_> {
     {
         check_whole(attribute)?;
         if !is_digest(self.as_bytes(), key.as_bytes(), place, attribute) {
+            return Err(ValidateError::IntegrityFailed);
+        }
+        Ok(integrity_algorithm(attribute))
+    }
+
+    /// The same as `validate_integrity_at`, under a key that is prepared.
+    pub fn validate_integrity_prepared<A: Allocator>(
+        &self,
+        place: usize,
+        attribute: &RawAttribute<'_>,
+        key: &PreparedKey<A>,
+    ) -> Result<IntegrityAlgorithm, ValidateError>
+        requires { deciding self.now ≡ Some (place, attribute.now) }
+        ensures ok { IfOk result (λ algorithm. verified_algorithm self.now key.now ≡ Some algorithm) }
+        ensures refused { IfErr result (λ error.
+            (verified_algorithm self.now key.now ≡ None) × (error ≡ integrity_refusal self.now)) }
+    {
+        check_whole(attribute)?;
+        if !is_prepared_digest(self.as_bytes(), key, place, attribute) {
             return Err(ValidateError::IntegrityFailed);
         }
         Ok(integrity_algorithm(attribute))

@@ -30,6 +30,7 @@ use stun_base::header::{HEADER_LENGTH, MAGIC_COOKIE};
 pub use stun_base::hmac::{hmac_sha1, hmac_sha256};
 pub use stun_base::key::{IntegrityKey, long_term_key};
 pub use stun_base::message_type::{BINDING, MessageClass, MessageType, Method};
+pub use stun_base::prepared_key::PreparedKey;
 pub use stun_base::transaction_id::TransactionId;
 
 /// A message, seen as its bytes, which it borrows.

@@ -23,7 +23,7 @@ use Rattle.stun_types.proofs.HeaderLemmas.{fields_of, is_stun-fields}
 use Rattle.stun_types.proofs.WalkLemmas.{walk_from-step, walk_from-end, whole_within}
 
 -- an attribute at the front is the same whatever follows it
-first_attribute-append : (bytes tail : List ℕ) → has_attribute bytes ≡ true
+pub first_attribute-append : (bytes tail : List ℕ) → has_attribute bytes ≡ true
     → (has_attribute (bytes ++ tail) ≡ true) × (first_attribute (bytes ++ tail) ≡ first_attribute bytes)
 first_attribute-append [] tail whole = cc
 first_attribute-append (x ∷ []) tail whole = cc
@@ -37,7 +37,7 @@ first_attribute-append (x ∷ y ∷ z ∷ w ∷ bytes) tail whole =
     (still, λ i. record { kind = kind_field (x ∷ y ∷ z ∷ w ∷ bytes); value = take-append-le n bytes tail fits i })
 
 -- a walk to the end goes on in bytes that go on
-walk_up_to-extended : (most place : ℕ) (bytes longer tail : List ℕ) → drop place longer ≡ drop place bytes ++ tail
+pub walk_up_to-extended : (most place : ℕ) (bytes longer tail : List ℕ) → drop place longer ≡ drop place bytes ++ tail
     → place + taken (walk_up_to most place bytes) ≡ length bytes → walk_from place longer ≡ walk_up_to most place bytes ++ walk_from (length bytes) longer
 unfolding walk_up_to
 walk_up_to-extended zero place bytes longer tail same filled =

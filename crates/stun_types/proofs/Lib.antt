@@ -1,12 +1,16 @@
 pub mod EntryLemmas
 pub mod AddingLemmas
+pub mod AgreeLemmas
+pub mod ContinuedLemmas
 pub mod GrammarLemmas
 pub mod HeaderLemmas
+pub mod HiddenLemmas
 pub mod IntegrityLemmas
 pub mod MessageLemmas
 pub mod OnceLemmas
 pub mod ReadingLemmas
 mod Sample
+pub mod ReachedLemmas
 pub mod SigningLemmas
 pub mod TailLemmas
 pub mod VisibleLemmas

@@ -22,7 +22,7 @@ deciding-within bytes =
     ] (first_of-within MESSAGE_INTEGRITY_SHA256 bytes)
 
 -- the bytes before it are more than a header
-long_before : (bytes : List ℕ) (m : Member) → deciding bytes ≡ Some m → 20 ≤ length (take m.0 bytes)
+pub long_before : (bytes : List ℕ) (m : Member) → deciding bytes ≡ Some m → 20 ≤ length (take m.0 bytes)
 long_before bytes m decides =
     let within : IsWithin bytes m = subst (λ found. IfSome found (IsWithin bytes)) decides (deciding-within bytes) in
     let long = length-take-le m.0 bytes (omega (arith, within.whole)) in

@@ -12,6 +12,8 @@ pub mod Visible
 pub mod Grammar
 -- the algorithm whose digest verifies (sections 14.5, 14.6 and 9.2.4)
 pub mod Integrity
+-- what follows the attribute that decides (sections 14.5 to 14.7)
+pub mod Tail
 -- an attribute as it is in a message: type, length, value, padding (section 14)
 pub mod Attribute
 -- what attributes read as

@@ -4,11 +4,13 @@
 ghost use Rattle.std.specs.Prelude.{◌≡◌, ◌↔◌, IsTrue, ℕ, false, Some, ◌≤◌, ◌<◌, ◌^◌, List, [], ◌∷◌, ◌++◌, length, take, slice_index};
 ghost use Rattle.stun_base.specs.Algorithm.{digest_length};
 ghost use Rattle.stun_base.specs.Attributes.{FINGERPRINT, MESSAGE_INTEGRITY, MESSAGE_INTEGRITY_SHA256};
+ghost use Rattle.stun_base.specs.Header.{transaction_id_field, type_field};
 ghost use Rattle.stun_types.specs.Attribute.{TypedValue};
 ghost use Rattle.stun_types.specs.Grammar.{spelled, SpellsWhatIsFound, FindsWhatIsSpelled, FindsWhatIsWritten};
 ghost use Rattle.stun_types.specs.Integrity.{deciding, verified_algorithm, verified_by};
 ghost use Rattle.stun_types.specs.Limits.{max_length};
 ghost use Rattle.stun_types.specs.Message.{with_length};
+ghost use Rattle.stun_types.specs.Tail.{AgreeUpToIntegrity, IsContinuedAnew, besides_fingerprint};
 ghost use Rattle.stun_types.specs.Visible.{of_kind, visible};
 ghost use Rattle.stun_types.specs.Walk.{Member, walk};
 ghost use Rattle.stun_types.specs.Writing.{HasOneMore, IsAddable, IsOpen, integrity_attribute, is_set_apart, length_with, with_attribute, with_integrity};
@@ -78,6 +80,20 @@ pub fn tail_does_not_count()
         → deciding bytes ≡ Some m → deciding others ≡ Some m
         → with_length (take m.0 bytes) 0 ≡ with_length (take m.0 others) 0
         → verified_by keys bytes ≡ verified_by keys others }
+{}
+
+/// What follows the deciding attribute is hidden, but for FINGERPRINT: two messages that agree up to it have the same type, id
+/// and other visible attributes, and the same verdict. Whatever is put behind it, they agree, unless it is a stronger one.
+pub fn what_follows_integrity_is_hidden()
+    ensures header { (bytes others : List ℕ) → AgreeUpToIntegrity bytes others
+        → (type_field bytes ≡ type_field others)
+        × (transaction_id_field bytes ≡ transaction_id_field others) }
+    ensures visible { (bytes others : List ℕ) → AgreeUpToIntegrity bytes others
+        → besides_fingerprint (visible bytes) ≡ besides_fingerprint (visible others) }
+    ensures verdict { (keys : IntegrityAlgorithm → List ℕ) (bytes others : List ℕ)
+        → AgreeUpToIntegrity bytes others → stands_by keys bytes ≡ stands_by keys others }
+    ensures appended { (bytes others : List ℕ) (m : Member)
+        → IsContinuedAnew bytes others m → AgreeUpToIntegrity bytes others }
 {}
 
 /// Messages are equal where their bytes are.

@@ -10,13 +10,15 @@ ghost use Rattle.stun_base.specs.declared.message_type.MessageClass.{MessageClas
 ghost use Rattle.stun_types.specs.ErrorCode.{CodeAndReason, IsError};
 ghost use Rattle.stun_types.specs.Grammar.{spelled};
 ghost use Rattle.stun_types.specs.Message.{LENGTH_LIMIT};
+ghost use Rattle.stun_types.specs.Tail.{AgreeUpToIntegrity};
 ghost use Rattle.stun_types.specs.Writing.{IsOpen};
 ghost use Rattle.stun_auth.specs.declared.algorithm_set.AlgorithmSet.{AlgorithmSet};
 ghost use Rattle.stun_auth.specs.declared.feature.Feature.{Feature as TheFeature};
 ghost use Rattle.stun_auth.specs.Additions.{Addition, Page, added_all, growth};
 ghost use Rattle.stun_auth.specs.Algorithms.{contains};
-ghost use Rattle.stun_auth.specs.Client.{ClientState};
+ghost use Rattle.stun_auth.specs.Client.{ClientSettings, ClientState};
 ghost use Rattle.stun_auth.specs.ClientSigning.{client_additions};
+ghost use Rattle.stun_auth.specs.ClientStep.{client_step};
 ghost use Rattle.stun_auth.specs.Feature.{is_possible};
 ghost use Rattle.stun_auth.specs.Forgetting.{after_forgetting, place_kept};
 ghost use Rattle.stun_auth.specs.Joined.{HasAdded, IsReadBack, IsTyped, page_after};
@@ -26,8 +28,9 @@ ghost use Rattle.stun_auth.specs.Reasons.{ServerRefusal};
 ghost use Rattle.stun_auth.specs.Seen.{ClientSeen, PlaceSeen};
 ghost use Rattle.stun_auth.specs.Server.{Sight, stands_at};
 ghost use Rattle.stun_auth.specs.ServerSigning.{after_signing, server_signed};
+ghost use Rattle.stun_auth.specs.ShortTerm.{Secret, short_term_answer};
 ghost use Rattle.stun_auth.specs.Signed.{Added, ClientMaySign, HasRoomFor, IsBuilt, IsSignable, IsSmall, IsText, IsUnsigned, IsWithinLimits, IsWritable, ReadsAs, ServerMaySign, added_by_client, added_by_server, additions_of, error_attribute};
-ghost use Rattle.stun_auth.specs.Validation.{ChangesNothing, ServerSeen, ValidatesAccepted, answer, needs_nonce, sight, verdict_at};
+ghost use Rattle.stun_auth.specs.Validation.{ChangesNothing, ServerSeen, ValidatesAccepted, after_message, answer, needs_nonce, sight, verdict_at};
 
 use crate::client_answer::{LongTermClientAuthErrorReason, LongTermClientValidation};
 use crate::feature::Feature;
@@ -61,6 +64,28 @@ pub fn signed_messages_are_read()
 {
     stun_types::laws::writing_adds_one_attribute();
     stun_types::laws::signed_message_stands();
+}
+
+/// What follows the deciding integrity attribute is not read: two messages that agree up to it have one reading, so that each
+/// server and each client answers them alike and is the same after either, and each password verifies them alike.
+pub fn what_follows_integrity_is_not_read()
+    ensures reading { (bytes others : List ℕ) → AgreeUpToIntegrity bytes others
+        → reading_of bytes ≡ reading_of others }
+    ensures server { (s : ServerSeen) (from : SocketAddr) (now : ℕ) (words bytes others : List ℕ)
+        → AgreeUpToIntegrity bytes others
+        → (answer (sight s from) now words (reading_of bytes)
+        ≡ answer (sight s from) now words (reading_of others))
+        × (after_message s from now words (reading_of bytes)
+        ≡ after_message s from now words (reading_of others)) }
+    ensures client { (settings : ClientSettings) (state : ClientState) (bytes others : List ℕ)
+        → AgreeUpToIntegrity bytes others
+        → client_step settings state (reading_of bytes)
+        ≡ client_step settings state (reading_of others) }
+    ensures short_term { (secret : Option Secret) (bytes others : List ℕ)
+        → AgreeUpToIntegrity bytes others
+        → short_term_answer secret bytes ≡ short_term_answer secret others }
+{
+    stun_types::laws::what_follows_integrity_is_hidden();
 }
 
 /// The answer to a request or an indication is `Validated` with an algorithm exactly where the message is accepted with it

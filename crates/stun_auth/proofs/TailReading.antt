@@ -8,8 +8,8 @@ use Rattle.stun_base.specs.MessageType.{class_of}
 use Rattle.stun_base.specs.declared.algorithm.IntegrityAlgorithm.{IntegrityAlgorithm}
 use Rattle.stun_types.specs.Attribute.{TypedValue}
 use Rattle.stun_types.specs.ErrorCode.{CodeAndReason, error_of}
-use Rattle.stun_types.specs.Integrity.{integrity_refusal, is_well_formed, refusal_of, stands, stands_by}
-use Rattle.stun_types.specs.PasswordAlgorithms.{algorithm_of, algorithms_of, integrity_of}
+use Rattle.stun_types.specs.Integrity.{integrity_refusal, is_well_formed, refusal_of, verified_algorithm, verified_by}
+use Rattle.stun_types.specs.PasswordAlgorithms.{password_algorithm_in, password_algorithms_in, integrity_of}
 use Rattle.stun_types.specs.Tail.{AgreeUpToIntegrity, besides_fingerprint}
 use Rattle.stun_types.specs.Text.{text_of}
 use Rattle.stun_types.specs.Userhash.{hash_of}
@@ -53,7 +53,7 @@ find-besides (m ∷ members) =
 pub record ReadAlike (bytes others : List ℕ) : Type 0 where
   pub kind : type_field bytes ≡ type_field others
   pub shown : besides_fingerprint (visible bytes) ≡ besides_fingerprint (visible others)
-  pub verdict : (keys : IntegrityAlgorithm → List ℕ) → stands_by keys bytes ≡ stands_by keys others
+  pub verdict : (keys : IntegrityAlgorithm → List ℕ) → verified_by keys bytes ≡ verified_by keys others
 
 last-alike : {A : Type 0} (reading : TypedValue → Option A) (kind : ℕ) (bytes others : List ℕ) → ReadAlike bytes others → (FINGERPRINT == kind) ≡ false
     → last reading kind bytes ≡ last reading kind others
@@ -67,8 +67,8 @@ unfolding reading_of
 reading-alike bytes others alike =
     let class : class_in bytes ≡ class_in others = ap class_of alike.kind in
     let error = last-alike error_of ERROR_CODE bytes others alike refl in
-    let algorithms = last-alike algorithms_of PASSWORD_ALGORITHMS bytes others alike refl in
-    let algorithm = last-alike algorithm_of PASSWORD_ALGORITHM bytes others alike refl in
+    let algorithms = last-alike password_algorithms_in PASSWORD_ALGORITHMS bytes others alike refl in
+    let algorithm = last-alike password_algorithm_in PASSWORD_ALGORITHM bytes others alike refl in
     let realm = last-alike (text_of REALM 763) REALM bytes others alike refl in
     let nonce = last-alike (text_of NONCE 763) NONCE bytes others alike refl in
     let username = last-alike (text_of USERNAME 513) USERNAME bytes others alike refl in

@@ -2,6 +2,7 @@ pub mod AcceptingLemmas
 pub mod AfterCalls
 pub mod Along
 pub mod Answered
+pub mod AppendedLemmas
 pub mod Chosen
 pub mod Counting
 pub mod DrawnWords

@@ -10,6 +10,7 @@ ghost use Rattle.stun_agent.specs.Transactions.{IsAscending};
 ghost use Rattle.stun_auth.specs.Reading.{Reading};
 ghost use Rattle.stun_auth.specs.Server.{Sight};
 ghost use Rattle.stun_auth.specs.Validation.{answer};
+ghost use Rattle.stun_proto.specs.Appending.{AgreeingAreAnsweredAlike, ContinuedAreAnsweredAlike};
 ghost use Rattle.stun_proto.specs.Best.{BestIsStrongest};
 ghost use Rattle.stun_proto.specs.Examples.{binding_request, udp_steps, tcp_steps};
 ghost use Rattle.stun_proto.specs.CallValues.{value_of};
@@ -88,6 +89,18 @@ pub fn one_call_validates()
 pub fn best_is_strongest()
     ensures { BestIsStrongest }
 {}
+
+/// Two messages with the same bytes up to the end of the integrity attribute that decides in both, but for the length in the
+/// header, get the same reply and leave the same server, with the same place of their address; and so does each run in which one
+/// of them is in the place of the other. So nobody changes what a server makes of a request by appending to it, unless a
+/// MESSAGE-INTEGRITY-SHA256 is put behind a MESSAGE-INTEGRITY: then its digest decides (RFC 8489, sections 14.5 to 14.7).
+pub fn appending_changes_no_reply()
+    ensures agreeing { AgreeingAreAnsweredAlike }
+    ensures appended { ContinuedAreAnsweredAlike }
+{
+    stun_types::laws::what_follows_integrity_is_hidden();
+    auth_laws::what_follows_integrity_is_not_read();
+}
 
 /// Addresses can be dealt out to any number of servers that start alike, each of which takes the calls of its addresses and
 /// all calls that concern every address (users, settings, forgetting): each address then gets the replies that one server that

@@ -5,13 +5,13 @@ use Rattle.std.proofs.lemmas.List.{drop-append-le}
 use Rattle.byteorder.specs.Numbers.{big_from-append}
 use Rattle.stun_base.specs.Header.{transaction_id_field, type_field}
 use Rattle.stun_base.specs.declared.algorithm.IntegrityAlgorithm.{IntegrityAlgorithm}
-use Rattle.stun_types.specs.Integrity.{deciding, stands_by}
+use Rattle.stun_types.specs.Integrity.{deciding, verified_by}
 use Rattle.stun_types.specs.Message.{with_length}
 use Rattle.stun_types.specs.Tail.{AgreeUpToIntegrity, besides_fingerprint}
 use Rattle.stun_types.specs.Visible.{visible}
 use Rattle.stun_types.specs.Walk.{Member}
 use Rattle.stun_types.proofs.HiddenLemmas.{shown-decided, visible-relengthed}
-use Rattle.stun_types.proofs.TailLemmas.{long_before, stands_by-tail}
+use Rattle.stun_types.proofs.TailLemmas.{long_before, verified_by-tail}
 
 -- ---- headers
 
@@ -62,5 +62,5 @@ agree-visible bytes others agree =
     shown-decided bytes m agree.decides
     ∙ (ap (λ ms. besides_fingerprint ms ++ m ∷ []) front ∙ sym (shown-decided others m agree.decides_other))
 
-pub agree-verdict : (keys : IntegrityAlgorithm → List ℕ) (bytes others : List ℕ) → AgreeUpToIntegrity bytes others → stands_by keys bytes ≡ stands_by keys others
-agree-verdict keys bytes others agree = stands_by-tail keys bytes others agree.decider agree.decides agree.decides_other agree.same_before
+pub agree-verdict : (keys : IntegrityAlgorithm → List ℕ) (bytes others : List ℕ) → AgreeUpToIntegrity bytes others → verified_by keys bytes ≡ verified_by keys others
+agree-verdict keys bytes others agree = verified_by-tail keys bytes others agree.decider agree.decides agree.decides_other agree.same_before

@@ -91,7 +91,7 @@ pub fn what_follows_integrity_is_hidden()
     ensures visible { (bytes others : List ℕ) → AgreeUpToIntegrity bytes others
         → besides_fingerprint (visible bytes) ≡ besides_fingerprint (visible others) }
     ensures verdict { (keys : IntegrityAlgorithm → List ℕ) (bytes others : List ℕ)
-        → AgreeUpToIntegrity bytes others → stands_by keys bytes ≡ stands_by keys others }
+        → AgreeUpToIntegrity bytes others → verified_by keys bytes ≡ verified_by keys others }
     ensures appended { (bytes others : List ℕ) (m : Member)
         → IsContinuedAnew bytes others m → AgreeUpToIntegrity bytes others }
 {}

@@ -1,4 +1,6 @@
 //! The commands on whole inputs, with texts worked out by hand.
+mod failing;
+mod fakes;
 mod fingerprint;
 mod layouts;
 mod registry;
@@ -12,6 +14,15 @@ use std::test::Fail;
 /// What a command is to come to: its status, what it prints, and what it writes to standard error.
 pub type Expected<'a> = (Status, &'a str, &'a str);
 
+/// The words of a command.
+pub fn words_of(alloc: Global, texts: &[&str]) -> Result<Vec<String>, Fail> {
+    let mut words = Vec::new(alloc);
+    for text in texts {
+        words.push(text.to_string(alloc)?)?;
+    }
+    Ok(words)
+}
+
 /// Runs the words on the input, and compares.
 pub fn expect(
     rt: &impl Abort,
@@ -20,10 +31,7 @@ pub fn expect(
     input: &[u8],
     (status, printed, errors): Expected<'_>,
 ) -> Result<(), Fail> {
-    let mut words = Vec::new(alloc);
-    for text in texts {
-        words.push(text.to_string(alloc)?)?;
-    }
+    let words = words_of(alloc, texts)?;
     let mut reader = input;
     let mut out = Vec::new(alloc);
     let mut err = Vec::new(alloc);

@@ -5,11 +5,11 @@ use crate::status::Status;
 use std::test::Fail;
 
 /// What a request with one SOFTWARE is told as.
-const TOLD: &str =
+pub const TOLD: &str =
     "class request\nmethod 0x001 Binding\nid 000000000000000000000001\n20 0x8022 SOFTWARE, 3 bytes, visible: \"abc\"\n";
 
 /// The bytes of that request.
-const REQUEST: &[u8] =
+pub const REQUEST: &[u8] =
     b"\x00\x01\x00\x08\x21\x12\xa4\x42\x00\x00\x00\x00\x00\x00\x00\x00\x00\x00\x00\x01\x80\x22\x00\x03abc\x00";
 
 /// The same as `xxd` dumps it.

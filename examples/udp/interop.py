@@ -3,9 +3,9 @@
 
     interop.py [--install]
 
-The peers are Debian's packages coturn, libnice-dev, python3-aioice, golang-github-pion-stun-dev and stun-client. With --install those that are missing are
-installed by apt-get; without it the rows of a missing peer say so. docs/INTEROP.md has the table of a run. Status 0 where each
-row that could be tried came out as it should.
+The peers are Debian's packages coturn, libnice-dev, python3-aioice, golang-github-pion-stun-dev and stun-client. With --install
+those that are missing, and what builds them, are installed by apt-get; without it a line after the table names them.
+docs/INTEROP.md has the table of a run. Status 0 where each row that could be tried came out as it should.
 """
 import os
 import pathlib
@@ -21,7 +21,7 @@ import stun
 REALM, NAME, PASSWORD = check.USER
 SERVER, CLIENT = (check.TOP / "examples/c/out" / name for name in ("udp_server", "udp_client"))
 PYTHON = "/usr/bin/python3"  # Debian's, for which Debian packages aioice
-PACKAGES = ("coturn", "libnice-dev", "python3-aioice", "golang-github-pion-stun-dev", "golang-go", "stun-client")
+PACKAGES = ("coturn", "libnice-dev", "pkg-config", "python3-aioice", "golang-github-pion-stun-dev", "golang-go", "stun-client")
 ROWS = []
 
 
@@ -260,9 +260,17 @@ def with_pion(number, folder):
         row(peer, "the same, wrong password", "pion refused udp_client", "HMAC-SHA1", lambda: client_is_refused(server, NAME, "wrong"))
 
 
+def install():
+    """Installs the packages that are missing."""
+    missing = [package for package in PACKAGES if version(package) is None]
+    for words in (["update"], ["install", "-y", "--no-install-recommends", *missing]) if missing else ():
+        environment = {**os.environ, "DEBIAN_FRONTEND": "noninteractive"}
+        subprocess.run(["apt-get", "-q", *words], stdout=sys.stderr, env=environment, check=True)
+
+
 def main():
-    if "--install" in sys.argv and any(version(package) is None for package in PACKAGES):
-        subprocess.run(["apt-get", "install", "-y", "--no-install-recommends", *PACKAGES], check=True)
+    if "--install" in sys.argv:
+        install()
     subprocess.run(["make", "-s", "-C", check.TOP / "examples/c", "udp", f"STATE={check.STATE}"], check=True)
     versions = {package: version(package) for package in PACKAGES}
     if versions["coturn"]:

@@ -1,10 +1,8 @@
 //! Receiving: responses end their requests, and senders are validated.
 ghost use Rattle.std.specs.Prelude.{◌≡◌, ◌||◌, not, IsTrue, IsOk, IfOk, OnOk, OnErr, Some, None};
-ghost use Rattle.stun_base.specs.Header.{transaction_id_field};
 ghost use Rattle.std.specs.Option.{is_some};
-ghost use Rattle.stun_agent.specs.Agent.{class_of_bytes, with_validated, answered, takes_message, after_message, after_response};
+ghost use Rattle.stun_agent.specs.Agent.{with_validated, answered, takes_message, after_message, after_response};
 ghost use Rattle.stun_agent.specs.Peers.{is_peer};
-ghost use Rattle.stun_agent.specs.Transactions.{at};
 
 use crate::agent::StunAgent;
 use crate::counting;

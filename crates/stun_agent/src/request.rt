@@ -1,5 +1,5 @@
 //! Outstanding requests, looked at and changed.
-ghost use Rattle.std.specs.Prelude.{◌≡◌, IsOk, IfSome, Ok};
+ghost use Rattle.std.specs.Prelude.{◌≡◌, IfSome, Ok};
 ghost use Rattle.std.specs.Borrow.{sem};
 ghost use Rattle.std.specs.Duration.{as_nanos, max_nanos};
 ghost use Rattle.std.specs.Option.{option_map};

@@ -1,5 +1,5 @@
 //! A server's challenge, as a client takes it up and keeps it (RFC 8489, section 9.2.5).
-ghost use Rattle.std.specs.Prelude.{◌≡◌, ◌≤◌, IfOk, Ok, Err, Some, None, find, length, map};
+ghost use Rattle.std.specs.Prelude.{◌≡◌, ◌≤◌, IfOk, Ok, Err, Some, None, length, map};
 ghost use Rattle.std.specs.Option.{option_map};
 ghost use Rattle.stun_types.specs.Limits.{TEXT_LIMIT};
 ghost use Rattle.stun_types.specs.PasswordAlgorithms.{integrity_of};

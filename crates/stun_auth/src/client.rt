@@ -1,11 +1,11 @@
 //! The client's side of long-term authentication (RFC 8489, section 9.2).
-ghost use Rattle.std.specs.Prelude.{◌≡◌, ◌∷◌, [], Some, OnErr, map, codes, option_copied, string_bytes};
+ghost use Rattle.std.specs.Prelude.{◌≡◌, ◌∷◌, [], Some, OnErr, codes, option_copied, string_bytes};
 ghost use Rattle.std.specs.Fmt.{WritesOnOk, WritesStyledOnOk};
 ghost use Rattle.stun_auth.specs.Reading.{reading_of};
 ghost use Rattle.stun_auth.specs.Client.{new_client};
 ghost use Rattle.stun_auth.specs.ClientStep.{IsResend, OrMemory, after_challenge, after_digest, after_stale, client_step, is_authenticated, is_code, is_repeated, reason_of, verified_under_kept, taken_up};
 ghost use Rattle.stun_auth.specs.code.ReadingSeen.{reading_seen};
-ghost use Rattle.stun_auth.specs.code.ClientKept.{challenge_seen, offer_seen, state_seen};
+ghost use Rattle.stun_auth.specs.code.ClientKept.{offer_seen, state_seen};
 ghost use Rattle.stun_auth.specs.Supported.{added};
 ghost use Rattle.stun_auth.specs.code.Supported.{in_order};
 

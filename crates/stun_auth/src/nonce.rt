@@ -1,9 +1,8 @@
 //! Nonces of a server and the security bits that they carry (RFC 8489, section 9.2).
-ghost use Rattle.std.specs.Prelude.{◌≡◌, ◌++◌, ◌∷◌, [], List, ℕ, Bool, Some, None, map, IfOk, OnOk};
+ghost use Rattle.std.specs.Prelude.{◌≡◌, ◌++◌, List, ℕ, Some, None, map, IfOk, OnOk};
 ghost use Rattle.std.specs.String.{string_bytes};
-ghost use Rattle.rand_core.specs.Stream.{Stream};
 ghost use Rattle.stun_base.specs.Words.{next_words, after_words};
-ghost use Rattle.stun_auth.specs.Nonces.{begins_with_cookie, security_bits, letter, security_byte, front, nonce_of, asks_for_algorithms, asks_for_userhash};
+ghost use Rattle.stun_auth.specs.Nonces.{begins_with_cookie, security_bits, letter, security_byte, nonce_of, asks_for_algorithms, asks_for_userhash};
 ghost use Rattle.stun_auth.specs.Algorithms.{contains};
 ghost use Rattle.stun_auth.specs.Feature.{is_possible};
 

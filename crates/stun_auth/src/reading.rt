@@ -2,13 +2,12 @@
 //!
 //! Nothing here allocates.
 
-ghost use Rattle.std.specs.Prelude.{◌≡◌, ◌≤◌, Option, length, map};
+ghost use Rattle.std.specs.Prelude.{◌≡◌, ◌≤◌, Option, length};
 ghost use Rattle.std.specs.Option.{is_some, option_and_then, option_copied, option_map, option_map_or};
 ghost use Rattle.stun_base.specs.Attributes.{NONCE, REALM, USERNAME};
-ghost use Rattle.stun_types.specs.ErrorCode.{CodeAndReason, error_of};
 ghost use Rattle.stun_types.specs.Integrity.{verified_algorithm};
 ghost use Rattle.stun_types.specs.Limits.{TEXT_LIMIT, USERNAME_LIMIT};
-ghost use Rattle.stun_types.specs.PasswordAlgorithms.{password_algorithm_in, password_algorithms_in, integrity_of};
+ghost use Rattle.stun_types.specs.PasswordAlgorithms.{password_algorithm_in, integrity_of};
 ghost use Rattle.stun_types.specs.Text.{text_of};
 ghost use Rattle.stun_types.specs.Userhash.{hash_of};
 ghost use Rattle.stun_types.specs.Visible.{visible};

@@ -6,7 +6,7 @@ ghost use Rattle.std.specs.BTreeMap.{Updates, UpdatesBy, get_by_text};
 ghost use Rattle.std.specs.Cmp.Lexicographic.{slice_cmp};
 ghost use Rattle.std.specs.Option.{option_copied};
 ghost use Rattle.std.specs.String.{string_bytes, string_cmp};
-ghost use Rattle.stun_auth.specs.Algorithms.{contains, with_algorithm, only};
+ghost use Rattle.stun_auth.specs.Algorithms.{contains};
 ghost use Rattle.stun_auth.specs.Registered.{key_at, key_if, name_with_hash, new_registered, with_user, without_user};
 ghost use Rattle.stun_auth.specs.code.Users.{AllHaveKeys, passwords_seen};
 

@@ -1,6 +1,6 @@
 //! The server's side of long-term authentication (RFC 8489, section 9.2.4).
 
-ghost use Rattle.std.specs.Prelude.{◌≡◌, ◌≤◌, ⊤, Option, None, Some, OnOk, OnErr, Ok, codes};
+ghost use Rattle.std.specs.Prelude.{◌≡◌, ◌≤◌, Option, None, Some, OnOk, OnErr, Ok, codes};
 ghost use Rattle.std.specs.Duration.{as_nanos};
 ghost use Rattle.std.specs.Fmt.{WritesOnOk, WritesStyledOnOk};
 ghost use Rattle.std.specs.Option.{option_and_then, option_copied, option_map};

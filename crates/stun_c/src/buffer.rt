@@ -1,6 +1,6 @@
 //! The caller's buffer.
 
-ghost use Rattle.std.specs.Prelude.{◌≡◌, ◌<◌, ◌^◌, length, Ok};
+ghost use Rattle.std.specs.Prelude.{◌≡◌, ◌<◌, length, Ok};
 ghost use Rattle.stun_c.specs.Answers.{fitted, written_number, buffer_after};
 
 use crate::codes::Refusal;

@@ -1,14 +1,14 @@
 //! Messages read: their fields, their attributes by place, and the error and the address that they report.
 
-ghost use Rattle.std.specs.Prelude.{◌≡◌, ◌≤◌, ℕ, length, take, drop, pos, IfOk, IfErr, IfSome, IfNone, IsOkAnd, Some, None, Ok, Err, slice_index, true};
+ghost use Rattle.std.specs.Prelude.{◌≡◌, ◌≤◌, ℕ, length, IfOk, IfErr, IfSome, IfNone, IsOkAnd, Some, None, Ok, Err, slice_index, true};
 ghost use Rattle.stun_base.specs.Header.{transaction_id_field};
 ghost use Rattle.stun_types.specs.Integrity.{first_of as first_member_of};
 ghost use Rattle.stun_types.specs.Message.{refusal};
 ghost use Rattle.stun_types.specs.Visible.{visible};
 ghost use Rattle.stun_types.specs.XorMappedAddress.{has_octets, xor_bytes, xor_key, xor_port, xored_of};
 ghost use Rattle.stun_c.specs.Answers.{fitted, written_number, buffer_after};
-ghost use Rattle.stun_c.specs.Codes.{code_of, refusal_of_attribute};
-ghost use Rattle.stun_c.specs.Reading.{class_answer, method_answer, id_of_message, next_member, next_answer, number_after, error_in, code_number, error_answer, address_in, octets_of_message, port_after, shown_octets};
+ghost use Rattle.stun_c.specs.Codes.{refusal_of_attribute};
+ghost use Rattle.stun_c.specs.Reading.{class_answer, method_answer, id_of_message, next_member, next_answer, number_after, error_in, error_answer, address_in, octets_of_message, port_after, shown_octets};
 
 use crate::address::{IPV4, IPV6, PORT_KEY, xor_key, xor_with};
 use crate::buffer::fill;

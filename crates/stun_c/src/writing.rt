@@ -1,6 +1,6 @@
 //! Messages written in the caller's buffer, an attribute at a time.
 
-ghost use Rattle.std.specs.Prelude.{◌≡◌, ◌≤◌, ◌<◌, ℕ, List, pos, nat_lt, Ok, Err, ◌+◌, ◌-◌, ◌++◌, [], length, take, drop, find, replicate, IfOk, IfErr, OnOk, Some, None, is_some, true, false};
+ghost use Rattle.std.specs.Prelude.{◌≡◌, ◌≤◌, ◌<◌, ℕ, List, pos, nat_lt, Ok, Err, ◌+◌, ◌-◌, ◌++◌, length, take, drop, find, replicate, IfOk, IfErr, OnOk, Some, None, is_some, true, false};
 ghost use Rattle.byteorder.specs.Endian.{big_bytes};
 ghost use Rattle.stun_base.specs.Algorithm.{digest, digest_length};
 ghost use Rattle.stun_base.specs.MessageType.{class_of_bits};
@@ -9,7 +9,6 @@ ghost use Rattle.stun_types.specs.Attribute.{attribute_length};
 ghost use Rattle.stun_types.specs.Grammar.{spelled_attribute};
 ghost use Rattle.stun_types.specs.Limits.{TEXT_LIMIT, max_length};
 ghost use Rattle.stun_types.specs.Message.{with_length};
-ghost use Rattle.stun_types.specs.Visible.{visible};
 ghost use Rattle.stun_types.specs.Writing.{is_set_apart, integrity_kind, with_attribute, with_integrity};
 ghost use Rattle.stun_c.specs.Answers.{fitted, written_number, buffer_after};
 ghost use Rattle.stun_c.specs.Codes.{algorithm_numbered};

@@ -1,5 +1,5 @@
 -- The steps of a run are counted one by one: each call adds the tally of its step, and sums of tallies are counts over the steps.
-use Rattle.std.proofs.Common.{ℕ, ◌≡◌, ◌+◌, ◌≤◌, arith, Bool, true, false, List, [], ◌∷◌, ◌++◌, length, subst, ap, sym, refl, ◌∙◌}
+use Rattle.std.proofs.Common.{ℕ, ◌≡◌, ◌+◌, arith, Bool, true, false, List, [], ◌∷◌, ◌++◌, length, subst, ap, sym, refl, ◌∙◌}
 use Rattle.std.proofs.lemmas.List.{length-append}
 use Rattle.std.proofs.lemmas.List.Elements.{filter-append}
 use Rattle.std.proofs.lemmas.List.Sums.{sum_by-append}
@@ -12,15 +12,15 @@ use Rattle.stun_base.specs.declared.message_type.MessageClass.{MessageClass}
 use Rattle.stun_base.specs.declared.message_type.MessageClass.TheVariants.{Request, Indication, Success, Error}
 use Rattle.stun_types.specs.Message.{refusal}
 use Rattle.stun_agent.specs.Agent.{Agent, with_transactions, tallied, tally_of_sent, tally_of_end, sending_tally, class_of_bytes, sending_refusal, after_send, request_refusal, after_send_request, answered, takes_message, after_class, after_message, with_validated, sent_by_poll, after_poll_transmit, ended_by_poll, after_poll}
-use Rattle.stun_agent.specs.Statistics.{Statistics, Tally, no_tally, request_sent, request_sent_again, request_received, indication_received, response_received, timed_out, cancelled, counted, last_count, raised}
+use Rattle.stun_agent.specs.Statistics.{Statistics, Tally, no_tally, request_sent, request_sent_again, request_received, indication_received, response_received, timed_out, cancelled, counted, raised}
 use Rattle.stun_agent.specs.Transactions.{Transaction, without, after_slots, repeats, round_trip}
 use Rattle.stun_agent.specs.declared.error.StunError.{StunError}
 use Rattle.stun_agent.specs.declared.error.StunError.TheVariants.{ParseError}
 use Rattle.stun_base.specs.Header.{transaction_id_field}
 use Rattle.stun_proto.specs.declared.replay.event.AgentEvent.{AgentEvent}
 use Rattle.stun_proto.specs.declared.replay.event.AgentEvent.TheVariants.{Send, SendRequest, Receive, Cancel, CancelRetransmissions, Configure, ValidatePeer}
-use Rattle.stun_proto.specs.Counters.{count_of, is_time_out, is_cancellation, is_indication, is_response, is_sent, sent_bytes, Adds, AreCounted, CountsSteps, RunsCountSteps}
-use Rattle.stun_proto.specs.Run.{Phase, sending, Turn, sends, rests, ends, again, stops, Turns, turn, none, Run, done, event, IsDriven, transmitted, ended, after_event, steps_of_event}
+use Rattle.stun_proto.specs.Counters.{count_of, is_time_out, is_cancellation, is_indication, is_response, is_sent, sent_bytes, Adds, CountsSteps, RunsCountSteps}
+use Rattle.stun_proto.specs.Run.{Phase, sending, Turn, sends, rests, ends, again, stops, Turns, turn, none, Run, done, event, transmitted, ended, after_event, steps_of_event}
 use Rattle.stun_proto.specs.Steps.{Step, Transmitted, Sent, Received, Refused, TimedOut, Cancelled}
 
 -- ---- tallies

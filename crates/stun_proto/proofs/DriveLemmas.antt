@@ -1,5 +1,5 @@
 -- The turns at awaited moments, and a whole run, turn by turn.
-use Rattle.std.proofs.Common.{ℕ, Bool, false, ◌≡◌, ◌+◌, ◌<◌, ◌≤◌, ◌⊎◌, inl, inr, arith, List, [], ◌∷◌, ◌++◌, subst, ap, sym, refl, ◌∙◌, append_assoc, length, drop, get_or, zero, suc, add-one}
+use Rattle.std.proofs.Common.{ℕ, Bool, false, ◌≡◌, ◌+◌, ◌<◌, ◌≤◌, inl, inr, arith, List, [], ◌∷◌, ◌++◌, subst, ap, sym, refl, ◌∙◌, append_assoc, length, drop, get_or, zero, suc, add-one}
 use Rattle.std.proofs.lemmas.List.{append-nil, length-append}
 use Rattle.std.specs.Prelude.{Option, Some, None, if◌then◌else◌}
 use Rattle.stun_base.specs.Moments.{last_moment}
@@ -10,7 +10,7 @@ use Rattle.stun_proto.specs.declared.replay.step_log.StepLog.{StepLog}
 use Rattle.stun_proto.specs.Steps.{Step, steps_of}
 use Rattle.stun_proto.specs.Stopped.{next_bound, HasStopped}
 use Rattle.stun_proto.specs.code.Calls.{kept, Keeps, HasPassed, TakesTurn, TurnsLead, TakesTurns, TakesEvent, TakesWhole, RunLeads}
-use Rattle.stun_proto.specs.Run.{sending, Turn, Turns, turn, none, Run, done, event, IsDriven, IsAwaited, after_event, steps_of_event}
+use Rattle.stun_proto.specs.Run.{sending, Turn, Turns, turn, none, Run, done, event, IsDriven, IsAwaited, steps_of_event}
 use Rattle.stun_proto.proofs.TurnLemmas.{keeps_all, keeps_more}
 use Rattle.stun_proto.proofs.NextLemmas.{next_le, next_none, next_is, next_is_awaited, turn_passes}
 

@@ -29,7 +29,7 @@ use Rattle.stun_auth.specs.Signed.{hashed_name, plain_name}
 use Rattle.stun_auth.specs.Validation.{ServerSeen, answer, answer_to, place_after, sight, with_accepted}
 use Rattle.stun_proto.specs.Matching.{AreJoined, AreTexts, Matches}
 use Rattle.stun_proto.specs.Renewal as renewal
-use Rattle.stun_proto.specs.Renewal.{HasRunOut, IsAcceptedAnew, IsAsked, IsRenewed, IsTold, LeaveNonce, Renewal, after_request, answer_at, at_error, at_first, at_second, drawn, leaves_nonce, told}
+use Rattle.stun_proto.specs.Renewal.{HasRunOut, IsAcceptedAnew, IsAsked, IsRenewed, IsTold, Renewal, after_request, answer_at, at_error, at_first, at_second, drawn, told}
 use Rattle.stun_proto.proofs.Answered.{protected}
 use Rattle.stun_proto.proofs.Keeping.{IsKept, Keeps, calls_keep, standing_kept}
 use Rattle.stun_proto.proofs.Matched.{complete, matched_verdict, other_verdict}

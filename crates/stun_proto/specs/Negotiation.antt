@@ -1,6 +1,6 @@
 -- A client and a server that meet (RFC 8489, sections 9.2.3 to 9.2.5), computed step by step over the bytes of their messages:
 -- a request, its challenge, the request with credentials, its success.
-use Rattle.std.specs.Prelude.{ℕ, ◌-◌, List, [], ◌∷◌, length, true}
+use Rattle.std.specs.Prelude.{ℕ, List, [], ◌∷◌, true}
 use Rattle.std.specs.declared.result.Result.{Result}
 use Rattle.std.specs.declared.result.Result.TheVariants.{Ok, Err}
 use Rattle.std.specs.declared.net.socket_addr.SocketAddr.{SocketAddr}

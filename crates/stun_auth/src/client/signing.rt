@@ -1,7 +1,6 @@
 //! What a client's signing adds to a message (RFC 8489, section 9.2.5).
-ghost use Rattle.std.specs.Prelude.{◌≡◌, ◌≤◌, ◌<◌, ◌+◌, ◌-◌, ◌^◌, length, min, true, false, option_copied, IfOk, IsOk, Ok, ◌/◌, ◌*◌};
+ghost use Rattle.std.specs.Prelude.{◌≡◌, ◌≤◌, ◌<◌, ◌+◌, ◌-◌, ◌^◌, length, min, true, false, IfOk, IsOk, Ok, ◌*◌};
 ghost use Rattle.std.specs.Option.{option_map};
-ghost use Rattle.stun_base.specs.Algorithm.{digest_length};
 ghost use Rattle.stun_base.specs.Header.{BeginsWithHeader, type_field};
 ghost use Rattle.stun_base.specs.MessageType.{class_of};
 ghost use Rattle.stun_types.specs.Attribute.{attribute_length};

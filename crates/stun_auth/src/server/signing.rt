@@ -1,12 +1,12 @@
 //! What a server's signing adds to a message (RFC 8489, section 9.2.4).
 
-ghost use Rattle.std.specs.Prelude.{◌≡◌, ◌≤◌, ◌<◌, ◌+◌, ◌-◌, ◌^◌, ◌++◌, length, min, not, true, Some, IfOk, IsOk, OnOk, OnErr, Ok};
+ghost use Rattle.std.specs.Prelude.{◌≡◌, ◌≤◌, ◌<◌, ◌+◌, ◌-◌, ◌^◌, length, min, not, true, Some, IfOk, IsOk, OnOk, OnErr, Ok};
 ghost use Rattle.std.specs.Option.{IfSome, option_map};
 ghost use Rattle.stun_base.specs.Header.{BeginsWithHeader, type_field};
 ghost use Rattle.stun_base.specs.MessageType.{class_of};
 ghost use Rattle.stun_types.specs.Limits.{TEXT_LIMIT};
 ghost use Rattle.stun_auth.specs.Additions.{UnlessMemory, WantsMemory, growth, page_in, written};
-ghost use Rattle.stun_auth.specs.code.Additions.{IsAdded, IsOutcome, outcome_of};
+ghost use Rattle.stun_auth.specs.code.Additions.{IsAdded, outcome_of};
 ghost use Rattle.stun_auth.specs.code.Places.{client_seen, place_seen};
 ghost use Rattle.stun_auth.specs.Reading.{is_response as is_response_class};
 ghost use Rattle.stun_auth.specs.ServerSigning.{additions_at, after_signing, algorithms_for, attributes_for, challenge, digest_for, growth_at, named_algorithm, offer, protected_for, protection_growth, server_additions, server_growth, server_signed, signed_at};

@@ -1,5 +1,5 @@
 //! Driven runs: the events at their moments, and a turn at each moment that a request awaits.
-ghost use Rattle.std.specs.Prelude.{ℕ, ◌≡◌, ◌+◌, List, IfOk, IfErr, OnOk, OnErr};
+ghost use Rattle.std.specs.Prelude.{◌+◌, List, IfOk, IfErr, OnOk, OnErr};
 ghost use Rattle.stun_proto.specs.code.Calls.{kept, HasPassed, TakesTurns, TakesWhole};
 ghost use Rattle.stun_proto.specs.Headline.{SendsByPlan};
 ghost use Rattle.stun_proto.specs.Run.{IsDriven, Turns};

@@ -1,6 +1,6 @@
 //! A server's run over a list of calls.
 
-ghost use Rattle.std.specs.Prelude.{◌≡◌, ◌≢◌, ◌≤◌, None, Ok, Err, IfOk, OnOk, OnErr, IfErr, IsErr, IsOk, IsOkAnd, length, take};
+ghost use Rattle.std.specs.Prelude.{◌≡◌, ◌≢◌, ◌≤◌, None, Ok, Err, IfOk, OnOk, OnErr, IfErr, IsOk, length, take};
 ghost use Rattle.std.specs.declared.net.socket_addr.SocketAddr.{SocketAddr as TheAddress};
 ghost use Rattle.stun_types.specs.Message.{refusal};
 ghost use Rattle.stun_auth.specs.Reading.{reading_of};

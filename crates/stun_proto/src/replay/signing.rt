@@ -1,6 +1,6 @@
 //! Signing a message for an address: its attributes are written anew, and then the server's.
 
-ghost use Rattle.std.specs.Prelude.{◌≡◌, ◌≢◌, ⊤, [], None, OnOk, OnErr, IfOk, IsErr, IsOk, IsOkAnd};
+ghost use Rattle.std.specs.Prelude.{◌≡◌, ◌≢◌, ⊤, None, OnOk, OnErr, IfOk, IsErr, IsOk, IsOkAnd};
 ghost use Rattle.stun_base.specs.Header.{type_field};
 ghost use Rattle.stun_types.specs.Message.{refusal};
 ghost use Rattle.stun_types.specs.Writing.{IsOpen};

@@ -1,6 +1,4 @@
-use Rattle.std.proofs.Common.{rules, ◌≡◌, ap, subst, refl, sym, ℕ, List, ◌∷◌, [], ◌∙◌}
-use Rattle.std.specs.declared.net.socket_addr.SocketAddr.{SocketAddr}
-use Rattle.stun_base.specs.declared.transport.TransportType.{TransportType}
+use Rattle.std.proofs.Common.{rules, ◌≡◌, ap, subst, refl, sym, ◌∷◌, [], ◌∙◌}
 use Rattle.stun_agent.specs.Datagrams.{Datagram}
 use Rattle.stun_proto.specs.code.Calls.{Keeps, kept}
 use Rattle.std.specs.Option.{option_map_or}

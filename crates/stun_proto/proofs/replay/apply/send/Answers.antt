@@ -1,4 +1,4 @@
-use Rattle.std.proofs.Common.{ap, subst, sym, ℕ, List, Bor, ◌≡◌, ◌∷◌, [], ◌∙◌}
+use Rattle.std.proofs.Common.{ap, subst, sym, ℕ, List, Bor, ◌∷◌, [], ◌∙◌}
 use Rattle.std.specs.declared.net.socket_addr.SocketAddr.{SocketAddr}
 use Rattle.stun_base.specs.declared.transport.TransportType.{TransportType}
 use Rattle.stun_proto.specs.code.Calls.{Keeps, kept}

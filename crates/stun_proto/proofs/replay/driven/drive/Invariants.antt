@@ -1,4 +1,4 @@
-use Rattle.std.proofs.Common.{◌≡◌, ◌+◌, drop}
+use Rattle.std.proofs.Common.{◌≡◌, drop}
 use Rattle.stun_proto.specs.code.Calls.{RunLeads, kept}
 use Rattle.stun_proto.proofs.replay.driven.drive.Given as goal
 

@@ -163,8 +163,11 @@ impl<A: Allocator> LongTermClientAuth<A> {
 
     /// Supports one more algorithm.
     pub fn add_supported_integrity(&mut self, algorithm: IntegrityAlgorithm)
-        ensures { self.new ≡ record self.old { settings = record self.old.settings {
-            supported = added algorithm self.old.settings.supported } } }
+        ensures { self.new ≡ record self.old {
+          settings = record self.old.settings {
+            supported = added algorithm self.old.settings.supported;
+          };
+        } }
     {
         self.supported = self.supported.with(algorithm);
     }

@@ -122,8 +122,11 @@ impl<A: Allocator> Model for Registry<A> {
     ghost use Rattle.stun_auth.specs.code.NameIndex.{IsIndexOf};
     ghost use Rattle.stun_auth.specs.code.Users.{passwords_seen, AllHaveKeys};
 
-    ghost view = { λ r. record { realm = string_bytes r.realm; algorithms = r.supported;
-        passwords = passwords_seen r.users.entries } };
+    ghost view = { λ r. record {
+      realm = string_bytes r.realm;
+      algorithms = r.supported;
+      passwords = passwords_seen r.users.entries;
+    } };
 
     ghost invariant = { λ r. AllHaveKeys (string_bytes r.realm) r.supported r.users
         × IsIndexOf (string_bytes r.realm) (passwords_seen r.users.entries) r.hashed };

@@ -162,8 +162,11 @@ impl<A: Allocator + Copy> LongTermServerAuth<A> {
 
     /// Supports one algorithm more. All users get a key for it. It does not allocate.
     pub fn add_supported_integrity(&mut self, algorithm: IntegrityAlgorithm)
-        ensures { self.new ≡ record self.old { registered = record self.old.registered {
-            algorithms = with_algorithm algorithm self.old.registered.algorithms } } }
+        ensures { self.new ≡ record self.old {
+          registered = record self.old.registered {
+            algorithms = with_algorithm algorithm self.old.registered.algorithms;
+          };
+        } }
     {
         let supported = self.registry.supported().with(algorithm);
         self.registry.set_supported(supported);

@@ -192,8 +192,10 @@ pub fn add(buffer: &mut [u8], count: usize, kind: AttributeType, value: &[u8]) -
 /// Writes the integrity attribute of a text to the front of a buffer that has room for it.
 fn spell_digest(buffer: &mut [u8], algorithm: IntegrityAlgorithm, key: &[u8], text: &[u8])
     requires { attribute_length (digest_length algorithm) ≤ length buffer.old }
-    ensures { buffer.new ≡ spelled_attribute (record { kind = integrity_kind algorithm;
-        value = digest algorithm key.now text.now })
+    ensures { buffer.new ≡ spelled_attribute (record {
+      kind = integrity_kind algorithm;
+      value = digest algorithm key.now text.now;
+    })
         ++ drop (attribute_length (digest_length algorithm)) buffer.old }
 {
     match algorithm {

@@ -1,4 +1,6 @@
 pub mod AsBox
+mod Errors
+mod Exports
 mod Reasons
 pub mod Steps
 mod Texts

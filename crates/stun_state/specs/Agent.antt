@@ -1,12 +1,28 @@
--- What the calls on an agent answer and leave.
-use Rattle.std.specs.Prelude.{ℕ, ◌==◌, if◌then◌else◌, Option, Some, None}
+-- What the calls on an agent answer and leave, by the definitions of its library (RFC 8489, section 6.2).
+use Rattle.std.specs.Prelude.{ℕ, List, ◌++◌, length, drop, min, nat_lt, ◌==◌, if◌then◌else◌, Option, Some, None, Result, Ok, Err}
+use Rattle.std.specs.Option.{option_map_or}
+use Rattle.std.specs.declared.net.socket_addr.SocketAddr.{SocketAddr}
+use Rattle.byteorder.specs.Endian.{big_bytes, big_number}
+use Rattle.stun_agent.specs.Agent as agent
+use Rattle.stun_agent.specs.Agent.{Agent}
+use Rattle.stun_agent.specs.Statistics as counts
+use Rattle.stun_agent.specs.Timing.{Settings}
+use Rattle.stun_agent.specs.Transactions.{Transaction, at, changed}
+use Rattle.stun_agent.specs.declared.agent.StunAgentPollRet.{StunAgentPollRet}
+use Rattle.stun_agent.specs.declared.agent.StunAgentPollRet.TheVariants.{TransactionTimedOut, TransactionCancelled, WaitUntil}
 use Rattle.stun_agent.specs.declared.error.StunError.{StunError}
 use Rattle.stun_agent.specs.declared.error.StunError.TheVariants as Error
 use Rattle.stun_base.specs.declared.transport.TransportType.{TransportType}
 use Rattle.stun_base.specs.declared.transport.TransportType.TheVariants.{Udp, Tcp}
+use Rattle.stun_types.specs.Message.{refusal}
+use Rattle.stun_state.specs.Addresses.{address_of, socket_address}
+use Rattle.stun_state.specs.Answers.{after_address, at_address, message_refusal, unless_refused}
 use Rattle.stun_state.specs.Codes.{refusal_of_parse}
+use Rattle.stun_state.specs.declared.address.Address.{Address}
+use Rattle.stun_state.specs.declared.agent.Statistics.{Statistics}
+use Rattle.stun_state.specs.declared.agent.Timeouts.{Timeouts}
 use Rattle.stun_state.specs.declared.codes.Refusal.{Refusal}
-use Rattle.stun_state.specs.declared.codes.Refusal.TheVariants.{AlreadyInProgress, ProtocolViolation, OutOfMemory}
+use Rattle.stun_state.specs.declared.codes.Refusal.TheVariants.{AlreadyInProgress, BadArgument, BufferTooSmall, ProtocolViolation, OutOfMemory}
 
 -- the refusal for an agent's error. An agent answers none of the last four
 abbrev pub refusal_of_agent : StunError → Refusal
@@ -22,3 +38,150 @@ refusal_of_agent (Error.WriteError _) = ProtocolViolation
 -- the transport of a number, if it has one
 abbrev pub transport_numbered : ℕ → Option TransportType
 transport_numbered number = if number == 0 then Some Udp else if number == 1 then Some Tcp else None
+
+-- ---- new agents
+
+-- an agent that counts
+abbrev pub counting_agent : TransportType → SocketAddr → Agent
+counting_agent transport local = record (agent.new_agent transport local) { statistics = Some counts.new_statistics }
+
+-- an agent of a transport at an address, where both are given
+abbrev pub made : Option TransportType → Option SocketAddr → Result Agent Refusal
+made None local = Err BadArgument
+made (Some transport) None = Err BadArgument
+made (Some transport) (Some local) = Ok (counting_agent transport local)
+
+abbrev pub settings_of : Timeouts → Settings
+settings_of t = record { initial = t.initial; maximum = t.longest; transmissions = t.transmissions; last_wait = t.last }
+
+-- the agent that sends to this address alone, if it is one
+abbrev pub bound_to : Option SocketAddr → Agent → Result Agent Refusal
+bound_to None a = Err BadArgument
+bound_to (Some remote) a = Ok (record a { remote_addr = Some remote })
+
+-- the same, and where the length is 0 to every address
+abbrev pub made_with : Result Agent Refusal → Address → Timeouts → Result Agent Refusal
+made_with (Err refusal) remote timeouts = Err refusal
+made_with (Ok a) remote timeouts =
+    if remote.length == 0 then Ok (record a { settings = settings_of timeouts })
+    else bound_to (socket_address remote) (record a { settings = settings_of timeouts })
+
+-- ---- messages
+
+-- 0, or the refusal for an error
+abbrev pub done_unless : Option StunError → Result (Unit {0}) Refusal
+done_unless None = Ok tt
+done_unless (Some error) = Err (refusal_of_agent error)
+
+-- what is answered to a request for an address
+abbrev pub requested : Agent → List ℕ → SocketAddr → Result (Unit {0}) Refusal
+requested a bytes to = unless_refused (message_refusal (refusal bytes)) (done_unless (agent.request_refusal a bytes to))
+
+-- what is answered to a response or an indication for an address
+abbrev pub sent : Agent → List ℕ → SocketAddr → Result (Unit {0}) Refusal
+sent a bytes to = unless_refused (message_refusal (refusal bytes)) (done_unless (agent.sending_refusal a bytes to))
+
+-- what is answered to bytes that came from an address: 1 where they are taken
+abbrev pub handled : Agent → List ℕ → SocketAddr → Result ℕ Refusal
+handled a bytes from =
+    unless_refused (message_refusal (refusal bytes)) (Ok (if agent.takes_message bytes from a then 1 else 0))
+
+-- the agent that is kept once a request is taken, or a message, with its address as a caller gives it
+abbrev pub kept_after_request : Agent → List ℕ → Address → ℕ → Agent
+kept_after_request a bytes to now = after_address (socket_address to) a (λ to. agent.after_send_request a bytes to now)
+
+abbrev pub kept_after_message : Agent → List ℕ → Address → ℕ → Agent
+kept_after_message a bytes from now = after_address (socket_address from) a (λ from. agent.after_message (Some now) bytes from a)
+
+-- ---- time
+
+-- the number of what a poll answers, for an id's buffer of so many bytes
+abbrev pub poll_number : StunAgentPollRet → ℕ
+poll_number (WaitUntil moment) = 0
+poll_number (TransactionTimedOut id) = 1
+poll_number (TransactionCancelled id) = 2
+
+abbrev pub polled : ℕ → StunAgentPollRet → Result ℕ Refusal
+polled room answer = if nat_lt room 12 then Err BufferTooSmall else Ok (poll_number answer)
+
+-- the caller's moment and id then
+abbrev pub moment_told : StunAgentPollRet → ℕ → ℕ
+moment_told (WaitUntil moment) before = moment
+moment_told (TransactionTimedOut id) before = before
+moment_told (TransactionCancelled id) before = before
+
+abbrev pub id_told : StunAgentPollRet → List ℕ → List ℕ
+id_told (WaitUntil moment) buffer = buffer
+id_told (TransactionTimedOut id) buffer = big_bytes 12 id ++ drop 12 buffer
+id_told (TransactionCancelled id) buffer = big_bytes 12 id ++ drop 12 buffer
+
+-- how many bytes are sent again, for a buffer of so many
+abbrev pub sent_again : ℕ → Option (ℕ × Transaction) → Result ℕ Refusal
+sent_again room None = Ok 0
+sent_again room (Some e) = if nat_lt room (length e.1.bytes) then Err BufferTooSmall else Ok (length e.1.bytes)
+
+-- the buffer with them at its front
+abbrev pub bytes_told : Option (ℕ × Transaction) → List ℕ → List ℕ
+bytes_told None buffer = buffer
+bytes_told (Some e) buffer = e.1.bytes ++ drop (length e.1.bytes) buffer
+
+-- the address that they go to
+abbrev pub sent_to : Option (ℕ × Transaction) → Address → Address
+sent_to None before = before
+sent_to (Some e) before = address_of e.1.to
+
+-- the address that a request went to, where there is one
+abbrev pub peer_told : Option Transaction → Address → Address
+peer_told None before = before
+peer_told (Some t) before = address_of t.to
+
+-- ---- one request
+
+-- the id in these bytes, if they are 12
+abbrev pub id_in : List ℕ → Option ℕ
+id_in bytes = if length bytes == 12 then Some (big_number 12 bytes) else None
+
+-- what is answered of the request of an id: 1 where it is outstanding
+abbrev pub found : Option ℕ → Agent → Result ℕ Refusal
+found None a = Err BadArgument
+found (Some id) a = Ok (option_map_or (λ t. 1) (at id a.transactions) 0)
+
+-- the address of the request of an id
+abbrev pub peer_found : Option ℕ → Agent → Address → Address
+peer_found None a before = before
+peer_found (Some id) a before = peer_told (at id a.transactions) before
+
+-- the agent whose request of an id is another
+abbrev pub with_changed : (Transaction → Transaction) → Option ℕ → Agent → Agent
+with_changed change None a = a
+with_changed change (Some id) a = agent.with_transactions a (changed change id a.transactions)
+
+-- ---- what was counted
+
+-- nanoseconds of a span as 64 bits hold them, and 0 of none
+abbrev pub nanoseconds : Option ℕ → ℕ
+nanoseconds None = 0
+nanoseconds (Some span) = min span 18446744073709551615
+
+abbrev pub told : counts.Statistics → Statistics
+told s = record {
+  requests_sent = s.requests_sent;
+  requests_received = s.requests_received;
+  responses_sent = s.responses_sent;
+  responses_received = s.responses_received;
+  indications_sent = s.indications_sent;
+  indications_received = s.indications_received;
+  transactions_timed_out = s.transactions_timed_out;
+  transactions_cancelled = s.transactions_cancelled;
+  bytes_sent = s.bytes_sent;
+  bytes_received = s.bytes_received;
+  round_trips = s.rtt_count;
+  round_trip_least = nanoseconds s.rtt_min;
+  round_trip_most = nanoseconds s.rtt_max;
+  round_trip_average = nanoseconds (counts.average s);
+}
+
+-- the caller's numbers, where the agent counts
+abbrev pub told_of : Option counts.Statistics → Statistics → Statistics
+told_of None before = before
+told_of (Some s) before = told s

@@ -1,11 +1,12 @@
 -- The numbers that calls answer.
-use Rattle.std.specs.Prelude.{◌≡◌, ◌⊎◌, ℕ, ℤ, pos, min, Result, Ok, Err}
+use Rattle.std.specs.Prelude.{◌≡◌, ◌⊎◌, ℕ, ℤ, pos, int_lt, min, if◌then◌else◌, Option, Some, None, Result, Ok, Err}
 use Rattle.stun_auth.specs.declared.client_answer.LongTermClientValidation.{LongTermClientValidation}
-use Rattle.stun_auth.specs.declared.client_answer.LongTermClientValidation.TheVariants.{Validated, ResendRequest}
+use Rattle.stun_auth.specs.declared.client_answer.LongTermClientValidation.TheVariants as Reading
 use Rattle.stun_base.specs.declared.algorithm.IntegrityAlgorithm.{IntegrityAlgorithm}
 use Rattle.stun_state.specs.Codes.{code_of, algorithm_number}
 use Rattle.stun_state.specs.declared.codes.Refusal.{Refusal}
 use Rattle.stun_state.specs.declared.codes.Refusal.TheVariants.{OutOfMemory}
+use Rattle.stun_state.specs.declared.server.Validated.{Validated}
 
 -- 0, or the refusal's number
 abbrev pub done_answer : Result (Unit {0}) Refusal → ℤ
@@ -29,12 +30,31 @@ algorithm_answer (Err refusal) = code_of refusal
 
 -- the algorithm's number, 3 where another request is asked for, or the refusal's
 abbrev pub reading_answer : Result LongTermClientValidation Refusal → ℤ
-reading_answer (Ok (Validated algorithm)) = pos (algorithm_number algorithm)
-reading_answer (Ok (ResendRequest _)) = pos 3
+reading_answer (Ok (Reading.Validated algorithm)) = pos (algorithm_number algorithm)
+reading_answer (Ok (Reading.ResendRequest _)) = pos 3
 reading_answer (Err refusal) = code_of refusal
+
+-- the number of a client's algorithm, or 0 of none, and how long its name is
+abbrev pub client_answer : Result (Option Validated) Refusal → ℤ
+client_answer (Ok (Some client)) = pos (algorithm_number client.algorithm)
+client_answer (Ok None) = pos 0
+client_answer (Err refusal) = code_of refusal
+
+abbrev pub length_told : Result (Option Validated) Refusal → ℕ → ℕ
+length_told (Ok (Some client)) before = client.name_length
+length_told (Ok None) before = before
+length_told (Err refusal) before = before
 
 -- a call answers this number and leaves this in its handle; or an allocation failed: it answers the number of that, and the
 -- handle is as before
 abbrev pub OrOutOfMemory : {S : Type 0} → ℤ → S → S → ℤ → S → Type 0
 OrOutOfMemory result before now number after =
     ((result ≡ number) × (now ≡ after)) ⊎ ((result ≡ code_of OutOfMemory) × (now ≡ before))
+
+-- a call answers this number, or that of an allocation that failed
+abbrev pub IsOrOutOfMemory : ℤ → ℤ → Type 0
+IsOrOutOfMemory result number = (result ≡ number) ⊎ (result ≡ code_of OutOfMemory)
+
+-- what a call leaves of what was there: a refusal, whose number is below zero, leaves all of it
+abbrev pub left_by : {S : Type 0} → ℤ → S → S → S
+left_by number before after = if int_lt number (pos 0) then before else after

@@ -80,3 +80,7 @@ client_told room (Some c) =
 abbrev pub name_written : List ℕ → Option ClientSeen → List ℕ
 name_written buffer None = buffer
 name_written buffer (Some c) = if nat_lt (length buffer) (length c.name) then buffer else c.name ++ drop (length c.name) buffer
+
+-- the same at an address as a caller gives it
+abbrev pub client_found : ServerSeen → Address → ℕ → Result (Option Known) Refusal
+client_found s address room = at_address (socket_address address) (λ a. client_told room (client_at s a))

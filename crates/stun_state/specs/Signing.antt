@@ -15,8 +15,10 @@ use Rattle.stun_auth.specs.Reading.{class_in, is_response}
 use Rattle.stun_auth.specs.ServerSigning.{after_signing, server_growth, server_signed}
 use Rattle.stun_auth.specs.Validation.{ServerSeen, sight}
 use Rattle.stun_proto.specs.Signing.{page_of}
-use Rattle.stun_state.specs.Answers.{message_refusal, unless_refused}
+use Rattle.stun_state.specs.Addresses.{socket_address}
+use Rattle.stun_state.specs.Answers.{after_address, at_address, message_refusal, unless_refused}
 use Rattle.stun_state.specs.Codes.{refusal_of_write}
+use Rattle.stun_state.specs.declared.address.Address.{Address}
 use Rattle.stun_state.specs.declared.codes.Refusal.{Refusal}
 use Rattle.stun_state.specs.declared.codes.Refusal.TheVariants.{BadArgument, BufferTooSmall, Closed}
 
@@ -69,6 +71,14 @@ server_signs s message room to =
 abbrev pub signed_by_server : ServerSeen → List ℕ → ℕ → SocketAddr → Result (List ℕ) Refusal
 signed_by_server s buffer count to =
     unless_refused (base_refusal buffer count) (server_signs s (take count buffer) (length buffer) to)
+
+-- the same with the address as a caller gives it, and the server that is kept once it is signed
+abbrev pub signed_for : ServerSeen → List ℕ → ℕ → Address → Result (List ℕ) Refusal
+signed_for s buffer count to = at_address (socket_address to) (signed_by_server s buffer count)
+
+abbrev pub kept_after_signing : ServerSeen → List ℕ → ℕ → Address → ServerSeen
+kept_after_signing s buffer count to =
+    after_address (socket_address to) s (λ to. after_signing s to (is_response (class_in (take count buffer))))
 
 -- ---- the client
 

@@ -1,12 +1,19 @@
 //! What the exports do with an agent (RFC 8489, section 6.2).
 
-ghost use Rattle.std.specs.Prelude.{◌≡◌, ◌≤◌, ⊤, length, Some, None, Ok, Err, IfOk, IfErr, IfNone, IfSome, OnErr, OnOk};
-ghost use Rattle.stun_agent.specs.Agent.{after_message, after_poll, after_send, after_send_request};
+ghost use Rattle.std.specs.Prelude.{◌≡◌, ◌≤◌, ◌++◌, ⊤, length, drop, Some, None, Ok, Err, IfOk, IfErr, IfNone, IfSome, OnErr, OnOk};
+ghost use Rattle.std.specs.Duration.{as_nanos};
+ghost use Rattle.std.specs.Option.{option_map};
+ghost use Rattle.byteorder.specs.Endian.{big_bytes};
+ghost use Rattle.stun_agent.specs.Agent.{after_message, after_poll, after_poll_transmit, after_send, after_send_request, poll_answer, sent_by_poll};
+ghost use Rattle.stun_agent.specs.Transactions.{cancelled, configured, silenced};
 ghost use Rattle.stun_state.specs.Addresses.{socket_address};
-ghost use Rattle.stun_state.specs.Agent.{refusal_of_agent, transport_numbered};
+ghost use Rattle.stun_state.specs.Agent.{bytes_told, found, handled, id_in, id_told, made, made_with, moment_told, nanoseconds, peer_found, polled, refusal_of_agent, requested, sent, sent_again, sent_to, settings_of, told, told_of, transport_numbered, with_changed};
+ghost use Rattle.stun_state.specs.Answers.{OrMemory, at_address};
 
 use crate::address::Address;
 use crate::codes::Refusal;
+use crate::signing::put;
+use byteorder::{BigEndian, ByteOrder};
 use std::alloc::Global;
 use std::time::Duration;
 use stun_agent::agent::{StunAgent, StunAgentPollRet, StunError};
@@ -83,17 +90,21 @@ pub fn transport_numbered(number: u32) -> Result<TransportType, Refusal>
 }
 
 /// The id in these bytes, or `BadArgument` where they are not 12.
-fn id_of(bytes: &[u8]) -> Result<TransactionId, Refusal> {
+fn id_of(bytes: &[u8]) -> Result<TransactionId, Refusal>
+    ensures ok { IfOk result (λ id. id_in bytes.now ≡ Some id) }
+    ensures err { IfErr result (λ refusal. (id_in bytes.now ≡ None)
+        × (refusal ≡ Refusal.BadArgument)) }
+{
     if bytes.len() != ID_LENGTH {
         return Err(Refusal::BadArgument);
     }
-    let mut number = [0; 16];
-    number[4..].copy_from_slice(bytes);
-    TransactionId::from_u128(u128::from_be_bytes(number)).ok_or(Refusal::BadArgument)
+    Ok(TransactionId::from_u128(BigEndian::read_uint128(bytes, ID_LENGTH)).unwrap())
 }
 
 /// An agent that keeps statistics.
-pub fn new(alloc: Global, transport: u32, local: &Address) -> Result<StunAgent<Global>, Refusal> {
+pub fn new(alloc: Global, transport: u32, local: &Address) -> Result<StunAgent<Global>, Refusal>
+    ensures { result ≡ made (transport_numbered transport) (socket_address local.now) }
+{
     let transport = transport_numbered(transport)?;
     let local = local.socket()?;
     Ok(
@@ -110,7 +121,10 @@ pub fn new_with(
     local: &Address,
     remote: &Address,
     timeouts: &Timeouts,
-) -> Result<StunAgent<Global>, Refusal> {
+) -> Result<StunAgent<Global>, Refusal>
+    ensures { result ≡ made_with (made (transport_numbered transport) (socket_address local.now))
+        remote.now timeouts.now }
+{
     let transport = transport_numbered(transport)?;
     let local = local.socket()?;
     let builder = StunAgent::builder(alloc, transport, local)
@@ -134,6 +148,8 @@ pub fn send_request(
     to: &Address,
     now: u64,
 ) -> Result<(), Refusal>
+    ensures answer { OrMemory result
+        (result ≡ at_address (socket_address to.now) (requested agent.old message.now)) ⊤ }
     ensures ok { OnOk result (IfSome (socket_address to.now)
         (λ to. agent.new ≡ after_send_request agent.old message.now to now)) }
     ensures err { OnErr result (agent.new ≡ agent.old) }
@@ -148,6 +164,7 @@ pub fn send_request(
 
 /// Counts a response or an indication that is sent.
 pub fn send(agent: &mut StunAgent<Global>, message: &[u8], to: &Address) -> Result<(), Refusal>
+    ensures answer { result ≡ at_address (socket_address to.now) (sent agent.old message.now) }
     ensures ok { OnOk result (agent.new ≡ after_send message.now agent.old) }
     ensures err { OnErr result (agent.new ≡ agent.old) }
 {
@@ -166,8 +183,12 @@ pub fn poll(
     until: &mut u64,
     id: &mut [u8],
 ) -> Result<u32, Refusal>
+    ensures answer { result ≡ polled (length id.old) (poll_answer now agent.old) }
     ensures ok { OnOk result (agent.new ≡ after_poll now agent.old) }
-    ensures err { OnErr result (agent.new ≡ agent.old) }
+    ensures until { OnOk result (until.new ≡ moment_told (poll_answer now agent.old) until.old) }
+    ensures id { OnOk result (id.new ≡ id_told (poll_answer now agent.old) id.old) }
+    ensures err { OnErr result ((agent.new ≡ agent.old) × (until.new ≡ until.old)
+        × (id.new ≡ id.old)) }
 {
     if id.len() < ID_LENGTH {
         return Err(Refusal::BufferTooSmall);
@@ -191,9 +212,25 @@ pub fn poll(
 /// Writes an id to the front of a buffer that has room for it.
 fn put_id(out: &mut [u8], id: TransactionId)
     requires { 12 ≤ length out.old }
+    ensures { out.new ≡ big_bytes 12 id ++ drop 12 out.old }
 {
-    let bytes = id.as_u128().to_be_bytes();
-    out[..ID_LENGTH].copy_from_slice(&bytes[4..]);
+    BigEndian::write_uint128(out, id.as_u128(), ID_LENGTH);
+}
+
+/// Refuses room for `room` bytes where more are to be sent again now.
+fn check_room(agent: &StunAgent<Global>, now: Instant, room: usize) -> Result<(), Refusal>
+    ensures ok { OnOk result (IfSome (sent_by_poll now agent.now)
+        (λ e. length e.1.bytes ≤ room)) }
+    ensures err { IfErr result (λ refusal. sent_again room (sent_by_poll now agent.now)
+        ≡ Err refusal) }
+{
+    let Some(next) = agent.next_transmit(now) else {
+        return Ok(());
+    };
+    if room < next.data.len() {
+        return Err(Refusal::BufferTooSmall);
+    }
+    Ok(())
 }
 
 /// The request that is to be sent again now, at the front of the buffer, and where to: how many bytes there are.
@@ -202,21 +239,23 @@ pub fn poll_transmit(
     now: u64,
     out: &mut [u8],
     to: &mut Address,
-) -> Result<usize, Refusal> {
+) -> Result<usize, Refusal>
+    ensures answer { result ≡ sent_again (length out.old) (sent_by_poll now agent.old) }
+    ensures ok { OnOk result (agent.new ≡ after_poll_transmit now agent.old) }
+    ensures bytes { OnOk result (out.new ≡ bytes_told (sent_by_poll now agent.old) out.old) }
+    ensures to { OnOk result (to.new ≡ sent_to (sent_by_poll now agent.old) to.old) }
+
+    // No transmission is lost: the agent is as before.
+    ensures err { OnErr result ((agent.new ≡ agent.old) × (out.new ≡ out.old)
+        × (to.new ≡ to.old)) }
+{
     let now = Instant::from_nanos(now);
-    if let Some(next) = agent.next_transmit(now) {
-        if out.len() < next.data.len() {
-            return Err(Refusal::BufferTooSmall);
-        }
-    }
+    check_room(agent, now, out.len())?;
     let Some(again) = agent.poll_transmit(now) else {
         return Ok(0);
     };
     let bytes = again.data;
-    if out.len() < bytes.len() {
-        return Err(Refusal::BufferTooSmall);
-    }
-    out[..bytes.len()].copy_from_slice(bytes);
+    put(out, bytes);
     *to = Address::of(again.to);
     Ok(bytes.len())
 }
@@ -228,6 +267,8 @@ pub fn handle(
     from: &Address,
     now: u64,
 ) -> Result<u32, Refusal>
+    ensures answer { OrMemory result
+        (result ≡ at_address (socket_address from.now) (handled agent.old message.now)) ⊤ }
     ensures ok { OnOk result (IfSome (socket_address from.now)
         (λ from. agent.new ≡ after_message (Some now) message.now from agent.old)) }
     ensures err { OnErr result (agent.new ≡ agent.old) }
@@ -243,7 +284,10 @@ pub fn is_outstanding(
     agent: &StunAgent<Global>,
     id: &[u8],
     peer: &mut Address,
-) -> Result<u32, Refusal> {
+) -> Result<u32, Refusal>
+    ensures answer { result ≡ found (id_in id.now) agent.now }
+    ensures peer { peer.new ≡ peer_found (id_in id.now) agent.now peer.old }
+{
     match agent.request_transaction(id_of(id)?) {
         Some(request) => {
             *peer = Address::of(request.peer_address());
@@ -254,7 +298,10 @@ pub fn is_outstanding(
 }
 
 /// Cancels the request of an id.
-pub fn cancel(agent: &mut StunAgent<Global>, id: &[u8]) -> Result<u32, Refusal> {
+pub fn cancel(agent: &mut StunAgent<Global>, id: &[u8]) -> Result<u32, Refusal>
+    ensures answer { result ≡ found (id_in id.now) agent.old }
+    ensures state { agent.new ≡ with_changed cancelled (id_in id.now) agent.old }
+{
     match agent.mut_request_transaction(id_of(id)?) {
         Some(mut request) => {
             request.cancel();
@@ -265,7 +312,10 @@ pub fn cancel(agent: &mut StunAgent<Global>, id: &[u8]) -> Result<u32, Refusal> 
 }
 
 /// Ends the retransmissions of the request of an id.
-pub fn cancel_retransmissions(agent: &mut StunAgent<Global>, id: &[u8]) -> Result<u32, Refusal> {
+pub fn cancel_retransmissions(agent: &mut StunAgent<Global>, id: &[u8]) -> Result<u32, Refusal>
+    ensures answer { result ≡ found (id_in id.now) agent.old }
+    ensures state { agent.new ≡ with_changed silenced (id_in id.now) agent.old }
+{
     match agent.mut_request_transaction(id_of(id)?) {
         Some(mut request) => {
             request.cancel_retransmissions();
@@ -280,7 +330,11 @@ pub fn configure(
     agent: &mut StunAgent<Global>,
     id: &[u8],
     timeouts: &Timeouts,
-) -> Result<u32, Refusal> {
+) -> Result<u32, Refusal>
+    ensures answer { result ≡ found (id_in id.now) agent.old }
+    ensures state { agent.new ≡ with_changed (configured (settings_of timeouts.now))
+        (id_in id.now) agent.old }
+{
     match agent.mut_request_transaction(id_of(id)?) {
         Some(mut request) => {
             request.configure_timeout_with_max(
@@ -296,7 +350,9 @@ pub fn configure(
 }
 
 /// Nanoseconds of a span, 0 of none, and the greatest number where there are more.
-fn nanos(span: Option<Duration>) -> u64 {
+fn nanos(span: Option<Duration>) -> u64
+    ensures { result ≡ nanoseconds (option_map as_nanos span) }
+{
     match span {
         Some(span) => u64::try_from(span.as_nanos()).unwrap_or(u64::MAX),
         None => 0,
@@ -304,7 +360,9 @@ fn nanos(span: Option<Duration>) -> u64 {
 }
 
 /// What was counted.
-fn told(stats: &StunAgentStats) -> Statistics {
+fn told(stats: &StunAgentStats) -> Statistics
+    ensures { result ≡ told stats.now }
+{
     Statistics {
         requests_sent: stats.requests_sent(),
         requests_received: stats.requests_received(),
@@ -324,7 +382,9 @@ fn told(stats: &StunAgentStats) -> Statistics {
 }
 
 /// What the agent counted.
-pub fn tell_statistics(agent: &StunAgent<Global>, statistics: &mut Statistics) {
+pub fn tell_statistics(agent: &StunAgent<Global>, statistics: &mut Statistics)
+    ensures { statistics.new ≡ told_of agent.now.statistics statistics.old }
+{
     if let Some(stats) = agent.stats() {
         *statistics = told(stats);
     }

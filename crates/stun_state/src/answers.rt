@@ -1,7 +1,7 @@
 //! The numbers that calls answer.
 
 ghost use Rattle.std.specs.Prelude.{◌≡◌};
-ghost use Rattle.stun_state.specs.Numbers.{algorithm_answer, done_answer, length_answer, number_answer, reading_answer};
+ghost use Rattle.stun_state.specs.Numbers.{algorithm_answer, client_answer, done_answer, length_answer, length_told, number_answer, reading_answer};
 
 use crate::codes::{Refusal, algorithm_number};
 use crate::server::Validated;
@@ -68,7 +68,10 @@ pub fn length(answer: Result<usize, Refusal>) -> i64
 }
 
 /// The number of a client's algorithm, or 0 of none, and how long its name is.
-pub fn client(answer: Result<Option<Validated>, Refusal>, name_length: &mut usize) -> i64 {
+pub fn client(answer: Result<Option<Validated>, Refusal>, name_length: &mut usize) -> i64
+    ensures answer { result ≡ client_answer answer }
+    ensures length { name_length.new ≡ length_told answer name_length.old }
+{
     match answer {
         Ok(Some(client)) => {
             *name_length = client.name_length;

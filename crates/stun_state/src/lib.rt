@@ -4,10 +4,23 @@
 //! the words of those crates: `before` is what the handle kept, and `after` what it keeps.
 #![tactic(auto)]
 
-ghost use Rattle.std.specs.Prelude.{◌≡◌, ⊤, pos, Some, None, Ok, Err, IfNone, IfSome, IsSomeAnd};
-ghost use Rattle.stun_state.specs.Codes.{code_of};
-ghost use Rattle.stun_state.specs.Numbers.{OrOutOfMemory};
-ghost use Rattle.stun_state.specs.Server.{kept_after_validating, validation_number};
+ghost use Rattle.std.specs.Prelude.{◌≡◌, ⊤, length, pos, MatchOption, MatchResult, Some, None, Ok, Err, IfNone, IfSome, IsSomeAnd};
+ghost use Rattle.stun_agent.specs.Agent.{after_poll, after_poll_transmit, after_send, poll_answer, sent_by_poll};
+ghost use Rattle.stun_agent.specs.Transactions.{cancelled, configured, silenced};
+ghost use Rattle.stun_auth.specs.Forgetting.{after_forgetting};
+ghost use Rattle.stun_state.specs.Addresses.{socket_address};
+ghost use Rattle.stun_state.specs.Agent.{bytes_told, found, handled, id_in, id_told, kept_after_message, kept_after_request, made, made_with, moment_told, peer_found, polled, requested, sent, sent_again, sent_to, settings_of, told_of, transport_numbered, with_changed};
+ghost use Rattle.stun_state.specs.Answers.{after_address, at_address, done_if_given, text_refusal, texts_refusal, unless_refused};
+ghost use Rattle.stun_auth.specs.Client.{new_client};
+ghost use Rattle.stun_auth.specs.Registered.{with_user};
+ghost use Rattle.stun_auth.specs.Validation.{new_server};
+ghost use Rattle.stun_state.specs.Client as on_client;
+ghost use Rattle.stun_state.specs.Client.{after_validating, validated, with_credentials};
+ghost use Rattle.stun_state.specs.Codes.{algorithms_numbered, code_of, feature_numbered};
+ghost use Rattle.stun_state.specs.Numbers.{IsOrOutOfMemory, OrOutOfMemory, client_answer, done_answer, left_by, length_answer, length_told, number_answer, reading_answer};
+ghost use Rattle.stun_state.specs.Server as on_server;
+ghost use Rattle.stun_state.specs.Server.{client_at, client_found, kept_after_validating, name_written, validation_number, with_expiry, without_client, without_named};
+ghost use Rattle.stun_state.specs.Signing.{buffer_after, kept_after_signing, length_of, signed_by_client, signed_for};
 
 mod address;
 mod agent;
@@ -34,7 +47,15 @@ pub extern "C" fn stun_agent_new(
     handle: &mut AgentHandle,
     transport: u32,
     local: &Address,
-) -> i64 {
+) -> i64
+    ensures full { IfSome handle.old.agent (λ kept. (result ≡ code_of Refusal.FullHandle)
+        × (handle.new.agent ≡ Some kept)) }
+    ensures made { IfNone handle.old.agent (MatchResult
+        (made (transport_numbered transport) (socket_address local.now))
+        (λ agent. OrOutOfMemory result None handle.new.agent (pos 0)
+        (Some (record { agent = agent })))
+        (λ refusal. (result ≡ code_of refusal) × (handle.new.agent ≡ None))) }
+{
     if let Some(kept) = handle.take(alloc) {
         handle.put(alloc, kept);
         return Refusal::FullHandle.code();
@@ -61,7 +82,16 @@ pub extern "C" fn stun_agent_new_with(
     local: &Address,
     remote: &Address,
     timeouts: &Timeouts,
-) -> i64 {
+) -> i64
+    ensures full { IfSome handle.old.agent (λ kept. (result ≡ code_of Refusal.FullHandle)
+        × (handle.new.agent ≡ Some kept)) }
+    ensures made { IfNone handle.old.agent (MatchResult
+        (made_with (made (transport_numbered transport) (socket_address local.now))
+        remote.now timeouts.now)
+        (λ agent. OrOutOfMemory result None handle.new.agent (pos 0)
+        (Some (record { agent = agent })))
+        (λ refusal. (result ≡ code_of refusal) × (handle.new.agent ≡ None))) }
+{
     if let Some(kept) = handle.take(alloc) {
         handle.put(alloc, kept);
         return Refusal::FullHandle.code();
@@ -88,7 +118,14 @@ pub extern "C" fn stun_agent_send_request(
     to: &Address,
     now: u64,
 ) -> i64
-    ensures empty { IfNone handle.old.agent (handle.new.agent ≡ None) }
+    ensures empty { IfNone handle.old.agent ((result ≡ code_of Refusal.EmptyHandle)
+        × (handle.new.agent ≡ None)) }
+    ensures answer { IfSome handle.old.agent (λ kept. IsOrOutOfMemory result (done_answer
+        (at_address (socket_address to.now) (requested kept.agent message.now)))) }
+    ensures state { IfSome handle.old.agent (λ kept. handle.new.agent ≡ Some (record {
+      agent = left_by result kept.agent
+          (kept_after_request kept.agent message.now to.now now);
+    })) }
 {
     let Some(mut kept) = handle.take(alloc) else {
         return Refusal::EmptyHandle.code();
@@ -106,7 +143,13 @@ pub extern "C" fn stun_agent_send(
     message: &[u8],
     to: &Address,
 ) -> i64
-    ensures empty { IfNone handle.old.agent (handle.new.agent ≡ None) }
+    ensures empty { IfNone handle.old.agent ((result ≡ code_of Refusal.EmptyHandle)
+        × (handle.new.agent ≡ None)) }
+    ensures answer { IfSome handle.old.agent (λ kept. result ≡ done_answer
+        (at_address (socket_address to.now) (sent kept.agent message.now))) }
+    ensures state { IfSome handle.old.agent (λ kept. handle.new.agent ≡ Some (record {
+      agent = left_by result kept.agent (after_send message.now kept.agent);
+    })) }
 {
     let Some(mut kept) = handle.take(alloc) else {
         return Refusal::EmptyHandle.code();
@@ -125,7 +168,18 @@ pub extern "C" fn stun_agent_poll(
     until: &mut u64,
     id: &mut [u8],
 ) -> i64
-    ensures empty { IfNone handle.old.agent (handle.new.agent ≡ None) }
+    ensures empty { IfNone handle.old.agent ((result ≡ code_of Refusal.EmptyHandle)
+        × (handle.new.agent ≡ None)
+        × (until.new ≡ until.old) × (id.new ≡ id.old)) }
+    ensures answer { IfSome handle.old.agent (λ kept. result ≡ number_answer
+        (polled (length id.old) (poll_answer now kept.agent))) }
+    ensures state { IfSome handle.old.agent (λ kept. handle.new.agent ≡ Some (record {
+      agent = left_by result kept.agent (after_poll now kept.agent);
+    })) }
+    ensures until { IfSome handle.old.agent (λ kept. until.new ≡ left_by result until.old
+        (moment_told (poll_answer now kept.agent) until.old)) }
+    ensures id { IfSome handle.old.agent (λ kept. id.new ≡ left_by result id.old
+        (id_told (poll_answer now kept.agent) id.old)) }
 {
     let Some(mut kept) = handle.take(alloc) else {
         return Refusal::EmptyHandle.code();
@@ -144,7 +198,20 @@ pub extern "C" fn stun_agent_poll_transmit(
     out: &mut [u8],
     to: &mut Address,
 ) -> i64
-    ensures empty { IfNone handle.old.agent (handle.new.agent ≡ None) }
+    ensures empty { IfNone handle.old.agent ((result ≡ code_of Refusal.EmptyHandle)
+        × (handle.new.agent ≡ None)
+        × (out.new ≡ out.old) × (to.new ≡ to.old)) }
+    ensures answer { IfSome handle.old.agent (λ kept. result ≡ length_answer
+        (sent_again (length out.old) (sent_by_poll now kept.agent))) }
+
+    // Too small a buffer leaves the agent, so no transmission is lost.
+    ensures state { IfSome handle.old.agent (λ kept. handle.new.agent ≡ Some (record {
+      agent = left_by result kept.agent (after_poll_transmit now kept.agent);
+    })) }
+    ensures out { IfSome handle.old.agent (λ kept. out.new ≡ left_by result out.old
+        (bytes_told (sent_by_poll now kept.agent) out.old)) }
+    ensures to { IfSome handle.old.agent (λ kept. to.new ≡ left_by result to.old
+        (sent_to (sent_by_poll now kept.agent) to.old)) }
 {
     let Some(mut kept) = handle.take(alloc) else {
         return Refusal::EmptyHandle.code();
@@ -163,7 +230,14 @@ pub extern "C" fn stun_agent_handle(
     from: &Address,
     now: u64,
 ) -> i64
-    ensures empty { IfNone handle.old.agent (handle.new.agent ≡ None) }
+    ensures empty { IfNone handle.old.agent ((result ≡ code_of Refusal.EmptyHandle)
+        × (handle.new.agent ≡ None)) }
+    ensures answer { IfSome handle.old.agent (λ kept. IsOrOutOfMemory result (number_answer
+        (at_address (socket_address from.now) (handled kept.agent message.now)))) }
+    ensures state { IfSome handle.old.agent (λ kept. handle.new.agent ≡ Some (record {
+      agent = left_by result kept.agent
+          (kept_after_message kept.agent message.now from.now now);
+    })) }
 {
     let Some(mut kept) = handle.take(alloc) else {
         return Refusal::EmptyHandle.code();
@@ -181,7 +255,14 @@ pub extern "C" fn stun_agent_is_outstanding(
     id: &[u8],
     peer: &mut Address,
 ) -> i64
-    ensures empty { IfNone handle.old.agent (handle.new.agent ≡ None) }
+    ensures empty { IfNone handle.old.agent ((result ≡ code_of Refusal.EmptyHandle)
+        × (handle.new.agent ≡ None)
+        × (peer.new ≡ peer.old)) }
+    ensures answer { IfSome handle.old.agent (λ kept. result ≡ number_answer
+        (found (id_in id.now) kept.agent)) }
+    ensures peer { IfSome handle.old.agent (λ kept. peer.new
+        ≡ peer_found (id_in id.now) kept.agent peer.old) }
+    ensures same { handle.new.agent ≡ handle.old.agent }
 {
     let Some(mut kept) = handle.take(alloc) else {
         return Refusal::EmptyHandle.code();
@@ -194,7 +275,13 @@ pub extern "C" fn stun_agent_is_outstanding(
 /// Cancels the request of an id.
 #[unsafe(no_mangle)]
 pub extern "C" fn stun_agent_cancel(alloc: Global, handle: &mut AgentHandle, id: &[u8]) -> i64
-    ensures empty { IfNone handle.old.agent (handle.new.agent ≡ None) }
+    ensures empty { IfNone handle.old.agent ((result ≡ code_of Refusal.EmptyHandle)
+        × (handle.new.agent ≡ None)) }
+    ensures answer { IfSome handle.old.agent (λ kept. result ≡ number_answer
+        (found (id_in id.now) kept.agent)) }
+    ensures state { IfSome handle.old.agent (λ kept. handle.new.agent ≡ Some (record {
+      agent = with_changed cancelled (id_in id.now) kept.agent;
+    })) }
 {
     let Some(mut kept) = handle.take(alloc) else {
         return Refusal::EmptyHandle.code();
@@ -211,7 +298,13 @@ pub extern "C" fn stun_agent_cancel_retransmissions(
     handle: &mut AgentHandle,
     id: &[u8],
 ) -> i64
-    ensures empty { IfNone handle.old.agent (handle.new.agent ≡ None) }
+    ensures empty { IfNone handle.old.agent ((result ≡ code_of Refusal.EmptyHandle)
+        × (handle.new.agent ≡ None)) }
+    ensures answer { IfSome handle.old.agent (λ kept. result ≡ number_answer
+        (found (id_in id.now) kept.agent)) }
+    ensures state { IfSome handle.old.agent (λ kept. handle.new.agent ≡ Some (record {
+      agent = with_changed silenced (id_in id.now) kept.agent;
+    })) }
 {
     let Some(mut kept) = handle.take(alloc) else {
         return Refusal::EmptyHandle.code();
@@ -229,7 +322,13 @@ pub extern "C" fn stun_agent_configure(
     id: &[u8],
     timeouts: &Timeouts,
 ) -> i64
-    ensures empty { IfNone handle.old.agent (handle.new.agent ≡ None) }
+    ensures empty { IfNone handle.old.agent ((result ≡ code_of Refusal.EmptyHandle)
+        × (handle.new.agent ≡ None)) }
+    ensures answer { IfSome handle.old.agent (λ kept. result ≡ number_answer
+        (found (id_in id.now) kept.agent)) }
+    ensures state { IfSome handle.old.agent (λ kept. handle.new.agent ≡ Some (record {
+      agent = with_changed (configured (settings_of timeouts.now)) (id_in id.now) kept.agent;
+    })) }
 {
     let Some(mut kept) = handle.take(alloc) else {
         return Refusal::EmptyHandle.code();
@@ -246,7 +345,12 @@ pub extern "C" fn stun_agent_statistics(
     handle: &mut AgentHandle,
     statistics: &mut Statistics,
 ) -> i64
-    ensures empty { IfNone handle.old.agent (handle.new.agent ≡ None) }
+    ensures empty { IfNone handle.old.agent ((result ≡ code_of Refusal.EmptyHandle)
+        × (handle.new.agent ≡ None)
+        × (statistics.new ≡ statistics.old)) }
+    ensures answer { IfSome handle.old.agent (λ kept. (result ≡ pos 0)
+        × (statistics.new ≡ told_of kept.agent.statistics statistics.old)) }
+    ensures same { handle.new.agent ≡ handle.old.agent }
 {
     let Some(mut kept) = handle.take(alloc) else {
         return Refusal::EmptyHandle.code();
@@ -266,7 +370,14 @@ pub extern "C" fn stun_agent_free(alloc: Global, handle: &mut AgentHandle)
 
 /// Fills a handle with a server of a realm.
 #[unsafe(no_mangle)]
-pub extern "C" fn stun_server_new(alloc: Global, handle: &mut ServerHandle, realm: &[u8]) -> i64 {
+pub extern "C" fn stun_server_new(alloc: Global, handle: &mut ServerHandle, realm: &[u8]) -> i64
+    ensures full { IfSome handle.old.server (λ kept. (result ≡ code_of Refusal.FullHandle)
+        × (handle.new.server ≡ Some kept)) }
+    ensures made { IfNone handle.old.server (MatchOption (text_refusal realm.now)
+        (OrOutOfMemory result None handle.new.server (pos 0)
+        (Some (record { server = new_server realm.now })))
+        (λ refusal. (result ≡ code_of refusal) × (handle.new.server ≡ None))) }
+{
     if let Some(kept) = handle.take(alloc) {
         handle.put(alloc, kept);
         return Refusal::FullHandle.code();
@@ -291,7 +402,13 @@ pub extern "C" fn stun_server_set_algorithms(
     handle: &mut ServerHandle,
     algorithms: u32,
 ) -> i64
-    ensures empty { IfNone handle.old.server (handle.new.server ≡ None) }
+    ensures empty { IfNone handle.old.server ((result ≡ code_of Refusal.EmptyHandle)
+        × (handle.new.server ≡ None)) }
+    ensures answer { IfSome handle.old.server (λ _. result ≡ done_answer
+        (done_if_given (algorithms_numbered algorithms))) }
+    ensures state { IfSome handle.old.server (λ kept. handle.new.server ≡ Some (record {
+      server = on_server.with_algorithms (algorithms_numbered algorithms) kept.server;
+    })) }
 {
     let Some(mut kept) = handle.take(alloc) else {
         return Refusal::EmptyHandle.code();
@@ -308,7 +425,13 @@ pub extern "C" fn stun_server_set_anonymous_username(
     handle: &mut ServerHandle,
     feature: u32,
 ) -> i64
-    ensures empty { IfNone handle.old.server (handle.new.server ≡ None) }
+    ensures empty { IfNone handle.old.server ((result ≡ code_of Refusal.EmptyHandle)
+        × (handle.new.server ≡ None)) }
+    ensures answer { IfSome handle.old.server (λ _. result ≡ done_answer
+        (done_if_given (feature_numbered feature))) }
+    ensures state { IfSome handle.old.server (λ kept. handle.new.server ≡ Some (record {
+      server = on_server.with_feature (feature_numbered feature) kept.server;
+    })) }
 {
     let Some(mut kept) = handle.take(alloc) else {
         return Refusal::EmptyHandle.code();
@@ -325,7 +448,12 @@ pub extern "C" fn stun_server_set_nonce_expiry(
     handle: &mut ServerHandle,
     nanoseconds: u64,
 ) -> i64
-    ensures empty { IfNone handle.old.server (handle.new.server ≡ None) }
+    ensures empty { IfNone handle.old.server ((result ≡ code_of Refusal.EmptyHandle)
+        × (handle.new.server ≡ None)) }
+    ensures answer { IfSome handle.old.server (λ _. result ≡ pos 0) }
+    ensures state { IfSome handle.old.server (λ kept. handle.new.server ≡ Some (record {
+      server = with_expiry nanoseconds kept.server;
+    })) }
 {
     let Some(mut kept) = handle.take(alloc) else {
         return Refusal::EmptyHandle.code();
@@ -343,7 +471,18 @@ pub extern "C" fn stun_server_add_user(
     name: &[u8],
     password: &[u8],
 ) -> i64
-    ensures empty { IfNone handle.old.server (handle.new.server ≡ None) }
+    ensures empty { IfNone handle.old.server ((result ≡ code_of Refusal.EmptyHandle)
+        × (handle.new.server ≡ None)) }
+    ensures answer { IfSome handle.old.server (λ kept. MatchOption
+        (texts_refusal name.now password.now)
+        (OrOutOfMemory result handle.old.server handle.new.server (pos 0)
+        (Some (record {
+          server = record kept.server {
+            registered = with_user kept.server.registered
+                (record { username = name.now; password = password.now });
+          };
+        })))
+        (λ refusal. (result ≡ code_of refusal) × (handle.new.server ≡ handle.old.server))) }
 {
     let Some(mut kept) = handle.take(alloc) else {
         return Refusal::EmptyHandle.code();
@@ -360,7 +499,13 @@ pub extern "C" fn stun_server_remove_user(
     handle: &mut ServerHandle,
     name: &[u8],
 ) -> i64
-    ensures empty { IfNone handle.old.server (handle.new.server ≡ None) }
+    ensures empty { IfNone handle.old.server ((result ≡ code_of Refusal.EmptyHandle)
+        × (handle.new.server ≡ None)) }
+    ensures answer { IfSome handle.old.server (λ _. result ≡ done_answer
+        (unless_refused (text_refusal name.now) (Ok tt))) }
+    ensures state { IfSome handle.old.server (λ kept. handle.new.server ≡ Some (record {
+      server = without_named (text_refusal name.now) kept.server name.now;
+    })) }
 {
     let Some(mut kept) = handle.take(alloc) else {
         return Refusal::EmptyHandle.code();
@@ -377,7 +522,14 @@ pub extern "C" fn stun_server_remove_client(
     handle: &mut ServerHandle,
     at: &Address,
 ) -> i64
-    ensures empty { IfNone handle.old.server (handle.new.server ≡ None) }
+    ensures empty { IfNone handle.old.server ((result ≡ code_of Refusal.EmptyHandle)
+        × (handle.new.server ≡ None)) }
+    ensures answer { IfSome handle.old.server (λ _. result ≡ done_answer
+        (done_if_given (socket_address at.now))) }
+    ensures state { IfSome handle.old.server (λ kept. handle.new.server ≡ Some (record {
+      server = after_address (socket_address at.now) kept.server
+          (without_client kept.server);
+    })) }
 {
     let Some(mut kept) = handle.take(alloc) else {
         return Refusal::EmptyHandle.code();
@@ -394,7 +546,12 @@ pub extern "C" fn stun_server_forget_expired(
     handle: &mut ServerHandle,
     now: u64,
 ) -> i64
-    ensures empty { IfNone handle.old.server (handle.new.server ≡ None) }
+    ensures empty { IfNone handle.old.server ((result ≡ code_of Refusal.EmptyHandle)
+        × (handle.new.server ≡ None)) }
+    ensures answer { IfSome handle.old.server (λ _. result ≡ pos 0) }
+    ensures state { IfSome handle.old.server (λ kept. handle.new.server ≡ Some (record {
+      server = after_forgetting kept.server now;
+    })) }
 {
     let Some(mut kept) = handle.take(alloc) else {
         return Refusal::EmptyHandle.code();
@@ -413,7 +570,17 @@ pub extern "C" fn stun_server_client(
     name: &mut [u8],
     name_length: &mut usize,
 ) -> i64
-    ensures empty { IfNone handle.old.server (handle.new.server ≡ None) }
+    ensures empty { IfNone handle.old.server ((result ≡ code_of Refusal.EmptyHandle)
+        × (handle.new.server ≡ None)
+        × (name.new ≡ name.old) × (name_length.new ≡ name_length.old)) }
+    ensures answer { IfSome handle.old.server (λ kept. result ≡ client_answer
+        (client_found kept.server at.now (length name.old))) }
+    ensures name { IfSome handle.old.server (λ kept. name.new
+        ≡ after_address (socket_address at.now) name.old
+        (λ at. name_written name.old (client_at kept.server at))) }
+    ensures name_length { IfSome handle.old.server (λ kept. name_length.new ≡ length_told
+        (client_found kept.server at.now (length name.old)) name_length.old) }
+    ensures same { handle.new.server ≡ handle.old.server }
 {
     let Some(mut kept) = handle.take(alloc) else {
         return Refusal::EmptyHandle.code();
@@ -461,7 +628,17 @@ pub extern "C" fn stun_server_sign(
     length: usize,
     to: &Address,
 ) -> i64
-    ensures empty { IfNone handle.old.server (handle.new.server ≡ None) }
+    ensures empty { IfNone handle.old.server ((result ≡ code_of Refusal.EmptyHandle)
+        × (handle.new.server ≡ None)
+        × (buffer.new ≡ buffer.old)) }
+    ensures answer { IfSome handle.old.server (λ kept. OrOutOfMemory result
+        buffer.old buffer.new
+        (length_answer (length_of (signed_for kept.server buffer.old length to.now)))
+        (buffer_after (signed_for kept.server buffer.old length to.now) buffer.old)) }
+    ensures state { IfSome handle.old.server (λ kept. handle.new.server ≡ Some (record {
+      server = left_by result kept.server
+          (kept_after_signing kept.server buffer.old length to.now);
+    })) }
 {
     let Some(mut kept) = handle.take(alloc) else {
         return Refusal::EmptyHandle.code();
@@ -481,7 +658,12 @@ pub extern "C" fn stun_server_free(alloc: Global, handle: &mut ServerHandle)
 
 /// Fills a handle with a client without credentials.
 #[unsafe(no_mangle)]
-pub extern "C" fn stun_client_new(alloc: Global, handle: &mut ClientHandle) -> i64 {
+pub extern "C" fn stun_client_new(alloc: Global, handle: &mut ClientHandle) -> i64
+    ensures full { IfSome handle.old.client (λ kept. (result ≡ code_of Refusal.FullHandle)
+        × (handle.new.client ≡ Some kept)) }
+    ensures made { IfNone handle.old.client (OrOutOfMemory result None handle.new.client (pos 0)
+        (Some (record { client = new_client }))) }
+{
     if let Some(kept) = handle.take(alloc) {
         handle.put(alloc, kept);
         return Refusal::FullHandle.code();
@@ -504,7 +686,13 @@ pub extern "C" fn stun_client_set_credentials(
     name: &[u8],
     password: &[u8],
 ) -> i64
-    ensures empty { IfNone handle.old.client (handle.new.client ≡ None) }
+    ensures empty { IfNone handle.old.client ((result ≡ code_of Refusal.EmptyHandle)
+        × (handle.new.client ≡ None)) }
+    ensures answer { IfSome handle.old.client (λ kept. MatchOption
+        (texts_refusal name.now password.now)
+        (OrOutOfMemory result handle.old.client handle.new.client (pos 0)
+        (Some (record { client = with_credentials name.now password.now kept.client })))
+        (λ refusal. (result ≡ code_of refusal) × (handle.new.client ≡ handle.old.client))) }
 {
     let Some(mut kept) = handle.take(alloc) else {
         return Refusal::EmptyHandle.code();
@@ -521,7 +709,13 @@ pub extern "C" fn stun_client_set_algorithms(
     handle: &mut ClientHandle,
     algorithms: u32,
 ) -> i64
-    ensures empty { IfNone handle.old.client (handle.new.client ≡ None) }
+    ensures empty { IfNone handle.old.client ((result ≡ code_of Refusal.EmptyHandle)
+        × (handle.new.client ≡ None)) }
+    ensures answer { IfSome handle.old.client (λ _. result ≡ done_answer
+        (done_if_given (algorithms_numbered algorithms))) }
+    ensures state { IfSome handle.old.client (λ kept. handle.new.client ≡ Some (record {
+      client = on_client.with_algorithms (algorithms_numbered algorithms) kept.client;
+    })) }
 {
     let Some(mut kept) = handle.take(alloc) else {
         return Refusal::EmptyHandle.code();
@@ -538,7 +732,13 @@ pub extern "C" fn stun_client_set_anonymous_username(
     handle: &mut ClientHandle,
     feature: u32,
 ) -> i64
-    ensures empty { IfNone handle.old.client (handle.new.client ≡ None) }
+    ensures empty { IfNone handle.old.client ((result ≡ code_of Refusal.EmptyHandle)
+        × (handle.new.client ≡ None)) }
+    ensures answer { IfSome handle.old.client (λ _. result ≡ done_answer
+        (done_if_given (feature_numbered feature))) }
+    ensures state { IfSome handle.old.client (λ kept. handle.new.client ≡ Some (record {
+      client = on_client.with_feature (feature_numbered feature) kept.client;
+    })) }
 {
     let Some(mut kept) = handle.take(alloc) else {
         return Refusal::EmptyHandle.code();
@@ -556,7 +756,14 @@ pub extern "C" fn stun_client_sign(
     buffer: &mut [u8],
     length: usize,
 ) -> i64
-    ensures empty { IfNone handle.old.client (handle.new.client ≡ None) }
+    ensures empty { IfNone handle.old.client ((result ≡ code_of Refusal.EmptyHandle)
+        × (handle.new.client ≡ None)
+        × (buffer.new ≡ buffer.old)) }
+    ensures answer { IfSome handle.old.client (λ kept. OrOutOfMemory result
+        buffer.old buffer.new
+        (length_answer (length_of (signed_by_client kept.client.state buffer.old length)))
+        (buffer_after (signed_by_client kept.client.state buffer.old length) buffer.old)) }
+    ensures same { handle.new.client ≡ handle.old.client }
 {
     let Some(mut kept) = handle.take(alloc) else {
         return Refusal::EmptyHandle.code();
@@ -573,7 +780,12 @@ pub extern "C" fn stun_client_validate(
     handle: &mut ClientHandle,
     message: &[u8],
 ) -> i64
-    ensures empty { IfNone handle.old.client (handle.new.client ≡ None) }
+    ensures empty { IfNone handle.old.client ((result ≡ code_of Refusal.EmptyHandle)
+        × (handle.new.client ≡ None)) }
+    ensures answer { IfSome handle.old.client (λ kept. OrOutOfMemory result
+        handle.old.client handle.new.client
+        (reading_answer (validated kept.client message.now))
+        (Some (record { client = after_validating kept.client message.now }))) }
 {
     let Some(mut kept) = handle.take(alloc) else {
         return Refusal::EmptyHandle.code();

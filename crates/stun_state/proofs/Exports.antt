@@ -1,0 +1,88 @@
+-- From what a call answers and leaves to the number that its export answers and what is kept.
+use Rattle.std.proofs.Common.{◌≡◌, ◌∙◌, ℕ, ℤ, pos, min, false, true, int_lt, if◌then◌else◌, Option, Some, IfSome, Result, Ok, Err, OnOk, OnErr, refl, sym, subst, ap, inl, inr}
+use lib.Dec.{leb-suc-zero}
+use Rattle.stun_state.specs.Answers.{ForRefusal, OrMemory}
+use Rattle.stun_state.specs.Codes.{code_of}
+use Rattle.stun_state.specs.Numbers.{OrOutOfMemory, left_by, length_answer}
+use Rattle.stun_state.specs.declared.codes.Refusal.{Refusal}
+use Rattle.stun_state.specs.declared.codes.Refusal.TheVariants.{Truncated, NotStun, TooLarge, IntegrityFailed, BadArgument, NotText, TextTooLong, BufferTooSmall, NotAllowed, Closed, AttributeExists, MessageTooLong, MissingAttribute, MalformedAttribute, OutOfMemory, EmptyHandle, FullHandle, AlreadyInProgress, ProtocolViolation, Unauthorized, BadRequest, StaleNonce, UnsupportedFeature}
+
+-- what is so of the value that is there
+pub some_is : {T : Type 0} (o : Option T) (x : T) (F : T → Type 0) → o ≡ Some x → F x → IfSome o F
+some_is o x F is f = subst (λ p. IfSome p F) (sym is) f
+
+-- the answer's number and what is left, unless the refusal is that an allocation failed
+unless_memory : {V S : Type 0} (number : Result V Refusal → ℤ) (refusal : Refusal) (expected : Result V Refusal) (told : ℤ) (before now after : S)
+    → number (Err OutOfMemory) ≡ code_of OutOfMemory → told ≡ number (Err refusal)
+    → ForRefusal refusal (Err refusal ≡ expected) (Unit {0}) → ForRefusal refusal (now ≡ after) (now ≡ before)
+    → OrOutOfMemory told before now (number expected) after
+unless_memory number Truncated expected told before now after memory is p q = inl (is ∙ ap number p, q)
+unless_memory number NotStun expected told before now after memory is p q = inl (is ∙ ap number p, q)
+unless_memory number TooLarge expected told before now after memory is p q = inl (is ∙ ap number p, q)
+unless_memory number IntegrityFailed expected told before now after memory is p q = inl (is ∙ ap number p, q)
+unless_memory number BadArgument expected told before now after memory is p q = inl (is ∙ ap number p, q)
+unless_memory number NotText expected told before now after memory is p q = inl (is ∙ ap number p, q)
+unless_memory number TextTooLong expected told before now after memory is p q = inl (is ∙ ap number p, q)
+unless_memory number BufferTooSmall expected told before now after memory is p q = inl (is ∙ ap number p, q)
+unless_memory number NotAllowed expected told before now after memory is p q = inl (is ∙ ap number p, q)
+unless_memory number Closed expected told before now after memory is p q = inl (is ∙ ap number p, q)
+unless_memory number AttributeExists expected told before now after memory is p q = inl (is ∙ ap number p, q)
+unless_memory number MessageTooLong expected told before now after memory is p q = inl (is ∙ ap number p, q)
+unless_memory number MissingAttribute expected told before now after memory is p q = inl (is ∙ ap number p, q)
+unless_memory number MalformedAttribute expected told before now after memory is p q = inl (is ∙ ap number p, q)
+unless_memory number OutOfMemory expected told before now after memory is p q = inr (is ∙ memory, q)
+unless_memory number EmptyHandle expected told before now after memory is p q = inl (is ∙ ap number p, q)
+unless_memory number FullHandle expected told before now after memory is p q = inl (is ∙ ap number p, q)
+unless_memory number AlreadyInProgress expected told before now after memory is p q = inl (is ∙ ap number p, q)
+unless_memory number ProtocolViolation expected told before now after memory is p q = inl (is ∙ ap number p, q)
+unless_memory number Unauthorized expected told before now after memory is p q = inl (is ∙ ap number p, q)
+unless_memory number BadRequest expected told before now after memory is p q = inl (is ∙ ap number p, q)
+unless_memory number StaleNonce expected told before now after memory is p q = inl (is ∙ ap number p, q)
+unless_memory number UnsupportedFeature expected told before now after memory is p q = inl (is ∙ ap number p, q)
+
+pub or_memory : {V S : Type 0} (number : Result V Refusal → ℤ) (answer expected : Result V Refusal) (told : ℤ) (before now after : S)
+    → number (Err OutOfMemory) ≡ code_of OutOfMemory → told ≡ number answer
+    → OrMemory answer (answer ≡ expected) (Unit {0}) → OrMemory answer (now ≡ after) (now ≡ before)
+    → OrOutOfMemory told before now (number expected) after
+or_memory number (Ok value) expected told before now after memory is p q = inl (is ∙ ap number p, q)
+or_memory number (Err refusal) expected told before now after memory is p q =
+    unless_memory number refusal expected told before now after memory is p q
+
+-- no length is below zero, and each refusal's number is
+not_below : (n : ℕ) → int_lt (pos n) (pos 0) ≡ false
+not_below n = leb-suc-zero n
+
+below : (refusal : Refusal) → int_lt (code_of refusal) (pos 0) ≡ true
+below Truncated = refl
+below NotStun = refl
+below TooLarge = refl
+below IntegrityFailed = refl
+below BadArgument = refl
+below NotText = refl
+below TextTooLong = refl
+below BufferTooSmall = refl
+below NotAllowed = refl
+below Closed = refl
+below AttributeExists = refl
+below MessageTooLong = refl
+below MissingAttribute = refl
+below MalformedAttribute = refl
+below OutOfMemory = refl
+below EmptyHandle = refl
+below FullHandle = refl
+below AlreadyInProgress = refl
+below ProtocolViolation = refl
+below Unauthorized = refl
+below BadRequest = refl
+below StaleNonce = refl
+below UnsupportedFeature = refl
+
+-- what is kept after a call that answers a length, where a refusal leaves all
+pub left_length : {S H : Type 0} (E : Type 0) (wrap : S → H) (answer : Result ℕ Refusal) (told : ℤ) (before now after : S) (handle : H)
+    → told ≡ length_answer answer → handle ≡ wrap now → OnOk answer (now ≡ after) → OnErr answer E → (E → now ≡ before)
+    → handle ≡ wrap (left_by told before after)
+left_length E wrap (Ok n) told before now after handle is kept ok err same =
+    kept ∙ ap wrap (ok ∙ sym (ap (λ z. left_by z before after) is
+    ∙ ap (λ b. if b then before else after) (not_below (min n 9223372036854775807))))
+left_length E wrap (Err refusal) told before now after handle is kept ok err same =
+    kept ∙ ap wrap (same err ∙ sym (ap (λ z. left_by z before after) is ∙ ap (λ b. if b then before else after) (below refusal)))

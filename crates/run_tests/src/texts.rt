@@ -1,9 +1,9 @@
 //! What the errors of runs say, and a signing that a server refuses in a run.
 use std::test::Fail;
-use stun_auth::auth::LongTermServerAuth;
-use stun_proto::replay::{NegotiateError, ServerCall, ServerReply, Stopped, serve};
+use stun_auth::auth::{LongTermClientAuth, LongTermServerAuth};
+use stun_proto::replay::{NegotiateError, ServerCall, ServerReply, Stopped, negotiate, serve};
 use stun_types::attribute::AttributeType;
-use stun_types::message::StunWriteError;
+use stun_types::message::{StunWriteError, TransactionId};
 use test_support::datagrams::{address, at};
 use test_support::spelled::bytes_of;
 
@@ -50,5 +50,30 @@ fn a_refused_signing_is_a_reply(rt: HostRuntime) -> Result<(), Fail> {
     let refused = ServerReply::SignRefused(StunWriteError::AttributeExists(AttributeType::REALM));
     assert_eq!(rt; replies[1], refused);
     assert_eq!(rt; replies[2], ServerReply::Done);
+    Ok(())
+}
+
+/// A server whose realm is longer than a REALM may be cannot sign its challenge, which is no want of memory.
+#[test]
+fn a_refused_signing_ends_a_meeting(rt: HostRuntime) -> Result<(), Fail> {
+    let alloc = rt.alloc();
+    let mut realm = String::new(alloc);
+    for _ in 0..764 {
+        realm.push('r')?;
+    }
+    let mut server = LongTermServerAuth::new(alloc, realm);
+    let mut client = LongTermClientAuth::new(alloc);
+    let id = TransactionId::from_u128(1).ok_or("96 bits")?;
+    let met = negotiate(
+        alloc,
+        &mut client,
+        &mut server,
+        address(1, 5000),
+        [id, id],
+        [at(0), at(0)],
+        [[0; 16], [0; 16]],
+        [&[], &[]],
+    );
+    assert_eq!(rt; met, Err(NegotiateError::Write(StunWriteError::TooLarge)));
     Ok(())
 }

@@ -16,4 +16,6 @@ mod settings;
 #[cfg(test)]
 mod signing;
 #[cfg(test)]
+mod unchecked;
+#[cfg(test)]
 mod users;

@@ -1,5 +1,6 @@
 -- Lemmas of the program.
 mod DecodeLemmas
 mod Reading
+mod RunLemmas
 mod TellingLemmas
 mod Writing

@@ -1,5 +1,7 @@
 -- What the contracts of the program say, in the order to read it.
 
+-- what each command answers and prints
+pub mod Run
 -- the attributes of a message one by one, and what hides each
 pub mod Telling
 -- CRC-32

@@ -1,7 +1,10 @@
 //! What each command does with its reader and its writer.
-ghost use Rattle.std.specs.Prelude.{IfOk};
+ghost use Rattle.std.specs.Prelude.{◌≡◌, ◌≢◌, codes, true, IfOk, IfSome};
+ghost use Rattle.stun_base.specs.Keys.{long_term_key};
 ghost use Rattle.stun_base.specs.Keys.OfCredentials.{keys_of};
 ghost use Rattle.stun_inspect.specs.Decode.{PrintsDecoded};
+ghost use Rattle.stun_inspect.specs.Input.{is_raw};
+ghost use Rattle.stun_inspect.specs.Run.{Answers, PrintsDigits, PrintsText, keys_for};
 ghost use Rattle.stun_inspect.specs.Verdict.{verdict_of};
 ghost use Rattle.stun_inspect.specs.Verify.{PrintsVerdict};
 
@@ -13,7 +16,7 @@ use crate::layout::read_message;
 use crate::notes::notes_on;
 use crate::output::write_text;
 use crate::status::Status;
-use crate::value::{push_digits, push_security_bits};
+use crate::value::push_security_bits;
 use crate::verdict::{Verdict, refusal_line, verdict_on};
 use std::alloc::{AllocError, Allocator};
 use std::io::{Read, Write};
@@ -44,35 +47,18 @@ pub fn run_command<R: Read, W: Write, A: Allocator + Copy>(
     command: Command<'_>,
     reader: &mut R,
     writer: &mut W,
-) -> Result<Status, Failure> {
+) -> Result<Status, Failure>
+    ensures { Answers command.entry (R.remaining reader.old) result
+        (W.contents writer.old) (W.contents writer.new) }
+{
     match command {
         Command::Help => print(writer, HELP.as_bytes()),
         Command::Version => print(writer, VERSION.as_bytes()),
-        Command::Decode => {
-            let input = read_to_end(alloc, reader)?;
-            let bytes = read_message(alloc, input.as_slice())?;
-            decode(alloc, bytes.as_slice(), writer)
-        }
-        Command::Verify(who) => {
-            let input = read_to_end(alloc, reader)?;
-            let (password, rest) = password_of(who.password, input.as_slice())?;
-            let bytes = read_message(alloc, rest)?;
-            let credentials = credentials_of(alloc, who.user, password)?;
-            verify(alloc, bytes.as_slice(), who.user, &credentials, writer)
-        }
-        Command::Key(algorithm, who) => {
-            let input = if who.password == "-" {
-                read_to_end(alloc, reader)?
-            } else {
-                Vec::new(alloc)
-            };
-            let (password, _) = password_of(who.password, input.as_slice())?;
-            let key = key_line(alloc, algorithm, who.user, password)?;
-            print(writer, key.as_bytes())
-        }
-        Command::Userhash { name, realm } => {
-            let line = digits_line(alloc, &Userhash::compute(name, realm))?;
-            print(writer, line.as_bytes())
+        Command::Decode => decode_input(alloc, reader, writer),
+        Command::Verify(who) => verify_input(alloc, who, reader, writer),
+        Command::Key(algorithm, who) => print_key(alloc, algorithm, who, reader, writer),
+        Command::Userhash(user) => {
+            print_digits(alloc, &Userhash::compute(user.name, user.realm), writer)
         }
         Command::Nonce(nonce) => {
             let line = nonce_line(alloc, nonce)?;
@@ -81,9 +67,89 @@ pub fn run_command<R: Read, W: Write, A: Allocator + Copy>(
     }
 }
 
-fn print<W: Write>(writer: &mut W, text: &[u8]) -> Result<Status, Failure> {
+fn print<W: Write>(writer: &mut W, text: &[u8]) -> Result<Status, Failure>
+    ensures { IfOk result (λ status.
+        PrintsText text.now status (W.contents writer.old) (W.contents writer.new)) }
+{
     write_text(writer, text)?;
     Ok(Status::Good)
+}
+
+/// Prints bytes as a line of hexadecimal digits.
+fn print_digits<W: Write, A: Allocator + Copy>(
+    alloc: A,
+    bytes: &[u8],
+    writer: &mut W,
+) -> Result<Status, Failure>
+    ensures { IfOk result (λ status.
+        PrintsDigits bytes.now status (W.contents writer.old) (W.contents writer.new)) }
+{
+    let mut line = hex::encode(alloc, bytes)?;
+    line.push('\n')?;
+    print(writer, line.as_bytes())
+}
+
+/// Prints each attribute of the message that the reader has.
+fn decode_input<R: Read, W: Write, A: Allocator + Copy>(
+    alloc: A,
+    reader: &mut R,
+    writer: &mut W,
+) -> Result<Status, Failure>
+    ensures { IfSome (R.remaining reader.old) (λ input. IfOk result (λ status.
+        is_raw input ≡ true
+        → PrintsDecoded input status (W.contents writer.old) (W.contents writer.new))) }
+{
+    let input = read_to_end(alloc, reader)?;
+    let bytes = read_message(alloc, input.as_slice())?;
+    decode(alloc, bytes.as_slice(), writer)
+}
+
+/// Prints whether the digest of the message that the reader has verifies.
+fn verify_input<R: Read, W: Write, A: Allocator + Copy>(
+    alloc: A,
+    who: Who<'_>,
+    reader: &mut R,
+    writer: &mut W,
+) -> Result<Status, Failure>
+    ensures { who.entry.password.now ≢ codes "-" → IfSome (R.remaining reader.old)
+        (λ input. IfOk result (λ status. is_raw input ≡ true
+        → PrintsVerdict (verdict_of input (keys_for who.entry.user who.entry.password.now)) status
+        (W.contents writer.old) (W.contents writer.new))) }
+{
+    let input = read_to_end(alloc, reader)?;
+    let found = password_of(who.password, input.as_slice())?;
+    let (password, rest) = found;
+    let bytes = read_message(alloc, rest)?;
+    let credentials = credentials_of(alloc, who.user, password)?;
+    verify(alloc, bytes.as_slice(), who.user, &credentials, writer)
+}
+
+/// Prints the long-term key of a user.
+fn print_key<R: Read, W: Write, A: Allocator + Copy>(
+    alloc: A,
+    algorithm: IntegrityAlgorithm,
+    who: Who<'_>,
+    reader: &mut R,
+    writer: &mut W,
+) -> Result<Status, Failure>
+    ensures { who.entry.password.now ≢ codes "-" → IfOk result (λ status. IfSome who.entry.user (λ user.
+        PrintsDigits (long_term_key algorithm user.name.now user.realm.now who.entry.password.now)
+        status (W.contents writer.old) (W.contents writer.new))) }
+{
+    let input = if who.password == "-" {
+        read_to_end(alloc, reader)?
+    } else {
+        Vec::new(alloc)
+    };
+    let found = password_of(who.password, input.as_slice())?;
+    let (password, _) = found;
+    match who.user {
+        Some(user) => {
+            let key = long_term_key(alloc, algorithm, user.name, user.realm, password);
+            print_digits(alloc, key.as_bytes(), writer)
+        }
+        None => print_digits(alloc, password.as_bytes(), writer),
+    }
 }
 
 /// Prints each attribute of the message, or why the bytes are none.
@@ -132,7 +198,10 @@ fn credentials_of<A: Allocator + Copy>(
     alloc: A,
     user: Option<User<'_>>,
     password: &str,
-) -> Result<MessageIntegrityCredentials<A>, AllocError> {
+) -> Result<MessageIntegrityCredentials<A>, AllocError>
+    ensures { IfOk result (λ credentials.
+        keys_of credentials ≡ keys_for user.entry password.now) }
+{
     let password = String::from_str(alloc, password)?;
     match user {
         None => Ok(MessageIntegrityCredentials::ShortTerm(ShortTermCredentials::new(password))),
@@ -147,7 +216,10 @@ fn credentials_of<A: Allocator + Copy>(
 
 /// The password, and the rest of the input: for the word `-` the first line of the input, without
 /// its end.
-fn password_of<'a>(word: &'a str, input: &'a [u8]) -> Result<(&'a str, &'a [u8]), Failure> {
+fn password_of<'a>(word: &'a str, input: &'a [u8]) -> Result<(&'a str, &'a [u8]), Failure>
+    ensures word { word.now ≢ codes "-" → IfOk result (λ found. found.0.now ≡ word.now) }
+    ensures input { word.now ≢ codes "-" → IfOk result (λ found. found.1.now ≡ input.now) }
+{
     if word != "-" {
         return Ok((word, input));
     }
@@ -170,30 +242,6 @@ fn password_of<'a>(word: &'a str, input: &'a [u8]) -> Result<(&'a str, &'a [u8])
             wanted: Wanted::Password,
         })),
     }
-}
-
-/// The line with the long-term key of a user.
-fn key_line<A: Allocator + Copy>(
-    alloc: A,
-    algorithm: IntegrityAlgorithm,
-    user: Option<User<'_>>,
-    password: &str,
-) -> Result<String<A>, AllocError> {
-    match user {
-        Some(user) => {
-            let key = long_term_key(alloc, algorithm, user.name, user.realm, password);
-            digits_line(alloc, key.as_bytes())
-        }
-        None => digits_line(alloc, password.as_bytes()),
-    }
-}
-
-/// A line of hexadecimal digits.
-fn digits_line<A: Allocator + Copy>(alloc: A, bytes: &[u8]) -> Result<String<A>, AllocError> {
-    let mut line = String::new(alloc);
-    push_digits(&mut line, bytes)?;
-    line.push('\n')?;
-    Ok(line)
 }
 
 /// The line on the security bits of a nonce.

@@ -10,7 +10,7 @@ pub enum Command<'a> {
     Decode,
     Verify(Who<'a>),
     Key(IntegrityAlgorithm, Who<'a>),
-    Userhash { name: &'a str, realm: &'a str },
+    Userhash(User<'a>),
     Nonce(&'a str),
 }
 
@@ -75,10 +75,10 @@ fn userhash_of(words: &[String]) -> Option<Command<'_>> {
     let [name, realm] = words else {
         return None;
     };
-    Some(Command::Userhash {
+    Some(Command::Userhash(User {
         name: name.as_str(),
         realm: realm.as_str(),
-    })
+    }))
 }
 
 fn user_with<'a>(name: &'a String, realm: &'a String, password: &'a String) -> Who<'a> {

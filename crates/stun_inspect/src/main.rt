@@ -1,6 +1,8 @@
 //! Tells what a STUN message has, and whether its integrity verifies.
 #![tactic(auto)]
 
+ghost use Rattle.std.specs.Prelude.{◌≡◌, ◌≢◌};
+
 mod answers;
 mod command;
 mod crc32;
@@ -43,7 +45,9 @@ fn run<R: Read, W: Write, E: Write, A: Allocator + Copy>(
     reader: &mut R,
     writer: &mut W,
     errors: &mut E,
-) -> Status {
+) -> Status
+    ensures silent { result ≢ Status.NotJudged → errors.new ≡ errors.old }
+{
     let Some(command) = command_of(words) else {
         let _ = write_text(errors, USAGE.as_bytes());
         return Status::NotJudged;

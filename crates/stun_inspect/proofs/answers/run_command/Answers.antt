@@ -1,0 +1,8 @@
+-- Each command answers as the function that it calls.
+use Rattle.stun_inspect.proofs.answers.run_command.Goals as goal
+
+pub returns-in-Verify : goal.returns-in-Verify
+returns-in-Verify g c = rw c.in-Verify.is c.verify_input.ensures
+
+pub returns-in-Key : goal.returns-in-Key
+returns-in-Key g c = rw c.in-Key.is c.print_key.ensures

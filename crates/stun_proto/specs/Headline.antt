@@ -60,7 +60,7 @@ pub record ValidatesEachCall (read : Reads) (run : ServerSeen → List ServerCal
 -- ---- 2. The client (sections 9.2.3 to 9.2.5)
 
 -- A client that has read nothing yet and is ready: it has the credentials of a registered user, no two registered users share a hash,
--- its address is new to the server, the calls before each of its requests are those of other addresses alone, and its second request
+-- its address is new to the server, the calls between its messages are those of other addresses alone, and its second request
 -- comes while the nonce is current. Its realm and its user name have at most 763 and 513 bytes, no less than sections 14.9 and 14.3 allow
 pub record IsReadyClient (state : ClientState) (m : Meeting) (who : NameAndPassword) (server : ServerSeen) : Type 0 where
   pub new : state ≡ initial

@@ -31,7 +31,8 @@ use Rattle.stun_proto.specs.declared.replay.negotiation.Outcome.TheVariants.{Val
 
 -- ---- who meets
 
--- a request: its id, the moment at which the server reads it, the random words of a nonce, and the server's calls just before
+-- a request: its id, the moment at which the server reads it, the random words of a nonce, and the server's calls just before the 401
+-- is read, or before the second request is
 pub record Turn : Type 0 where
   pub id : ℕ
   pub now : ℕ

@@ -1,7 +1,7 @@
 //! The calls with state for programs in C and Rust, which `include/stun_state.h` declares.
 //!
-//! Each takes what its handle keeps, calls the crates below, and puts it back. The clauses say what is kept after a call in
-//! the words of those crates: `before` is what the handle kept, and `after` what it keeps.
+//! Each takes what its handle keeps, calls the crates below, and puts it back. The clauses say what a call answers, writes and
+//! leaves in the words of those crates: `kept` is what the handle kept, and `handle.new` what it keeps.
 #![tactic(auto)]
 
 ghost use Rattle.std.specs.Prelude.{◌≡◌, ⊤, length, pos, MatchOption, MatchResult, Some, None, Ok, Err, IfNone, IfSome, IsSomeAnd};

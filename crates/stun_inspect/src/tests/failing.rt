@@ -165,7 +165,7 @@ fn refuses_one(
     Ok(met_none)
 }
 
-/// Each command with each of its allocations refused in turn.
+/// Each command that allocates, but `userhash`, with each of its allocations refused in turn.
 #[test]
 fn each_allocation_refused(rt: HostRuntime) -> Result<(), Fail> {
     let alloc = rt.alloc();

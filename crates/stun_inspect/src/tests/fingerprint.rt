@@ -21,7 +21,7 @@ fn checks_of_crc32(rt: HostRuntime) -> Result<(), Fail> {
     Ok(())
 }
 
-/// A FINGERPRINT that is right is wrong once any byte before it or of it is another.
+/// A FINGERPRINT that is right is wrong once any byte before it or of its value is another.
 #[test]
 fn each_byte_counts(rt: HostRuntime) -> Result<(), Fail> {
     let right =

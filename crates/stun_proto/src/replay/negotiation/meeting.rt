@@ -25,7 +25,8 @@ use stun_base::transaction_id::TransactionId;
 use stun_types::message::Message;
 use stun_types::prelude::*;
 
-/// A request: its id, the moment at which the server reads it, the random words of a nonce, and the server's calls just before.
+/// A request: its id, the moment at which the server reads it, the random words of a nonce, and the server's calls just before the
+/// 401 is read, or before the second request is.
 #[derive(Clone, Copy)]
 pub(crate) struct Turn<'a> {
     pub(crate) id: TransactionId,
@@ -42,8 +43,9 @@ pub(crate) struct Meeting<'a> {
     pub(crate) second: Turn<'a>,
 }
 
-/// The two sides meet: a request, its challenge, the request with credentials and its success, each read by the other side, with the
-/// server's calls before it. The first answer that is no step of this is the outcome.
+/// The two sides meet: a request, its challenge, the request with credentials and its success, each read by the other side. The
+/// server makes its first calls just before the challenge is read, and its second just before the second request is. The first
+/// answer that is no step of this is the outcome.
 pub(crate) fn meet<A: Allocator + Copy>(
     alloc: A,
     client: &mut LongTermClientAuth<A>,

@@ -54,6 +54,13 @@ const char *text_of(const stun_address *address) {
 
 /* ---- Sockets */
 
+/* Says why there is no socket, and closes what there is of it. */
+static int fails(int fd) {
+    perror("socket");
+    if (fd >= 0) close(fd);
+    return -1;
+}
+
 int open_server(unsigned long *port, bool is_shared) {
     const int yes = 1, no = 0;
     struct timeval second = {1, 0};
@@ -65,14 +72,11 @@ int open_server(unsigned long *port, bool is_shared) {
         setsockopt(fd, IPPROTO_IPV6, IPV6_RECVPKTINFO, &yes, sizeof yes);
     } else {
         any.sin6_family = AF_INET;
-        fd = socket(AF_INET, SOCK_DGRAM, 0);
+        if ((fd = socket(AF_INET, SOCK_DGRAM, 0)) < 0) return fails(fd);
     }
     setsockopt(fd, SOL_SOCKET, SO_RCVTIMEO, &second, sizeof second);
     if (is_shared) setsockopt(fd, SOL_SOCKET, SO_REUSEPORT, &yes, sizeof yes);
-    if (fd < 0 || bind(fd, (struct sockaddr *)&any, length) < 0 || getsockname(fd, (struct sockaddr *)&any, &length) < 0) {
-        perror("socket");
-        return -1;
-    }
+    if (bind(fd, (struct sockaddr *)&any, length) < 0 || getsockname(fd, (struct sockaddr *)&any, &length) < 0) return fails(fd);
     *port = ntohs(any.sin6_port);
     return fd;
 }
@@ -90,10 +94,7 @@ int open_client(const char *host, const char *port, struct peer *server, stun_ad
     struct peer any = {.name.ss_family = server->name.ss_family, .name_length = server->name_length};
     int fd = socket(any.name.ss_family, SOCK_DGRAM, 0);
     if (fd < 0 || bind(fd, (struct sockaddr *)&any.name, any.name_length) < 0
-        || getsockname(fd, (struct sockaddr *)&any.name, &any.name_length) < 0) {
-        perror("socket");
-        return -1;
-    }
+        || getsockname(fd, (struct sockaddr *)&any.name, &any.name_length) < 0) return fails(fd);
     *own = address_of(&any);
     return fd;
 }
@@ -106,7 +107,8 @@ bool is_readable(int socket, uint64_t nanoseconds) {
 
 ssize_t receive_from(int socket, uint8_t *bytes, size_t room, struct peer *peer) {
     struct iovec data = {bytes, room};
-    struct msghdr message = {&peer->name, sizeof peer->name, &data, 1, peer->here, sizeof peer->here, 0};
+    struct msghdr message = {.msg_name = &peer->name, .msg_namelen = sizeof peer->name, .msg_iov = &data, .msg_iovlen = 1,
+                             .msg_control = peer->here, .msg_controllen = sizeof peer->here};
     ssize_t length = recvmsg(socket, &message, 0);
     if (length < 0 && errno != EINTR && errno != EAGAIN) perror("recvmsg");
     peer->name_length = message.msg_namelen;
@@ -117,7 +119,8 @@ ssize_t receive_from(int socket, uint8_t *bytes, size_t room, struct peer *peer)
 void send_to(int socket, const uint8_t *bytes, size_t length, const struct peer *peer) {
     struct peer to = *peer;
     struct iovec data = {(uint8_t *)bytes, length};
-    struct msghdr message = {&to.name, to.name_length, &data, 1, to.here, to.here_length, 0};
+    struct msghdr message = {.msg_name = &to.name, .msg_namelen = to.name_length, .msg_iov = &data, .msg_iovlen = 1,
+                             .msg_control = to.here, .msg_controllen = to.here_length};
     sendmsg(socket, &message, 0);
 }
 
@@ -146,7 +149,8 @@ static int serve_alone(unsigned long port, void (*serve)(int socket)) {
 }
 
 int serve_in_processes(unsigned long processes, unsigned long port, void (*serve)(int socket)) {
-    pid_t workers[MOST_PROCESSES];
+    pid_t workers[MOST_PROCESSES], parent = getpid(), reaped;
+    siginfo_t ended = {0};
     int status = 0, one;
     if (processes == 1) return serve_alone(port, serve);
     for (unsigned long i = 0; i < processes; i++) {
@@ -154,6 +158,7 @@ int serve_in_processes(unsigned long processes, unsigned long port, void (*serve
         if (fd < 0) return 1;
         if ((workers[i] = fork()) == 0) {
             prctl(PR_SET_PDEATHSIG, SIGTERM);
+            if (getppid() != parent) exit(1);
             serve(fd);
             exit(0);
         }
@@ -161,9 +166,13 @@ int serve_in_processes(unsigned long processes, unsigned long port, void (*serve
         if (workers[i] < 0) return 1;
     }
     printf("port %lu\n", port);
-    while (!is_ending && waitpid(-1, &one, WNOHANG) == 0) usleep(100000);
+    /* A worker that ended is not waited for here, so that its number is nobody else's when the others are told. */
+    while (!is_ending && ended.si_pid == 0) {
+        usleep(100000);
+        waitid(P_ALL, 0, &ended, WEXITED | WNOHANG | WNOWAIT);
+    }
     for (unsigned long i = 0; i < processes; i++) kill(workers[i], SIGTERM);
-    while (waitpid(-1, &one, 0) > 0) status |= one;
+    while ((reaped = waitpid(-1, &one, 0)) > 0 || errno == EINTR) status |= reaped > 0 ? one : 0;
     return status != 0 || !is_ending;
 }
 

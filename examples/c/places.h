@@ -4,7 +4,7 @@
 
 #include "stun_state.h"
 
-/* Places are in groups, and a hash of an address, which nobody can foresee, finds its group. */
+/* Places are in groups, and a hash of an address, with a secret of each process, finds its group. */
 enum { PLACES_IN_GROUP = 16 };
 
 /* Makes room for so many addresses, a multiple of PLACES_IN_GROUP. False without memory. */

@@ -71,7 +71,7 @@ def lay_out():
     hosts = {**{f"s{one}": one for one in SERVERS}, **{router: 100 + number for router, number in ROUTERS.items()}}
     ip(None, *(f"netns add {name}" for name in ("lan", *hosts)), "link set lo up",
        *(f"address add {source} dev lo" for source in FIRST + LATER))
-    put(None, conf__default__accept_dad=0)
+    put(None, conf__all__rp_filter=0, conf__default__rp_filter=0, conf__default__accept_dad=0)
     ip("lan", "link add lan type bridge", "link set lan up")
     for name, host in hosts.items():
         put(name, conf__all__rp_filter=0, conf__default__rp_filter=0, conf__default__accept_dad=0)
@@ -242,8 +242,9 @@ def moves_in_mid_meeting(servers, old):
         first.process.send_signal(signal.SIGCONT)
     out, err = client.communicate(timeout=30)
     assert client.returncode == 0 and is_at(out, new), (out, err)
-    until(lambda: any(line.endswith(" 200 SHA1") for line in second.lines[seen:]), "no success was printed")
-    codes = [line.split()[1] for line in second.lines[seen:] if is_at(line, new)]
+    lines = lambda: [line for line in second.lines[seen:] if is_at(line, new)]
+    until(lambda: any(line.endswith(" 200 SHA1") for line in lines()), "no success was printed")
+    codes = [line.split()[1] for line in lines()]
     assert codes[0] in ("401", "438") and codes[-1] == "200", codes
 
 

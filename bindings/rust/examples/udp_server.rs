@@ -12,7 +12,8 @@ use std::error::Error;
 use std::fs::File;
 use std::io::{self, Read};
 use std::net::{SocketAddr, UdpSocket};
-use std::process::ExitCode;
+use std::panic;
+use std::process::{self, ExitCode};
 use std::sync::mpsc;
 use std::thread;
 use std::time::{Duration, Instant as Clock};
@@ -183,6 +184,11 @@ fn run(settings: &Settings) -> Result<(), Box<dyn Error>> {
         sockets.push(socket);
     }
     println!("port {port}");
+    // A worker that panics ends the program, and does not leave its part of the addresses without an answer.
+    panic::set_hook(Box::new(|why| {
+        eprintln!("udp_server: {why}");
+        process::exit(1);
+    }));
     let (failed, first) = mpsc::channel();
     for socket in sockets {
         let (settings, failed) = (settings.clone(), failed.clone());

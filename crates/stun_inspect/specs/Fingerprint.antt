@@ -7,7 +7,7 @@ use Rattle.stun_inspect.specs.declared.fingerprint.Fingerprint.TheVariants.{Righ
 use Rattle.stun_inspect.specs.declared.telling.Told.{Told}
 use Rattle.stun_inspect.specs.Crc32.{crc32}
 
--- the number that is added to the CRC-32 of a message
+-- the number with which the CRC-32 of a message is XORed
 abbrev pub FINGERPRINT_XOR : ℕ
 FINGERPRINT_XOR = 0x5354554E
 

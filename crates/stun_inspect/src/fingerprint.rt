@@ -7,7 +7,7 @@ use crate::telling::Told;
 use byteorder::{BigEndian, ByteOrder};
 use stun_types::attribute::AttributeType;
 
-/// The number that is added to the CRC-32 of a message.
+/// The number with which the CRC-32 of a message is XORed.
 const FINGERPRINT_XOR: u32 = 0x5354_554E;
 
 /// The bytes of a FINGERPRINT with its type and its length.

@@ -92,7 +92,7 @@ pub fn best_is_strongest()
 
 /// Two messages with the same bytes up to the end of the integrity attribute that decides in both, but for the length in the
 /// header, get the same reply and leave the same server, with the same place of their address; and so does each run in which one
-/// of them is in the place of the other. So nobody changes what a server makes of a request by appending to it, unless a
+/// of them is in the place of the other. So nobody changes what a server makes of a signed request by appending to it, unless a
 /// MESSAGE-INTEGRITY-SHA256 is put behind a MESSAGE-INTEGRITY: then its digest decides (RFC 8489, sections 14.5 to 14.7).
 pub fn appending_changes_no_reply()
     ensures agreeing { AgreeingAreAnsweredAlike }

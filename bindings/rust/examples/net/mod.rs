@@ -24,12 +24,16 @@ pub fn add_fingerprint(message: &mut Vec<u8>) {
 /// A socket on a port for IPv6 and IPv4, or for IPv4 where there is no IPv6. More of them may share the port: the kernel gives
 /// an address's datagrams to one of them, as long as none comes or goes.
 pub fn bind_shared(port: u16) -> io::Result<UdpSocket> {
-    bind_family(AF_INET6, port).or_else(|_| bind_family(AF_INET, port))
+    match bind_family(AF_INET6, port) {
+        Err(why) if why.raw_os_error() == Some(EAFNOSUPPORT) => bind_family(AF_INET, port),
+        bound => bound,
+    }
 }
 
 // std binds a socket as it makes it, but SO_REUSEPORT must be set before. The numbers are those of Linux on x86-64.
 const AF_INET: u16 = 2;
 const AF_INET6: u16 = 10;
+const EAFNOSUPPORT: i32 = 97;
 const SOCK_DGRAM: c_int = 2;
 const SOL_SOCKET: c_int = 1;
 const SO_REUSEPORT: c_int = 15;

@@ -96,7 +96,8 @@ impl<A: Allocator + Copy> LongTermServerAuth<A> {
 
     /// Signs a message of which the caller knows that nothing but want of memory refuses it: it has no integrity attribute,
     /// no FINGERPRINT and none that signing adds, the realm is within its limit of 763 bytes, writer and length field have room
-    /// for what is added, and the client's user and key are still there. The message is the one that `sign_outgoing_message` gives.
+    /// for what is added, and the client's user and key are still there. The message is the one that `sign_outgoing_message`
+    /// gives.
     pub fn sign_outgoing_message_unchecked<W: MessageWrite>(
         &mut self,
         writer: W,

@@ -25,8 +25,8 @@ use stun_base::transaction_id::TransactionId;
 use stun_types::message::Message;
 use stun_types::prelude::*;
 
-/// A request: its id, the moment at which the server reads it, the random words of a nonce, and the server's calls just before the
-/// 401 is read, or before the second request is.
+/// A request: its id, the moment at which the server reads it, the random words of a nonce, and the server's calls just before
+/// the 401 is read, or before the second request is.
 #[derive(Clone, Copy)]
 pub(crate) struct Turn<'a> {
     pub(crate) id: TransactionId,

@@ -1,11 +1,12 @@
-//! What the errors of runs say, and a signing that a server refuses in a run.
+//! What the errors of runs and of authenticators say, and a signing that a server refuses in a run.
 use std::test::Fail;
 use stun_auth::auth::{LongTermClientAuth, LongTermServerAuth};
 use stun_proto::replay::{NegotiateError, ServerCall, ServerReply, Stopped, negotiate, serve};
 use stun_types::attribute::AttributeType;
-use stun_types::message::{StunWriteError, TransactionId};
+use stun_types::message::{Message, StunWriteError, TransactionId};
 use test_support::datagrams::{address, at};
 use test_support::spelled::bytes_of;
+use test_support::words::Words;
 
 /// A Binding request with id 1.
 const REQUEST: &str = "000100002112a442000000000000000000000001";
@@ -24,6 +25,41 @@ fn of_errors(rt: HostRuntime) -> Result<(), Fail> {
     );
     let memory = NegotiateError::Memory;
     assert_eq!(rt; format!(in alloc; "{memory}")?.as_str(), "out of memory");
+    Ok(())
+}
+
+/// A server refuses a request without integrity, and says why.
+#[test]
+fn of_a_refusal_of_a_server(rt: HostRuntime) -> Result<(), Fail> {
+    let alloc = rt.alloc();
+    let mut server = LongTermServerAuth::new(alloc, String::from_str(alloc, "realm")?);
+    let bytes = bytes_of(alloc, REQUEST)?;
+    let message = Message::from_bytes(bytes.as_slice())?;
+    let mut words = Words::new([0; 16]);
+    match server.validate_incoming_message(&message, address(1, 5000), at(0), &mut words) {
+        Ok(_) => assert!(rt; false),
+        Err(error) => assert_eq!(rt;
+            format!(in alloc; "{error}")?.as_str(),
+            "The message is not sufficiently authenticated"
+        ),
+    }
+    Ok(())
+}
+
+/// A client cannot check a request without integrity, and says so.
+#[test]
+fn of_a_refusal_of_a_client(rt: HostRuntime) -> Result<(), Fail> {
+    let alloc = rt.alloc();
+    let mut client = LongTermClientAuth::new(alloc);
+    let bytes = bytes_of(alloc, REQUEST)?;
+    let message = Message::from_bytes(bytes.as_slice())?;
+    match client.validate_incoming_message(&message) {
+        Ok(_) => assert!(rt; false),
+        Err(error) => assert_eq!(rt;
+            format!(in alloc; "{error}")?.as_str(),
+            "The message failed integrity checks"
+        ),
+    }
     Ok(())
 }
 

@@ -9,6 +9,7 @@ pub mod DrawnWords
 pub mod DriveLemmas
 pub mod Driven
 pub mod Existence
+pub mod GoingOn
 pub mod Hashes
 pub mod Heard
 pub mod IsolationLemmas

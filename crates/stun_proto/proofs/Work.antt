@@ -136,7 +136,7 @@ work-ended now a e f =
     subst (λ n. n < work a.transport a.transactions) (sym same) (work-without a.transport (λ e. is_over a.transport now e.1) a.transactions e f)
 
 -- ---- rest
-later_one : (c b l : Bool) → (not c && (b && l)) ≡ false → (c || (not b && l)) ≡ false → l ≡ false
+pub later_one : (c b l : Bool) → (not c && (b && l)) ≡ false → (c || (not b && l)) ≡ false → l ≡ false
 later_one true b l d o = cc
 later_one false true l d o = d
 later_one false false l d o = o

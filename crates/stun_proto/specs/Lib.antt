@@ -42,7 +42,7 @@ pub mod Examples
 pub mod RunLaws
 -- what the steps of a run add to the counters of its agent
 pub mod Counters
--- a run that stops because an allocation failed
+-- a run that stops because an allocation failed, and how it goes on
 pub mod Stopped
 -- a call of a server as a value: what its equality compares, and what is shown of it
 pub mod CallValues

@@ -25,6 +25,7 @@ ghost use Rattle.stun_proto.specs.Schedule.{AreInOrder, plan};
 ghost use Rattle.stun_proto.specs.Serving.{reply_of};
 ghost use Rattle.stun_proto.specs.Shards.{ShardsServeAsOne};
 ghost use Rattle.stun_proto.specs.Steps.{Step, step_of};
+ghost use Rattle.stun_proto.specs.Stopped.{StoppedRunsEnd, StoppedRunsGoOn, StoppedRunsHaveTheRest, StoppedRunsStopAgain};
 ghost use Rattle.stun_proto.specs.declared.replay.event.AgentEvent.{AgentEvent as TheEvent};
 
 use crate::replay::{
@@ -42,6 +43,16 @@ pub fn runs_are_determined()
 /// Each list of events whose moments do not go back has a run.
 pub fn events_have_runs()
     ensures { EventsHaveRuns }
+{}
+
+/// A run that stopped because an allocation failed goes on where the agent, as it was left, is driven over the events that are
+/// left. This makes exactly the later steps of the whole run and comes to its agent, so each transmission of it is made once. It
+/// may stop again, any number of times. Where no event is left, the agent is already the one that the whole run comes to.
+pub fn stopped_runs_go_on()
+    ensures left { StoppedRunsGoOn }
+    ensures parts { StoppedRunsHaveTheRest }
+    ensures again { StoppedRunsStopAgain }
+    ensures complete { StoppedRunsEnd }
 {}
 
 /// The steps of a run and the counters of its agent tell the same: of requests that timed out or were cancelled, of

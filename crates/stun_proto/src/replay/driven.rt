@@ -34,8 +34,8 @@ use stun_base::instant::Instant;
 ///
 /// Where an allocation fails the answer is `Stopped`, and the steps are lost. The agent is then exactly the one after
 /// the first `done` events, with the turns at their moments and before the next one (where none is left, up to
-/// `until`). Event `done` has not come. So, where `until` is below `Instant::MAX`, `drive` with the events from
-/// `done` on makes the rest of the run: no event comes twice, and none is left out.
+/// `until`). Event `done` has not come. So `drive` with this agent and the events from `done` on makes the rest of the
+/// run: no event comes twice, and none is left out (law `stopped_runs_go_on`).
 pub fn drive<A: Allocator + Copy>(
     alloc: A,
     agent: &mut StunAgent<A>,

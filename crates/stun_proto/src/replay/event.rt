@@ -113,6 +113,7 @@ pub enum AgentStep<A: Allocator = Global> {
 #[derive(Clone, Copy, PartialEq, Eq, Debug, Error)]
 #[error("out of memory, {done} of them complete")]
 pub struct Stopped {
-    /// How many of the events or calls are complete. Whoever goes on begins at this index.
+    /// How many of the events or calls are complete. Whoever goes on begins at this index. The law
+    /// `stopped_runs_go_on` says that of events this makes the rest of the run.
     pub done: usize,
 }

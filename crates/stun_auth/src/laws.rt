@@ -192,7 +192,7 @@ pub fn nonces_ask_for_what_is_supported()
 {}
 
 /// Both sides sign what can be signed: nothing but want of memory refuses it.
-pub fn sides_sign_what_they_may()
+pub fn sides_sign_what_is_signable()
     ensures client { (request : Bool) (state : ClientState) (message : List ℕ) (room : ℕ)
         → IsSignable (added_by_client request state) message room
         → IsOk (added_all (client_additions request state)

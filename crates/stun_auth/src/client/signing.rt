@@ -14,7 +14,7 @@ ghost use Rattle.stun_auth.specs.Signed.{ClientMaySign};
 use crate::addition::{AddedAttribute, add, add_integrity, attribute_bytes, integrity_bytes};
 use crate::challenge::{KeptChallenge, UserNaming};
 use crate::client::{LongTermClientAuth, State};
-use crate::laws::sides_sign_what_they_may;
+use crate::laws::sides_sign_what_is_signable;
 use std::alloc::{AllocError, Allocator};
 use std::convert::AsSlice;
 use stun_types::message::{IntegrityAlgorithm, MessageClass, StunWriteError};
@@ -197,7 +197,7 @@ impl<A: Allocator> LongTermClientAuth<A> {
             → IsOk result }
         ensures stays { self.new ≡ self.old }
     {
-        sides_sign_what_they_may();
+        sides_sign_what_is_signable();
         self.keeps_short_texts();
         self.signed(writer)
     }

@@ -16,7 +16,7 @@ ghost use Rattle.stun_auth.specs.Validation.{sight};
 
 use crate::addition::{AddedAttribute, add, add_integrity, attribute_bytes, integrity_bytes};
 use crate::algorithm_set::AlgorithmSet;
-use crate::laws::sides_sign_what_they_may;
+use crate::laws::sides_sign_what_is_signable;
 use crate::places::{Client, Place};
 use crate::server::LongTermServerAuth;
 use std::alloc::{AllocError, Allocator};
@@ -83,7 +83,7 @@ impl<A: Allocator + Copy> LongTermServerAuth<A> {
             (class_of (type_field (W.bytes writer))))) }
         ensures refused { OnErr result (self.new ≡ self.old) }
     {
-        sides_sign_what_they_may();
+        sides_sign_what_is_signable();
         let mut writer = writer;
         let is_response = is_response(&writer);
         self.add_signature(&mut writer, to, is_response)?;

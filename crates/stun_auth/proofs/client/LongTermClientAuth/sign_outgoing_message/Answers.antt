@@ -11,5 +11,5 @@ returns-clause-grows g c = grown_answer g.W.MessageWrite.bytes g.W.MessageWrite.
 pub returns-clause-succeeds : goal.returns-clause-succeeds
 returns-clause-succeeds g c = λ may enough.
     succeeds_reserved (written g.W.MessageWrite.bytes g.W.MessageWrite.room) (λ reason. refl) _ (g.W.MessageWrite.reserved c.args.writer) _ _ (wants_short _ _ (g.W.MessageWrite.reserved c.args.writer)) c.signed.result c.signed.ensures
-    (c.sides_sign_what_they_may.ensures.client _ c.args.self.now.state (g.W.MessageWrite.bytes c.args.writer) (g.W.MessageWrite.room c.args.writer)
+    (c.sides_sign_what_is_signable.ensures.client _ c.args.self.now.state (g.W.MessageWrite.bytes c.args.writer) (g.W.MessageWrite.room c.args.writer)
     (client_signable _ c.args.self.now.state (g.W.MessageWrite.bytes c.args.writer) (g.W.MessageWrite.room c.args.writer) c.keeps_short_texts.ensures may)) enough

@@ -18,7 +18,7 @@ returns-in_err-add_signature-clause-succeeds g c = λ may enough.
     let page : Page = page_in bytes room c.args.writer in
     let signed : IsOk (server_signed s c.is_response-is_response.result page) =
     subst (λ (response : Bool). IsOk (server_signed s response page)) (sym c.is_response-is_response.ensures)
-    (c.sides_sign_what_they_may.ensures.server s _ (bytes c.args.writer) (room c.args.writer)
+    (c.sides_sign_what_is_signable.ensures.server s _ (bytes c.args.writer) (room c.args.writer)
     (server_signable s _ (bytes c.args.writer) (room c.args.writer) c.add_signature.ensures.short may)) in
     let reserved : server_growth s c.is_response-is_response.result ≤ g.W.MessageWrite.reserved c.args.writer =
     subst (λ (response : Bool). server_growth s response ≤ g.W.MessageWrite.reserved c.args.writer) (sym c.is_response-is_response.ensures) enough in

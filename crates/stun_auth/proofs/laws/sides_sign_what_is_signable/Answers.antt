@@ -3,7 +3,7 @@ use Rattle.std.specs.Option.{IsSomeAnd}
 use Rattle.std.specs.Result.{is_ok}
 use Rattle.stun_auth.specs.Additions.{Page, added_all}
 use Rattle.stun_auth.specs.Signed.{IsSignable, added_by_client, added_by_server}
-use Rattle.stun_auth.proofs.laws.sides_sign_what_they_may.Goals as goal
+use Rattle.stun_auth.proofs.laws.sides_sign_what_is_signable.Goals as goal
 
 -- what holds of what is there
 of_some : {A X : Type 0} (o : Option A) (P : A → Type 0) → IsSomeAnd o P → ((a : A) → o ≡ Some a → P a → X) → X

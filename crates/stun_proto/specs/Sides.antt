@@ -23,25 +23,29 @@ pub record Sides : Type 0 where
 abbrev pub sides : ClientState → ServerSeen → Sides
 sides client server = record { client = client; server = server }
 
+-- the run ends: no step follows
+abbrev pub the_end : List Sides
+the_end = []
+
 -- after a signing that is not refused
 abbrev pub if_signed : Result Page StunWriteError → (Page → List Sides) → List Sides
 if_signed (Ok page) next = next page
-if_signed (Err reason) next = []
+if_signed (Err reason) next = the_end
 
 -- after a first request that is to be challenged
 abbrev pub if_unauthorized : Answer → List Sides → List Sides
 if_unauthorized (Err Unauthorized) next = next
-if_unauthorized _ next = []
+if_unauthorized _ next = the_end
 
 -- after a challenge that is taken up
 abbrev pub if_resent : ClientAnswer → List Sides → List Sides
 if_resent (Ok (ResendRequest a)) next = next
-if_resent _ next = []
+if_resent _ next = the_end
 
 -- after a second request that is accepted
 abbrev pub if_accepted : Answer → List Sides → List Sides
 if_accepted (Ok a) next = next
-if_accepted (Err reason) next = []
+if_accepted (Err reason) next = the_end
 
 -- after each call of a list, and then after all of them
 abbrev pub sides_after_calls : ClientState → ServerSeen → List ServerCall → (ServerSeen → List Sides) → List Sides
@@ -52,7 +56,7 @@ sides_after_calls state server (call ∷ calls) next =
 -- the success is signed; the client that reads it ends the run, and wants no memory unless it takes it for a challenge
 abbrev pub sides_after_success : Meeting → ClientState → ServerSeen → List Sides
 sides_after_success m state server = if_signed (responded (success m.second.id) (sight server m.from)) (λ page.
-    if_resent (client_step m.settings state (reading_of page.bytes)).answer (sides state (after_signing server m.from true) ∷ []))
+    if_resent (client_step m.settings state (reading_of page.bytes)).answer (sides state (after_signing server m.from true) ∷ the_end))
 
 -- the second list of calls is made, and the second request is read by the server and accepted
 abbrev pub sides_after_second : Meeting → ClientState → ServerSeen → List Sides

@@ -136,6 +136,20 @@ fn an_old_nonce_is_given_back(rt: HostRuntime) -> Result<(), Fail> {
     Ok(())
 }
 
+/// A new client and its settings ask for no memory.
+#[test]
+fn a_new_client_takes_no_memory(rt: HostRuntime) -> Result<(), Fail> {
+    let heap = RefusingAllocator::new(rt.alloc());
+    heap.refuse(1);
+    let mut client = LongTermClientAuth::new(&heap);
+    client.set_anonymous_username(Feature::Required);
+    client.set_supported_integrity(IntegrityAlgorithm::Sha256);
+    client.add_supported_integrity(IntegrityAlgorithm::Sha1);
+    assert!(rt; heap.is_waiting());
+    assert_eq!(rt; heap.allocations(), 0);
+    Ok(())
+}
+
 /// Signs a request while the nth allocation is refused: its length or the refusal, and whether none was refused.
 fn signed_short<'a>(
     heap: &'a Heap,

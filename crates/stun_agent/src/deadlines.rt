@@ -1,5 +1,6 @@
 //! What outstanding requests await, in the order of the moments.
-ghost use Rattle.std.specs.Prelude.{◌≡◌, [], ◌+◌, ◌<◌, ◌≤◌, length, slice_get, Some, OnOk, OnErr};
+ghost use Rattle.std.specs.Prelude.{◌≡◌, [], ◌+◌, ◌<◌, ◌≤◌, codes, length, slice_get, Some, OnOk, OnErr};
+ghost use Rattle.std.specs.Fmt.{WritesOnOk};
 ghost use Rattle.std.specs.List.Sorted.{IsNonDecreasingBy};
 ghost use Rattle.stun_agent.specs.Deadlines.{IsUnused};
 ghost use Rattle.stun_agent.specs.code.Deadlines.{earliest, has_come, early, is_slot, least_due, least_ended, without_entry, is_before, is_cancellation, first_awaited, IsInOrder, HasEntry, IsPlace, IsPlaced, IsReplaced};
@@ -7,6 +8,7 @@ ghost use Rattle.stun_agent.specs.code.Deadlines.{earliest, has_come, early, is_
 use crate::{ending, retransmission};
 use std::alloc::{AllocError, Allocator, Global};
 use std::collections::VecDeque;
+use std::fmt;
 use std::marker::{Brand, Model};
 use std::sync::ledger::{Blank, Book, Ledger, Share};
 use stun_base::instant::Instant;
@@ -216,6 +218,16 @@ impl<L: Ledger> Model for Reads<L> {
     ghost view = { λ s. s.book.total };
 
     ghost invariant = { λ s. 0 < s.share.parts };
+}
+
+impl<L: Ledger> fmt::Debug for Reads<L> {
+    ghost debug_output = { λ _. Some (codes "Reads") };
+
+    fn fmt<W: fmt::Write>(&self, f: &mut fmt::Formatter<W>) -> fmt::Result
+        ensures { WritesOnOk W.write_str_gives f.old result (codes "Reads") f.new }
+    {
+        f.write_str("Reads")
+    }
 }
 
 impl<L: Ledger> Reads<L> {

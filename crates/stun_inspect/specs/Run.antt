@@ -38,9 +38,9 @@ Answers Decode given result before after =
 Answers (Verify who) given result before after =
     who.password.now ≢ codes "-" → IfSome given (λ input. IfOk result (λ status. is_raw input ≡ true
     → PrintsVerdict (verdict_of input (keys_for who.user who.password.now)) status before after))
-Answers (Key algorithm who) given result before after =
-    who.password.now ≢ codes "-" → IfOk result (λ status. IfSome who.user (λ user.
-    PrintsDigits (long_term_key algorithm user.name.now user.realm.now who.password.now) status before after))
+Answers (Key algorithm user password) given result before after =
+    password.now ≢ codes "-" → IfOk result (λ status.
+    PrintsDigits (long_term_key algorithm user.name.now user.realm.now password.now) status before after)
 Answers (Userhash user) given result before after =
     IfOk result (λ status. PrintsDigits (userhash user.name.now user.realm.now) status before after)
 Answers (Nonce nonce) given result before after = IfOk result (λ status. status ≡ Good)

@@ -56,7 +56,9 @@ pub fn run_command<R: Read, W: Write, A: Allocator + Copy>(
         Command::Version => print(writer, VERSION.as_bytes()),
         Command::Decode => decode_input(alloc, reader, writer),
         Command::Verify(who) => verify_input(alloc, who, reader, writer),
-        Command::Key(algorithm, who) => print_key(alloc, algorithm, who, reader, writer),
+        Command::Key(algorithm, user, password) => {
+            print_key(alloc, algorithm, user, password, reader, writer)
+        }
         Command::Userhash(user) => {
             print_digits(alloc, &Userhash::compute(user.name, user.realm), writer)
         }
@@ -128,28 +130,24 @@ fn verify_input<R: Read, W: Write, A: Allocator + Copy>(
 fn print_key<R: Read, W: Write, A: Allocator + Copy>(
     alloc: A,
     algorithm: IntegrityAlgorithm,
-    who: Who<'_>,
+    user: User<'_>,
+    password: &str,
     reader: &mut R,
     writer: &mut W,
 ) -> Result<Status, Failure>
-    ensures { who.entry.password.now ≢ codes "-" → IfOk result (λ status. IfSome who.entry.user (λ user.
-        PrintsDigits (long_term_key algorithm user.name.now user.realm.now who.entry.password.now)
-        status (W.contents writer.old) (W.contents writer.new))) }
+    ensures { password.now ≢ codes "-" → IfOk result (λ status.
+        PrintsDigits (long_term_key algorithm user.entry.name.now user.entry.realm.now password.now)
+        status (W.contents writer.old) (W.contents writer.new)) }
 {
-    let input = if who.password == "-" {
+    let input = if password == "-" {
         read_to_end(alloc, reader)?
     } else {
         Vec::new(alloc)
     };
-    let found = password_of(who.password, input.as_slice())?;
+    let found = password_of(password, input.as_slice())?;
     let (password, _) = found;
-    match who.user {
-        Some(user) => {
-            let key = long_term_key(alloc, algorithm, user.name, user.realm, password);
-            print_digits(alloc, key.as_bytes(), writer)
-        }
-        None => print_digits(alloc, password.as_bytes(), writer),
-    }
+    let key = long_term_key(alloc, algorithm, user.name, user.realm, password);
+    print_digits(alloc, key.as_bytes(), writer)
 }
 
 /// Prints each attribute of the message, or why the bytes are none.

@@ -2,20 +2,21 @@
 
 use stun_types::message::IntegrityAlgorithm;
 
-/// A command with its words.
-#[derive(Clone, Copy, Debug, PartialEq, Eq)]
+/// A command with its words. It has no `Debug`, since a password may be among them.
+#[derive(Clone, Copy, PartialEq, Eq)]
 pub enum Command<'a> {
     Help,
     Version,
     Decode,
     Verify(Who<'a>),
-    Key(IntegrityAlgorithm, Who<'a>),
+    /// The long-term key of a user under the password, which may be `-` as in `Who`.
+    Key(IntegrityAlgorithm, User<'a>, &'a str),
     Userhash(User<'a>),
     Nonce(&'a str),
 }
 
 /// Whose credentials are meant. The password `-` is the first line of standard input.
-#[derive(Clone, Copy, Debug, PartialEq, Eq)]
+#[derive(Clone, Copy, PartialEq, Eq)]
 pub struct Who<'a> {
     /// The name and the realm of a user, where the credential is a long-term one (RFC 8489, section
     /// 9.2).
@@ -54,7 +55,10 @@ fn verify_of(words: &[String]) -> Option<Command<'_>> {
             user: None,
             password: password.as_str(),
         })),
-        [name, realm, password] => Some(Command::Verify(user_with(name, realm, password))),
+        [name, realm, password] => Some(Command::Verify(Who {
+            user: Some(user_of(name, realm)),
+            password: password.as_str(),
+        })),
         _ => None,
     }
 }
@@ -68,25 +72,19 @@ fn key_of(words: &[String]) -> Option<Command<'_>> {
         "sha256" => IntegrityAlgorithm::Sha256,
         _ => return None,
     };
-    Some(Command::Key(algorithm, user_with(name, realm, password)))
+    Some(Command::Key(algorithm, user_of(name, realm), password.as_str()))
 }
 
 fn userhash_of(words: &[String]) -> Option<Command<'_>> {
     let [name, realm] = words else {
         return None;
     };
-    Some(Command::Userhash(User {
-        name: name.as_str(),
-        realm: realm.as_str(),
-    }))
+    Some(Command::Userhash(user_of(name, realm)))
 }
 
-fn user_with<'a>(name: &'a String, realm: &'a String, password: &'a String) -> Who<'a> {
-    Who {
-        user: Some(User {
-            name: name.as_str(),
-            realm: realm.as_str(),
-        }),
-        password: password.as_str(),
+fn user_of<'a>(name: &'a String, realm: &'a String) -> User<'a> {
+    User {
+        name: name.as_str(),
+        realm: realm.as_str(),
     }
 }

@@ -32,10 +32,14 @@ ghost use Rattle.stun_auth.specs.ShortTerm.{Secret, short_term_answer};
 ghost use Rattle.stun_auth.specs.Signed.{Added, ClientMaySign, HasRoomFor, IsBuilt, IsSignable, IsSmall, IsText, IsUnsigned, IsWithinLimits, IsWritable, ReadsAs, ServerMaySign, added_by_client, added_by_server, additions_of, error_attribute};
 ghost use Rattle.stun_auth.specs.Validation.{ChangesNothing, ServerSeen, ValidatesAccepted, after_message, answer, needs_nonce, sight, verdict_at};
 
-use crate::client_answer::{LongTermClientAuthErrorReason, LongTermClientValidation};
+use crate::client_answer::{
+    LongTermClientAuthError, LongTermClientAuthErrorReason, LongTermClientValidation,
+};
 use crate::feature::Feature;
 use crate::nonce::NonceSecurityBits;
-use crate::server_reason::{LongTermServerAuthErrorReason, LongTermServerValidation};
+use crate::server_reason::{
+    LongTermServerAuthError, LongTermServerAuthErrorReason, LongTermServerValidation,
+};
 use std::alloc::AllocError;
 
 /// What was added is what is read: after successful additions to an open message, its own attributes count as before and
@@ -326,6 +330,16 @@ pub fn copied_answers(
     ))
 }
 
+/// Copies of refusals have the same reason.
+pub fn copied_refusals(
+    server: &LongTermServerAuthError,
+    client: &LongTermClientAuthError,
+) -> Result<(LongTermServerAuthError, LongTermClientAuthError), AllocError>
+    ensures { result ≡ Ok (server.now, client.now) }
+{
+    Ok((server.clone()?, client.clone()?))
+}
+
 /// Features are equal as values.
 pub fn is_same_feature(one: Feature, other: Feature) -> bool
     ensures { IsTrue result ↔ (one ≡ other) }
@@ -375,6 +389,20 @@ pub fn is_same_client_reason(
     one: LongTermClientAuthErrorReason,
     other: LongTermClientAuthErrorReason,
 ) -> bool
+    ensures { IsTrue result ↔ (one ≡ other) }
+{
+    one == other
+}
+
+/// A server's refusals are equal where their reasons are.
+pub fn is_same_server_refusal(one: LongTermServerAuthError, other: LongTermServerAuthError) -> bool
+    ensures { IsTrue result ↔ (one ≡ other) }
+{
+    one == other
+}
+
+/// A client's refusals are equal where their reasons are.
+pub fn is_same_client_refusal(one: LongTermClientAuthError, other: LongTermClientAuthError) -> bool
     ensures { IsTrue result ↔ (one ≡ other) }
 {
     one == other

@@ -1,5 +1,5 @@
 //! Laws of runs: what holds of the definitions alone, and what equalities are.
-ghost use Rattle.std.specs.Prelude.{◌≡◌, ◌≤◌, ◌↔◌, IsTrue, List, [], ℕ};
+ghost use Rattle.std.specs.Prelude.{◌≡◌, ◌≤◌, ◌↔◌, IsTrue, List, [], Ok, ℕ};
 ghost use Rattle.std.specs.declared.net.socket_addr.SocketAddr.{SocketAddr as Address};
 ghost use Rattle.stun_base.specs.Moments.{last_moment};
 ghost use Rattle.stun_base.specs.declared.transport.TransportType.{TransportType as Transport};
@@ -31,7 +31,7 @@ ghost use Rattle.stun_proto.specs.declared.replay.event.AgentEvent.{AgentEvent a
 use crate::replay::{
     AgentEvent, AgentStep, NegotiateError, Outcome, ServerCall, ServerReply, Stopped, WordSource,
 };
-use std::alloc::Allocator;
+use std::alloc::{AllocError, Allocator};
 use stun_auth::laws as auth_laws;
 
 /// Events have one run at most: its steps and the agent after it are determined, up to every moment, and from every moment on.
@@ -202,6 +202,17 @@ pub fn is_same_stop(one: Stopped, other: Stopped) -> bool
     ensures { IsTrue result ↔ (one ≡ other) }
 {
     one == other
+}
+
+/// Copies of outcomes, of errors and of places where memory ended are the same values.
+pub fn copied_outcomes(
+    outcome: &Outcome,
+    error: &NegotiateError,
+    stopped: &Stopped,
+) -> Result<(Outcome, NegotiateError, Stopped), AllocError>
+    ensures { result ≡ Ok (outcome.now, error.now, stopped.now) }
+{
+    Ok((outcome.clone()?, error.clone()?, stopped.clone()?))
 }
 
 /// Sources are equal where the same words are left.

@@ -5,29 +5,35 @@
  * A server that tells each client its address, and refuses what it does not understand, reads and writes like this, with
  * `from` of 4 or 16 bytes and a port in the processor's own order:
  *
+ *     #include "stun.h"
+ *     #include <stdio.h>
+ *
  *     size_t answer(const uint8_t *request, size_t length, const uint8_t *from, size_t from_length, uint16_t port,
  *                   uint8_t *out, size_t room) {
- *         uint8_t id[STUN_ID_LENGTH];
+ *         uint8_t id[STUN_ID_LENGTH], unknown[2 * 64];
  *         if (stun_class(request, length) != STUN_REQUEST) return 0;
  *         int64_t method = stun_method(request, length);
  *         if (method != STUN_BINDING || stun_id(request, length, id, sizeof id) < 0) return 0;
- *         bool understood = true;
  *         uint16_t type;
- *         size_t value_length;
+ *         size_t value_length, unknown_length = 0;
  *         int seen = 0;
  *         for (int64_t at = 0; (at = stun_next(request, length, (size_t)at, &type, &value_length)) > 0;) {
  *             if (++seen > 64) return 0;                                          // no honest request has as many
- *             if (type < 0x8000 && type != STUN_USERNAME && type != STUN_MESSAGE_INTEGRITY
- *                 && type != STUN_MESSAGE_INTEGRITY_SHA256) understood = false;   // the value: request + at + 4
+ *             if (type >= 0x8000 || type == STUN_USERNAME || type == STUN_MESSAGE_INTEGRITY
+ *                 || type == STUN_MESSAGE_INTEGRITY_SHA256) continue;             // the value: request + at + 4
+ *             unknown[unknown_length++] = (uint8_t)(type >> 8);
+ *             unknown[unknown_length++] = (uint8_t)type;
  *         }
  *         int64_t written;
- *         if (understood) {
+ *         if (unknown_length == 0) {
  *             written = stun_begin(STUN_SUCCESS, STUN_BINDING, id, sizeof id, out, room);
  *             if (written > 0) written = stun_add_xor_mapped_address(out, room, (size_t)written, from, from_length, port);
  *         } else {
  *             written = stun_begin(STUN_ERROR, STUN_BINDING, id, sizeof id, out, room);
  *             if (written > 0)
  *                 written = stun_add_error(out, room, (size_t)written, 420, (const uint8_t *)"Unknown Attribute", 17);
+ *             if (written > 0)
+ *                 written = stun_add(out, room, (size_t)written, STUN_UNKNOWN_ATTRIBUTES, unknown, unknown_length);
  *         }
  *         if (written < 0) fprintf(stderr, "%s\n", stun_strerror(written));
  *         return written < 0 ? 0 : (size_t)written;
@@ -121,7 +127,8 @@ enum {
     STUN_UNSUPPORTED_FEATURE = -25, /* the server lacks an algorithm or a feature that is required */
 };
 
-/* What an answer says, in English: of a refusal why, of any other number "no error". The text is constant. */
+/* What an answer says, in English: of 0 or more "no error", of a refusal why, of a number below those above "unknown refusal".
+ * The text is constant. */
 static inline const char *stun_strerror(int64_t answer) {
     static const char *const texts[] = {
         "no error",
@@ -151,7 +158,8 @@ static inline const char *stun_strerror(int64_t answer) {
         "the nonce is not the current one",
         "a required feature is not supported",
     };
-    return answer < 0 && answer >= STUN_UNSUPPORTED_FEATURE ? texts[-answer] : texts[0];
+    if (answer >= 0) return texts[0];
+    return answer >= STUN_UNSUPPORTED_FEATURE ? texts[-answer] : "unknown refusal";
 }
 
 enum {

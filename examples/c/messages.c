@@ -158,6 +158,63 @@ static void refuses(void) {
     CHECK(stun_sign(out, sizeof out, STUN_LONGEST_MESSAGE, STUN_SHA1, id, 12), STUN_MESSAGE_TOO_LONG);
 }
 
+/* The user of RFC 8489, B.1: the USERHASH of its message, and the key by Python's hashlib. */
+static void writes_keys(void) {
+    static const char hash[] = "\x4a\x3c\xf3\x8f\xef\x69\x92\xbd\xa9\x52\xc6\x78\x04\x17\xda\x0f"
+                               "\x24\x81\x94\x15\x56\x9e\x60\xb2\x05\xc4\x6e\x41\x40\x7f\x17\x04";
+    static const char key[] = "\xdd\x29\x5a\x61\x3b\x90\x58\xc3\xc2\x3d\x6d\xc7\x16\x5b\xda\x07"
+                              "\x23\x04\xd9\x89\xc9\xd0\xaf\x3a\x8c\x7e\x18\x4b\x4f\x9b\xb4\xa1";
+    uint8_t out[33];
+    out[32] = 0xa5;
+    CHECK(stun_userhash(BYTES(user_name), BYTES("example.org"), out, 31), STUN_BUFFER_TOO_SMALL);
+    CHECK(stun_userhash(BYTES(user_name), BYTES("\xff"), out, 0), STUN_NOT_TEXT);
+    CHECK(stun_userhash(BYTES("\xff"), BYTES("example.org"), out, 32), STUN_NOT_TEXT);
+    CHECK(stun_userhash(BYTES(user_name), BYTES("example.org"), out, sizeof out), STUN_USERHASH_LENGTH);
+    CHECK(memcmp(out, hash, 32), 0);
+    CHECK(stun_long_term_key(3, BYTES("\xff"), BYTES(""), BYTES(""), out, 0), STUN_BAD_ARGUMENT);
+    CHECK(stun_long_term_key(STUN_SHA256, BYTES(user_name), BYTES(""), BYTES("\xff"), out, 0), STUN_NOT_TEXT);
+    CHECK(stun_long_term_key(STUN_SHA256, BYTES(user_name), BYTES("example.org"), BYTES("TheMatrIX"), out, 31),
+          STUN_BUFFER_TOO_SMALL);
+    CHECK(memcmp(out, hash, 32), 0);
+    CHECK(stun_long_term_key(STUN_SHA256, BYTES(user_name), BYTES("example.org"), BYTES("TheMatrIX"), out, sizeof out),
+          STUN_SHA256_KEY_LENGTH);
+    CHECK(memcmp(out, key, 32), 0);
+    CHECK(out[32], 0xa5);
+}
+
+/* The call that writes a whole request: its longest one, and each refusal before those that come after it. */
+static void builds(void) {
+    static uint8_t name[514], out[STUN_LONGEST_SIGNED];
+    const uint8_t *id = (const uint8_t *)ipv4_response + 8;
+    memset(name, 'a', sizeof name);
+    CHECK(stun_build_signed(STUN_SHA256, id, 12, name, 513, BYTES("key"), out, sizeof out), STUN_LONGEST_SIGNED);
+    CHECK(stun_verify(out, sizeof out, BYTES("key")), STUN_SHA256);
+    CHECK(stun_build_signed(STUN_SHA256, id, 12, name, 513, BYTES("key"), out, sizeof out - 1), STUN_BUFFER_TOO_SMALL);
+    CHECK(stun_build_signed(STUN_SHA256, id, 12, name, 514, BYTES("key"), out, 0), STUN_TEXT_TOO_LONG);
+    name[513] = 0xff;
+    CHECK(stun_build_signed(STUN_SHA256, id, 12, name, 514, BYTES("key"), out, 0), STUN_NOT_TEXT);
+    CHECK(stun_build_signed(STUN_SHA256, id, 11, name, 514, BYTES("key"), out, 0), STUN_BAD_ARGUMENT);
+    CHECK(stun_build_signed(0, id, 12, name, 514, BYTES("key"), out, 0), STUN_BAD_ARGUMENT);
+    CHECK(stun_build_signed(3, id, 12, name, 514, BYTES("key"), out, 0), STUN_BAD_ARGUMENT);
+    CHECK(stun_verify(out, sizeof out, BYTES("key")), STUN_SHA256);
+    CHECK(stun_build_signed(STUN_SHA1, id, 12, name, 0, name, 0, out, 48), 48);
+    CHECK(stun_verify(out, 48, name, 0), STUN_SHA1);
+}
+
+/* Each refusal has a text of its own, and no other number has one of these. */
+static void tells(void) {
+    for (int64_t i = STUN_UNSUPPORTED_FEATURE; i < 0; i++) {
+        CHECK(strcmp(stun_strerror(i), "no error") == 0 || strcmp(stun_strerror(i), "unknown refusal") == 0, 0);
+        for (int64_t j = STUN_UNSUPPORTED_FEATURE; j < i; j++) CHECK(strcmp(stun_strerror(i), stun_strerror(j)) == 0, 0);
+    }
+    CHECK(strcmp(stun_strerror(STUN_TRUNCATED), "bytes are missing at the end"), 0);
+    CHECK(strcmp(stun_strerror(STUN_UNSUPPORTED_FEATURE), "a required feature is not supported"), 0);
+    CHECK(strcmp(stun_strerror(STUN_UNSUPPORTED_FEATURE - 1), "unknown refusal"), 0);
+    CHECK(strcmp(stun_strerror(INT64_MIN), "unknown refusal"), 0);
+    CHECK(strcmp(stun_strerror(0), "no error"), 0);
+    CHECK(strcmp(stun_strerror(INT64_MAX), "no error"), 0);
+}
+
 int main(void) {
     CHECK(stun_version(), STUN_VERSION);
     reads_responses();
@@ -165,6 +222,9 @@ int main(void) {
     writes_request();
     writes_responses();
     refuses();
+    writes_keys();
+    builds();
+    tells();
     puts("messages: passed");
     return 0;
 }

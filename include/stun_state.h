@@ -2,38 +2,77 @@
  * long-term authenticators of a server and a client.
  *
  * Link crates/stun_state/out/libstun_state.a, which `rt lib` in crates/stun_state proves and builds, libstun_c.a (stun.h) for
- * the messages themselves, and examples/c/heap.c or an allocator of your own (below). Beside these the archive needs what every
- * C compiler has: memcpy, memmove, memset, and __udivti3 and __umodti3 of its runtime.
+ * the messages themselves, and examples/c/heap.c (installed in share/stun) or an allocator of your own (below). Beside these the
+ * archive needs what every C compiler has: memcpy, memmove, memset, and __udivti3 and __umodti3 of its runtime.
  *
- * Handles. A handle is the caller's: a variable, a field, an element of an array. All zero is empty (`stun_agent agent =
- * {0};`). A `_new` call wants an empty handle and fills it; a `_free` call empties it, and on an empty one does nothing.
- * A handle may be moved by copying its bytes and forgetting the first copy. Two copies may not both be used, and the fields
- * may not be written.
+ * A client with a name and a password asks a server over UDP at which address it sees the client. The socket, the clock and
+ * the random bytes are yours: send_to, receive (0 where nothing came until then), moment, fill_randomly.
+ *
+ *     #include "stun_state.h"
+ *     #include <string.h>
+ *
+ *     // 4 or 16 octets; or STUN_TIMED_OUT, the server's error code, or a refusal
+ *     int64_t ask(stun_agent *agent, stun_client *client, const stun_address *server, uint8_t octets[16], uint16_t *port) {
+ *         uint8_t bytes[4096], id[STUN_ID_LENGTH];
+ *         stun_address to, from;
+ *         uint64_t until;
+ *         int64_t length, answer;
+ *         for (int asked = 0, is_to_ask = 1;;) {
+ *             if (is_to_ask) {
+ *                 if (asked++ == 4) return STUN_UNAUTHORIZED;      // a 401 may be forged: do not ask without an end
+ *                 fill_randomly(id, sizeof id);                    // a new id for each request
+ *                 length = stun_begin(STUN_REQUEST, STUN_BINDING, id, sizeof id, bytes, sizeof bytes);
+ *                 if (length > 0) length = stun_client_sign(client, bytes, sizeof bytes, (size_t)length);
+ *                 if (length < 0) return length;
+ *                 answer = stun_agent_send_request(agent, bytes, (size_t)length, server, moment());
+ *                 if (answer < 0) return answer;
+ *                 send_to(server, bytes, (size_t)length);
+ *                 is_to_ask = 0;
+ *             }
+ *             uint64_t now = moment();
+ *             while ((length = stun_agent_poll_transmit(agent, now, bytes, sizeof bytes, &to)) > 0)
+ *                 send_to(&to, bytes, (size_t)length);             // the request again
+ *             if (length < 0) return length;
+ *             answer = stun_agent_poll(agent, now, &until, id, sizeof id);
+ *             if (answer != 0) return answer;
+ *             size_t received = receive(&from, bytes, sizeof bytes, until);
+ *             int64_t type = stun_class(bytes, received);
+ *             if (type != STUN_SUCCESS && type != STUN_ERROR) continue;
+ *             if (stun_id(bytes, received, id, sizeof id) < 0) continue;
+ *             if (stun_agent_is_outstanding(agent, id, sizeof id, &to) != 1) continue;
+ *             if (from.length != to.length || from.port != to.port) continue;
+ *             if (memcmp(from.octets, to.octets, to.length) != 0) continue;        // not from whom was asked
+ *             int64_t verdict = stun_client_validate(client, bytes, received);
+ *             if (verdict == STUN_INTEGRITY_FAILED) continue;                      // forged: wait on
+ *             if (verdict < 0) return verdict;
+ *             answer = stun_agent_handle(agent, bytes, received, &from, moment());
+ *             if (answer < 0) return answer;
+ *             is_to_ask = verdict >= STUN_RESEND;
+ *             if (is_to_ask) continue;
+ *             if (type == STUN_ERROR) return stun_error_code(bytes, received);
+ *             return stun_xor_mapped_address(bytes, received, octets, 16, port);
+ *         }
+ *     }
+ *
+ * Handles. A handle is the caller's: a variable, a field, an element of an array. All zero is empty: `stun_agent agent = {0};`
+ * in C, `stun_agent agent{};` in C++. A `_new` call wants an empty handle and fills it; a `_free` call empties it, and on an
+ * empty one does nothing. A handle may be moved by copying its bytes and forgetting the first copy. Two copies may not both be
+ * used, and the fields may not be written.
  *
  * Threads. One thread at a time uses a handle, and it is the thread that filled it: whether a handle may move to another
- * thread is not proved. Handles share nothing.
+ * thread is not proved. Handles share nothing. No call may be made from a signal handler, nor in the forked child of a process
+ * with threads; after any other fork only one of the two processes may go on with a handle.
  *
  * Time and chance. No call reads a clock, a socket or a source of random bytes: moments are nanoseconds from a start that
  * the caller chooses once for a handle, and random words are arguments.
  *
  * What is passed is read during the call and not kept: messages and texts are copied. No pointer is null, not even with a
- * length of 0; no length is above PTRDIFF_MAX; and what a call writes to overlaps nothing else that is passed. Texts are UTF-8 and taken as they are.
+ * length of 0; no length is above PTRDIFF_MAX; and what a call writes to overlaps nothing else that is passed. Texts are
+ * UTF-8 and taken as they are.
  *
  * A call answers 0 or more, or refuses by a number below zero (stun.h), by the first reason in the order that its comment
- * gives. STUN_EMPTY_HANDLE, or STUN_FULL_HANDLE of a `_new` call, comes before all others. A refusal leaves the handle and
- * every output as they were, but where a comment says otherwise.
- *
- * Memory. The archive allocates by three functions that the program gives (examples/c/heap.c has them over malloc, with a
- * bound): where one refuses, the call answers STUN_OUT_OF_MEMORY.
- *
- *     typedef struct { bool is_ok; void *at; } rattle_allocation;
- *     rattle_allocation rattle_alloc(size_t length, size_t alignment);
- *     rattle_allocation rattle_realloc(void *at, size_t kept, size_t length, size_t alignment);
- *     void rattle_dealloc(void *at);
- *
- * rattle_alloc gives `length` bytes at an address that `alignment` divides, or is_ok false. rattle_realloc gives a block of
- * `length` bytes whose first bytes are those of the old one (`kept` of them); where it refuses, the old block stays as it is.
- * That they do so is trusted.
+ * gives. STUN_EMPTY_HANDLE, or STUN_FULL_HANDLE of a `_new` call, comes before all others, also where a comment does not name
+ * it. A refusal leaves the handle and every output as they were, but where a comment says otherwise.
  */
 #ifndef STUN_STATE_H
 #define STUN_STATE_H
@@ -45,6 +84,22 @@
 #ifdef __cplusplus
 extern "C" {
 #endif
+
+/* Memory. The archive allocates by three functions that the program defines once (heap.c has them over malloc, with a bound):
+ * where one refuses, the call answers STUN_OUT_OF_MEMORY. That they do what stands here is trusted.
+ *
+ * rattle_alloc gives `length` bytes at an address that `alignment`, a power of two up to 16, divides. rattle_realloc gives such
+ * a block whose first `kept` bytes are those of the block `at`, which is gone then; the alignment is that of the block, and
+ * `kept` is at most `length`, which may be more or less than before. rattle_dealloc takes a block back. No length is 0 or above
+ * PTRDIFF_MAX, and no pointer that is passed is null.
+ *
+ * To refuse, answer is_ok false: `at` is not read then, and the old block of rattle_realloc stays as it is. They must return,
+ * so no longjmp and no exception leaves them, and they make no call on a handle. Each thread that has a handle calls them, also
+ * while another one does. */
+typedef struct { bool is_ok; void *at; } rattle_allocation;
+rattle_allocation rattle_alloc(size_t length, size_t alignment);
+rattle_allocation rattle_realloc(void *at, size_t kept, size_t length, size_t alignment);
+void rattle_dealloc(void *at);
 
 typedef struct { bool is_full; void *state; } stun_agent;
 typedef struct { bool is_full; void *state; } stun_server;
@@ -73,13 +128,18 @@ enum {
 };
 
 /* When a request is sent again (section 6.2.1): the wait after the first transmission, the longest wait between two, the
- * wait after the last, in nanoseconds, and how many transmissions there are over UDP. */
+ * wait after the last, in nanoseconds, and how many transmissions there are over UDP. Each wait between two is twice the one
+ * before, up to the longest, and UINT64_MAX there is no bound; 0 transmissions count as 1. Over TCP a request is sent once, and
+ * waited for as long in all. */
 typedef struct {
     uint64_t initial;
     uint64_t longest;
     uint64_t last;
     uint32_t transmissions;
 } stun_timeouts;
+
+/* Those of section 6.2.1, as in `stun_timeouts timeouts = STUN_DEFAULT_TIMEOUTS;`: 500 ms, no bound, 8 s, 7 transmissions. */
+#define STUN_DEFAULT_TIMEOUTS {500000000, UINT64_MAX, 8000000000, 7}
 
 /* What an agent counts. Round trips are in nanoseconds, and 0 where none was measured. */
 typedef struct {
@@ -103,7 +163,9 @@ typedef struct {
 int64_t stun_agent_new(stun_agent *agent, uint32_t transport, const stun_address *local);
 
 /* The same with time-outs of the caller's, and with a remote address, to which alone the agent then sends; a remote
- * address of length 0 is none. */
+ * address of length 0 is none.
+ *
+ * Answers 0, or refuses: STUN_FULL_HANDLE, STUN_BAD_ARGUMENT (transport or an address), STUN_OUT_OF_MEMORY. */
 int64_t stun_agent_new_with(stun_agent *agent, uint32_t transport, const stun_address *local, const stun_address *remote,
                             const stun_timeouts *timeouts);
 
@@ -122,8 +184,9 @@ int64_t stun_agent_send_request(stun_agent *agent, const uint8_t *message, size_
  * STUN_PROTOCOL_VIOLATION (the message is a request, or the agent sends only to another address). */
 int64_t stun_agent_send(stun_agent *agent, const uint8_t *message, size_t length, const stun_address *to);
 
-/* What is to be done at a moment. Answers 0 where nothing is before `*until` (an hour later, where nothing is awaited); or
- * STUN_TIMED_OUT or STUN_CANCELLED, and the id of the request that ended is at the front of `id`: ask again.
+/* What is to be done at a moment. Answers 0 where nothing is before `*until`, which is at most an hour after `now`, whatever is
+ * awaited: ask again then. Or answers STUN_TIMED_OUT or STUN_CANCELLED, and the id of the request that ended is at the front of
+ * `id`: ask again at once.
  *
  * Call stun_agent_poll_transmit at each such moment too, until it answers 0: the two together know what is next.
  *
@@ -167,35 +230,45 @@ void stun_agent_free(stun_agent *agent);
  * Answers 0, or refuses: STUN_FULL_HANDLE, STUN_NOT_TEXT, STUN_OUT_OF_MEMORY. */
 int64_t stun_server_new(stun_server *server, const uint8_t *realm, size_t realm_length);
 
-/* Which algorithms the server supports: STUN_SHA1, STUN_SHA256, or STUN_SHA1 | STUN_SHA256. Refuses STUN_BAD_ARGUMENT
- * for another number. */
+/* Which algorithms the server supports: STUN_SHA1, STUN_SHA256, or STUN_SHA1 | STUN_SHA256.
+ *
+ * Answers 0, or refuses: STUN_EMPTY_HANDLE, STUN_BAD_ARGUMENT for another number. */
 int64_t stun_server_set_algorithms(stun_server *server, uint32_t algorithms);
 
-/* STUN_AUTO or STUN_DISABLED; a server takes STUN_REQUIRED as STUN_AUTO. Refuses STUN_BAD_ARGUMENT. */
+/* STUN_AUTO or STUN_DISABLED; a server takes STUN_REQUIRED as STUN_AUTO.
+ *
+ * Answers 0, or refuses: STUN_EMPTY_HANDLE, STUN_BAD_ARGUMENT for another number. */
 int64_t stun_server_set_anonymous_username(stun_server *server, uint32_t feature);
 
-/* How long a nonce lasts, in nanoseconds; less than 30 s is taken as 30 s. Nonces that were made keep their end. */
+/* How long a nonce lasts, in nanoseconds; less than 30 s is taken as 30 s. Nonces that were made keep their end. Answers 0, or
+ * refuses STUN_EMPTY_HANDLE. */
 int64_t stun_server_set_nonce_expiry(stun_server *server, uint64_t nanoseconds);
 
-/* Registers a user, in the place of one of the same name. Refuses STUN_NOT_TEXT, STUN_OUT_OF_MEMORY. */
+/* Registers a user, in the place of one of the same name. Answers 0, or refuses: STUN_EMPTY_HANDLE, STUN_NOT_TEXT,
+ * STUN_OUT_OF_MEMORY. */
 int64_t stun_server_add_user(stun_server *server, const uint8_t *name, size_t name_length, const uint8_t *password,
                              size_t password_length);
 
-/* Removes a user: messages in that name are refused from then on. Refuses STUN_NOT_TEXT. */
+/* Removes a user, where there is one: messages in that name are refused from then on. Answers 0, or refuses:
+ * STUN_EMPTY_HANDLE, STUN_NOT_TEXT. */
 int64_t stun_server_remove_user(stun_server *server, const uint8_t *name, size_t name_length);
 
-/* Forgets who was validated at an address. Refuses STUN_BAD_ARGUMENT. */
+/* Forgets who was validated at an address. Its nonce stays. Answers 0, or refuses: STUN_EMPTY_HANDLE, STUN_BAD_ARGUMENT. */
 int64_t stun_server_remove_client(stun_server *server, const stun_address *at);
 
-/* Forgets each address without a client whose nonce expired before a moment. Takes time that grows with the number of
- * addresses. */
+/* Forgets each address without a client whose nonce expired before a moment, and frees what was kept for it. Takes time that
+ * grows with the number of addresses. Answers 0, or refuses STUN_EMPTY_HANDLE. */
 int64_t stun_server_forget_expired(stun_server *server, uint64_t now);
 
 /* Who was validated at an address: answers STUN_SHA1 or STUN_SHA256, and writes the user's name to the front of `name` and
- * its length; or answers 0 where nobody was. Refuses STUN_BAD_ARGUMENT, STUN_BUFFER_TOO_SMALL. */
+ * its length; or answers 0 where nobody was. Refuses STUN_EMPTY_HANDLE, STUN_BAD_ARGUMENT, STUN_BUFFER_TOO_SMALL. */
 int64_t stun_server_client(stun_server *server, const stun_address *at, uint8_t *name, size_t room, size_t *name_length);
 
 /* Who signed a message that came from an address. `words` are 16 random numbers, read where a nonce is made.
+ *
+ * A nonce may be kept for each address that a request or an indication comes from, also where it is refused, so who can send
+ * from many addresses makes the server grow: call stun_server_remove_client for a client whose session ended, and
+ * stun_server_forget_expired now and then, and bound the number of addresses.
  *
  * Answers STUN_SHA1 or STUN_SHA256 where the message is validated, and this is the algorithm of the key. Refuses
  * STUN_EMPTY_HANDLE, STUN_BAD_ARGUMENT, STUN_TRUNCATED, STUN_NOT_STUN, STUN_TOO_LARGE. Then, of a response,
@@ -224,18 +297,27 @@ void stun_server_free(stun_server *server);
 
 /* ---- The long-term authenticator of a client (section 9.2.3, 9.2.5). */
 
-/* Fills a handle with a client without credentials, which supports HMAC-SHA1. Refuses STUN_FULL_HANDLE,
- * STUN_OUT_OF_MEMORY. */
+/* Fills a handle with a client without credentials, which supports HMAC-SHA1.
+ *
+ * Answers 0, or refuses: STUN_FULL_HANDLE, STUN_OUT_OF_MEMORY. */
 int64_t stun_client_new(stun_client *client);
 
-/* Whose name and password are used. Refuses STUN_NOT_TEXT, STUN_OUT_OF_MEMORY. */
+/* Whose name and password are used.
+ *
+ * This and the next two are read where a 401 is taken up. A challenge that was taken up keeps its name, key and algorithm, also
+ * where a 438 renews its nonce, and after a success no 401 is taken up: another user then wants a new handle.
+ *
+ * Answers 0, or refuses: STUN_EMPTY_HANDLE, STUN_NOT_TEXT, STUN_OUT_OF_MEMORY. */
 int64_t stun_client_set_credentials(stun_client *client, const uint8_t *name, size_t name_length,
                                     const uint8_t *password, size_t password_length);
 
-/* As stun_server_set_algorithms. */
+/* As stun_server_set_algorithms. Where a server has no list of algorithms, and its nonce has security bits that ask for none,
+ * STUN_SHA1 is taken whatever is set. */
 int64_t stun_client_set_algorithms(stun_client *client, uint32_t algorithms);
 
-/* STUN_AUTO, STUN_REQUIRED or STUN_DISABLED. Refuses STUN_BAD_ARGUMENT. */
+/* STUN_AUTO, STUN_REQUIRED or STUN_DISABLED.
+ *
+ * Answers 0, or refuses: STUN_EMPTY_HANDLE, STUN_BAD_ARGUMENT for another number. */
 int64_t stun_client_set_anonymous_username(stun_client *client, uint32_t feature);
 
 /* Signs the message in the first `length` bytes of a buffer of `room` bytes, as the challenge that was taken up asks.

@@ -26,9 +26,9 @@ static bool take(size_t length) {
 
 static void give_back(size_t length) { __atomic_sub_fetch(&bytes, length, __ATOMIC_SEQ_CST); }
 
-/* Whether a block of this length and alignment can be had with its head. */
+/* Whether a block of this length and alignment can be had with its head. The archive asks for none of no length. */
 static bool is_plain(size_t length, size_t alignment) {
-    return alignment <= sizeof(head) && length <= SIZE_MAX / 2;
+    return alignment <= sizeof(head) && length > 0 && length <= SIZE_MAX / 2;
 }
 
 rattle_allocation rattle_alloc(size_t length, size_t alignment) {
@@ -60,7 +60,6 @@ rattle_allocation rattle_realloc(void *at, size_t kept, size_t length, size_t al
 }
 
 void rattle_dealloc(void *at) {
-    if (at == NULL) return;
     head *block = (head *)at - 1;
     give_back(block->length);
     __atomic_sub_fetch(&blocks, 1, __ATOMIC_SEQ_CST);

@@ -2,16 +2,14 @@
 #ifndef STUN_HEAP_H
 #define STUN_HEAP_H
 
-#include <stdbool.h>
-#include <stddef.h>
+#include "stun_state.h"
 
-typedef struct { bool is_ok; void *at; } rattle_allocation;
+#ifdef __cplusplus
+extern "C" {
+#endif
 
-/* What the archive calls. An allocation is refused where malloc refuses it, above the bound, at an alignment beyond that of
- * malloc, and where heap_refuse said so; the call of the library then answers STUN_OUT_OF_MEMORY. */
-rattle_allocation rattle_alloc(size_t length, size_t alignment);
-rattle_allocation rattle_realloc(void *at, size_t kept, size_t length, size_t alignment);
-void rattle_dealloc(void *at);
+/* The three functions are those of stun_state.h. An allocation is refused where malloc refuses it, above the bound, at an
+ * alignment beyond that of malloc, and where heap_refuse said so; the call of the library then answers STUN_OUT_OF_MEMORY. */
 
 /* From now on no more than so many bytes are held at once. SIZE_MAX at first. */
 void heap_bound(size_t bytes);
@@ -23,5 +21,9 @@ size_t heap_asked(void);
 
 /* For tests: the n-th allocation from now on is refused, and no other; 0 for none. */
 void heap_refuse(size_t n);
+
+#ifdef __cplusplus
+}
+#endif
 
 #endif

@@ -71,15 +71,16 @@ static void make_agents(void) {
     want_no_blocks("agents");
 }
 
-/* The moments at which a request is sent again, and its end. */
-static void schedule(void) {
+/* The moments at which a request is sent again, and its end, by the time-outs of a new agent or the same by their name. */
+static void schedule(const stun_timeouts *timeouts) {
     static const uint64_t due[] = {500, 1500, 3500, 7500, 15500, 31500};
     stun_agent agent = {0};
-    stun_address local = address_of(1), remote = address_of(2), to = nowhere;
+    stun_address local = address_of(1), remote = address_of(2), none = {{0}, 0, 0}, to = nowhere;
     struct message request = message_of(STUN_REQUEST, 1);
     uint8_t out[64], id[ID] = {0};
     uint64_t now = 0, until = 0;
-    want("new", stun_agent_new(&agent, STUN_UDP, &local), 0);
+    if (timeouts == NULL) want("new", stun_agent_new(&agent, STUN_UDP, &local), 0);
+    else want("new_with", stun_agent_new_with(&agent, STUN_UDP, &local, &none, timeouts), 0);
     want("nothing awaited", stun_agent_poll(&agent, 0, &until, id, ID), 0);
     want("not within an hour", until >= 3600 * SECOND, 1);
     want("send_request", stun_agent_send_request(&agent, request.bytes, request.length, &remote, now), 0);
@@ -105,6 +106,36 @@ static void schedule(void) {
     want("once", stun_agent_poll(&agent, until, &now, id, ID), 0);
     stun_agent_free(&agent);
     want_no_blocks("schedule");
+}
+
+/* A poll waits an hour at most; 0 transmissions are one; and without a bound each wait doubles, however long. */
+static void waits(void) {
+    const uint64_t hour = 3600 * SECOND;
+    const stun_timeouts once = {SECOND, SECOND, 3 * hour, 0}, unbounded = {hour, UINT64_MAX, SECOND, 3};
+    stun_agent agent = {0};
+    stun_address local = address_of(1), remote = address_of(2), to;
+    struct message request = message_of(STUN_REQUEST, 1);
+    uint8_t out[64], id[ID];
+    uint64_t until = 0;
+    want("new_with", stun_agent_new_with(&agent, STUN_UDP, &local, &remote, &once), 0);
+    want("send_request", stun_agent_send_request(&agent, request.bytes, request.length, &remote, 0), 0);
+    for (uint64_t now = 0; now < 3 * hour; now = until) {
+        want("sent once", stun_agent_poll_transmit(&agent, now, out, sizeof out, &to), 0);
+        want("poll", stun_agent_poll(&agent, now, &until, id, ID), 0);
+        want("an hour", (int64_t)until, (int64_t)(now + hour));
+    }
+    want("timed out", stun_agent_poll(&agent, 3 * hour, &until, id, ID), STUN_TIMED_OUT);
+    stun_agent_free(&agent);
+    want("new_with", stun_agent_new_with(&agent, STUN_UDP, &local, &remote, &unbounded), 0);
+    want("send_request", stun_agent_send_request(&agent, request.bytes, request.length, &remote, 0), 0);
+    for (uint64_t due = hour; due <= 3 * hour; due += 2 * hour) {
+        want("not due", stun_agent_poll_transmit(&agent, due - 1, out, sizeof out, &to), 0);
+        want("due", stun_agent_poll_transmit(&agent, due, out, sizeof out, &to), (int64_t)request.length);
+    }
+    want("the end", stun_agent_poll(&agent, 3 * hour, &until, id, ID), 0);
+    want("a second later", (int64_t)until, (int64_t)(3 * hour + SECOND));
+    stun_agent_free(&agent);
+    want_no_blocks("waits");
 }
 
 static void send(void) {
@@ -441,10 +472,53 @@ static void clients(void) {
     want_no_blocks("clients");
 }
 
+/* A 401 of a nonce, without a list of algorithms. */
+static struct message challenge_of(const char *nonce) {
+    struct message answer = message_of(STUN_ERROR, 2);
+    add_error(&answer, 401);
+    answer.length = (size_t)stun_add(answer.bytes, sizeof answer.bytes, answer.length, STUN_REALM, text("realm"), 5);
+    answer.length = (size_t)stun_add(answer.bytes, sizeof answer.bytes, answer.length, STUN_NONCE, text(nonce), strlen(nonce));
+    return answer;
+}
+
+/* A client of HMAC-SHA256 alone, and a server that says nothing of algorithms: with a nonce of security bits, and without. */
+static void no_list(void) {
+    struct pair pair = pair_of(STUN_SHA256);
+    struct message plain = challenge_of("nonce"), with_bits = challenge_of("obMatJos2AAAAnonce");
+    int64_t verdict = stun_client_validate(&pair.client, plain.bytes, plain.length);
+    want("no security bits", verdict, STUN_UNSUPPORTED_FEATURE);
+    want("security bits", stun_client_validate(&pair.client, with_bits.bytes, with_bits.length), STUN_RESEND);
+    struct message request = request_of(&pair, 3);
+    uint8_t key[STUN_SHA1_KEY_LENGTH];
+    want("a key", stun_long_term_key(STUN_SHA1, text("name"), 4, text("realm"), 5, text("password"), 8, key, sizeof key), 16);
+    want("signed by SHA-1", stun_verify(request.bytes, request.length, key, sizeof key), STUN_SHA1);
+    free_pair(&pair);
+    want_no_blocks("no_list");
+}
+
+/* What is set once a challenge was taken up is for the next one, and after a success none is taken up. */
+static void late_settings(void) {
+    struct pair pair = pair_of(STUN_SHA1 | STUN_SHA256);
+    stun_address from = address_of(7);
+    struct message forged = challenge_of("nonce");
+    challenge(&pair, &from, 0);
+    want("another user", stun_client_set_credentials(&pair.client, text("other"), 5, text("other"), 5), 0);
+    want("another algorithm", stun_client_set_algorithms(&pair.client, STUN_SHA1), 0);
+    want("another feature", stun_client_set_anonymous_username(&pair.client, STUN_REQUIRED), 0);
+    validate(&pair, &from, 0, STUN_SHA256);
+    want("a 401 after a success", stun_client_validate(&pair.client, forged.bytes, forged.length), STUN_INTEGRITY_FAILED);
+    validate(&pair, &from, 0, STUN_SHA256);
+    free_pair(&pair);
+    want_no_blocks("late_settings");
+}
+
 int main(void) {
+    const stun_timeouts defaults = STUN_DEFAULT_TIMEOUTS;
     empty_agents();
     make_agents();
-    schedule();
+    schedule(NULL);
+    schedule(&defaults);
+    waits();
     send();
     change();
     move_and_share();
@@ -456,6 +530,8 @@ int main(void) {
     refuse_requests();
     refuse_signing();
     clients();
+    no_list();
+    late_settings();
     puts("state: passed");
     return 0;
 }

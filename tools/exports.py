@@ -1,0 +1,79 @@
+#!/usr/bin/env python3
+"""Compares include/stun.h and include/stun_state.h with the exports of stun_c and stun_state and with what Rust declares.
+
+Functions by name, result, and the types of parameters in their order; structs by their fields; refusals by number, and those of
+bindings/rust by text. Run at the top of the repository. Prints each difference, then a count; the status is 1 where one is.
+"""
+import re
+import sys
+
+# What C passes for a type of Rattle or Rust.
+PASSED = {
+    "": "void", "Global": "", "&[u8]": "const uint8_t *, size_t", "&mut [u8]": "uint8_t *, size_t",
+    "u8": "uint8_t", "u16": "uint16_t", "u32": "uint32_t", "u64": "uint64_t", "usize": "size_t", "i64": "int64_t",
+    "&[u32; 16]": "const uint32_t *", "c_void": "void", "Allocation": "rattle_allocation",
+    "AgentHandle": "stun_agent", "ServerHandle": "stun_server", "ClientHandle": "stun_client",
+    "Address": "stun_address", "Timeouts": "stun_timeouts", "Statistics": "stun_statistics", "Counts": "stun_statistics",
+}
+wrong, compared = [], 0
+
+def read(*paths):
+    return "".join(re.sub(r"/\*.*?\*/|//[^\n]*", "", open(path, encoding="utf-8").read(), flags=re.DOTALL) for path in paths)
+
+def compare(what, part, whole):
+    """Each of the part is in the whole, and alike."""
+    global compared
+    compared += len(part)
+    wrong.extend(f"{what}: {key} is {part[key]}, not {whole.get(key)}" for key in part if part[key] != whole.get(key))
+
+def in_c(kind, function):
+    """The C types of a type. `Handle` is the handle that the function's name begins with."""
+    if kind in PASSED:
+        return PASSED[kind].split(", ") if PASSED[kind] else []
+    pointer, name = re.fullmatch(r"(&mut |&|\*mut |\*const )(\w+)", kind).groups()
+    name = "_".join(function.split("_")[:2]) if name == "Handle" else PASSED[name]
+    return [("const " if pointer in ("&", "*const ") else "") + name + " *"]
+
+def functions_of_rust(text, before):
+    kinds = lambda listed: re.findall(r"\w+: (.+?)\s*(?:,\s*(?=\w+:)|,?\s*$)", listed)
+    return {name: in_c(result, name) + [c for kind in kinds(listed) for c in in_c(kind, name)]
+            for name, listed, result in re.findall(before + r"fn (\w+)\(([^)]*)\)(?: -> (\w+))?", text)}
+
+def functions_of_header(text):
+    kind = lambda one: re.sub(r"\w+$", "", re.sub(r"(\w+)\[\d+\]$", r"*\1", one.strip())).strip()
+    return {name: [result] + [kind(one) for one in listed.split(",") if kind(one)]
+            for result, name, listed in re.findall(r"^(\w+) (\w+)\(([^)]*)\);", text, re.MULTILINE)}
+
+def structs_of_rust(text):
+    return {PASSED[name]: [(PASSED[kind], field + size) for field, kind, size in
+                           re.findall(r"(\w+): \[?(\w+)((?:; \d+\])?)", body)]
+            for name, body in re.findall(r"struct (Address|Timeouts|Statistics|Counts) \{(.*?)\}", text, re.DOTALL)}
+
+def structs_of_header(text):
+    return {name: [(kind, field.replace("[", "; ")) for kind, fields in re.findall(r"(\w+) ([^;]+);", body)
+                   for field in re.split(r",\s*", fields)]
+            for body, name in re.findall(r"typedef struct \{([^}]*)\} (stun_address|stun_timeouts|stun_statistics);", text)}
+
+def main():
+    header, archive = read("include/stun.h", "include/stun_state.h"), read("bindings/rust/src/archive.rs")
+    crates = read("crates/stun_c/src/lib.rt", *(f"crates/stun_state/src/{name}.rt" for name in ("lib", "address", "agent")))
+    declared = functions_of_header(header)
+    defined = functions_of_rust(crates + archive, r'#\[(?:unsafe\(no_mangle\)|no_mangle)\]\s*(?:pub |unsafe )?extern "C" ')
+    compare("declaration", declared, defined)
+    compare("definition", defined, declared)
+    for where, text in ("bindings/rust", archive), ("examples/rust", read("examples/rust/main.rs")):
+        imported = "".join(re.findall(r'extern "C" \{(.*?)\n\}', text, re.DOTALL))
+        compare("extern of " + where, functions_of_rust(imported, r"(?=fn stun_)"), declared)
+    for where, text in ("stun_state", crates), ("bindings/rust", archive):
+        compare("struct of " + where, structs_of_header(header), structs_of_rust(text))
+    numbers = {name.replace("_", ""): int(number) for name, number in re.findall(r"STUN_(\w+) = (-\d+)", header)}
+    for crate in ("stun_c", "stun_state"):
+        found = re.findall(r"Refusal::(\w+) => (-\d+)", read(f"crates/{crate}/src/codes.rt"))
+        compare("number of " + crate, {name.upper(): int(number) for name, number in found}, numbers)
+    errors, texts = read("bindings/rust/src/error.rs"), re.findall(r'"([^"]*)",', header[header.index("texts[] ="):])
+    listed = re.findall(r"Refusal::(\w+),", errors)
+    compare("number of bindings/rust", numbers, {name.upper(): -1 - place for place, name in enumerate(listed)})
+    compare("text of bindings/rust", dict(zip(listed, texts[1:])), dict(re.findall(r'Refusal::(\w+) => "([^"]*)"', errors)))
+    print("\n".join(wrong + [f"exports: {compared} compared, {len(wrong)} differ"]))
+    return bool(wrong)
+sys.exit(main())

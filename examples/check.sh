@@ -30,54 +30,90 @@ expect() {
     fi
 }
 
+# The headers declare what the archives export, and so do the crate and the example for Rust.
+if [ -n "$has_state" ] && ! (cd .. && python3 tools/exports.py) >"$scratch/exports" 2>&1; then
+    cat "$scratch/exports" >&2
+    exit 1
+fi
+
 rm -rf c/out
 make -s -C c CC="${CC:-cc}"
 
-# The header is C99 and C++17, with all warnings, and answers each number with a text.
+# The headers are C99 and C++17, with all warnings.
 strict='-Wall -Wextra -Wpedantic -Werror -I../include'
-"${CC:-cc}" -std=c99 $strict -Wconversion -x c -fsyntax-only ../include/stun.h
-"${CC:-cc}" -std=c99 $strict -fsyntax-only c/messages.c
-if "${CXX:-c++}" --version >/dev/null 2>&1; then
-    "${CXX:-c++}" -std=c++17 $strict -Wconversion -x c++ -fsyntax-only ../include/stun.h
-fi
+has_plus=''
+if "${CXX:-c++}" --version >/dev/null 2>&1; then has_plus=yes; fi
+for header in stun stun_state; do
+    alone="$strict -Wconversion -fsyntax-only -include ../include/$header.h"
+    "${CC:-cc}" -std=c99 $alone -x c /dev/null
+    if [ -n "$has_plus" ]; then "${CXX:-c++}" -std=c++17 $alone -x c++ /dev/null; fi
+done
 
-# Each call on messages, and what strangers may send, with sanitizers where the compiler has them.
+# Each call on messages, as C99 and C++17, and what strangers may send, with sanitizers where the compiler has them.
 expect 'messages: passed' c/out/messages
 sanitized='-fsanitize=address,undefined'
 echo 'int main(void) { return 0; }' >"$scratch/empty.c"
 "${CC:-cc}" $sanitized "$scratch/empty.c" -o "$scratch/empty" 2>/dev/null || sanitized=''
+plus_sanitized=$sanitized
+[ -z "$has_plus" ] || "${CXX:-c++}" $sanitized -x c++ "$scratch/empty.c" -o "$scratch/empty" 2>/dev/null || plus_sanitized=''
+"${CC:-cc}" -std=c99 $strict -Wconversion $sanitized c/messages.c ../crates/stun_c/out/libstun_c.a -o "$scratch/messages"
+expect 'messages: passed' "$scratch/messages"
+if [ -n "$has_plus" ]; then
+    "${CXX:-c++}" -std=c++17 $strict -Wconversion $plus_sanitized -x c++ c/messages.c -x none ../crates/stun_c/out/libstun_c.a \
+        -o "$scratch/messages"
+    expect 'messages: passed' "$scratch/messages"
+fi
 "${CC:-cc}" -O1 -g $strict -D_DEFAULT_SOURCE -std=c99 $sanitized c/hostile_messages.c ../crates/stun_c/out/libstun_c.a -o "$scratch/hostile"
 expect 'hostile_messages: passed' "$scratch/hostile"
 
 # The calls with state: each, with each allocation refused, with many addresses, and on what strangers may send.
-"${CC:-cc}" -std=c99 $strict -Wconversion -x c -fsyntax-only ../include/stun_state.h
-if "${CXX:-c++}" --version >/dev/null 2>&1; then
-    "${CXX:-c++}" -std=c++17 $strict -Wconversion -x c++ -fsyntax-only ../include/stun_state.h
-fi
+archives='../crates/stun_state/out/libstun_state.a ../crates/stun_c/out/libstun_c.a'
 if [ -n "$has_state" ]; then
     for name in state refused many hostile_state; do
-        "${CC:-cc}" -O1 -g $strict -D_DEFAULT_SOURCE -std=c99 $sanitized "c/$name.c" c/heap.c ../crates/stun_state/out/libstun_state.a \
-            ../crates/stun_c/out/libstun_c.a -o "$scratch/$name"
+        "${CC:-cc}" -O1 -g $strict -D_DEFAULT_SOURCE -std=c99 $sanitized "c/$name.c" c/heap.c $archives -o "$scratch/$name"
         expect "$name: passed" "$scratch/$name"
     done
+    # The worked examples of both headers, without the comment round them.
+    sed -n 's/^ \*     //p; /\*\/$/q' ../include/stun.h >"$scratch/answer.h"
+    sed -n 's/^ \*     //p; /\*\/$/q' ../include/stun_state.h >"$scratch/ask.h"
+    worked="$strict -Wconversion -I$scratch"
+    "${CC:-cc}" -std=c99 $worked $sanitized c/worked.c c/heap.c $archives -o "$scratch/worked"
+    expect 'worked: passed' "$scratch/worked"
+    if [ -n "$has_plus" ]; then
+        "${CXX:-c++}" -std=c++17 $worked $plus_sanitized -x c++ c/worked.c -x none $archives -o "$scratch/worked"
+        expect 'worked: passed' "$scratch/worked"
+    fi
 fi
 
-# The archive without state asks for nothing but these, so no call of it takes memory.
-needed=$(nm -u ../crates/stun_c/out/libstun_c.a | sed -n 's/^ *U //p' | grep -vxE 'memcpy|memmove|memset|memcmp' || true)
-if [ -n "$needed" ]; then
-    echo "examples: the archive needs" $needed >&2
-    exit 1
-fi
+# asks_for NAMES CRATE: its archive asks for nothing but these. So no call of the one without state takes memory.
+asks_for() {
+    needed=$(nm -u "../crates/$2/out/lib$2.a" | sed -n 's/^ *U //p' | grep -vxE "$1" || true)
+    if [ -n "$needed" ]; then
+        echo "examples: the archive of $2 needs" $needed >&2
+        exit 1
+    fi
+}
+bytes='memcpy|memmove|memset'
+asks_for "$bytes" stun_c
+[ -z "$has_state" ] || asks_for "$bytes|__udivti3|__umodti3|rattle_alloc|rattle_realloc|rattle_dealloc" stun_state
 
 # What is installed is enough to build with.
 make -s -C ../include install PREFIX="$scratch/installed"
-if command -v pkg-config >/dev/null; then
-    found=$(PKG_CONFIG_PATH="$scratch/installed/lib/pkgconfig" pkg-config --cflags --libs stun)
-else
-    found="-I$scratch/installed/include -L$scratch/installed/lib -lstun_c"
-fi
-"${CC:-cc}" c/messages.c $found -o "$scratch/messages"
+# installed NAME ELSE: what pkg-config says of a library, or what stands for it without pkg-config.
+installed() {
+    if command -v pkg-config >/dev/null; then
+        PKG_CONFIG_PATH="$scratch/installed/lib/pkgconfig" pkg-config --cflags --libs "$1"
+    else
+        echo "-I$scratch/installed/include -L$scratch/installed/lib $2"
+    fi
+}
+"${CC:-cc}" c/messages.c $(installed stun -lstun_c) -o "$scratch/messages"
 expect 'messages: passed' "$scratch/messages"
+if [ -n "$has_state" ]; then
+    "${CC:-cc}" c/state.c "$scratch/installed/share/stun/heap.c" $(installed stun_state '-lstun_state -lstun_c') \
+        -o "$scratch/state"
+    expect 'state: passed' "$scratch/state"
+fi
 
 password='VOkJxbRl1RmTxUk/WvJxBt'
 

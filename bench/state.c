@@ -111,7 +111,7 @@ static void prepare_server(uint32_t size, bool is_strong) {
     stun_client_set_credentials(&client, (const uint8_t *)"user0", 5, password, 4);
     struct message error;
     challenge(0, &error);
-    if (stun_client_validate(&client, error.bytes, error.length) != STUN_RESEND) fail("no request");
+    if (!stun_is_resend(stun_client_validate(&client, error.bytes, error.length))) fail("no request");
     signed_request = message_of(STUN_REQUEST, 2);
     int64_t length = stun_client_sign(&client, signed_request.bytes, sizeof signed_request.bytes, signed_request.length);
     if (length < 0) fail("not signed");

@@ -122,10 +122,15 @@ enum { STUN_AUTO = 0, STUN_REQUIRED = 1, STUN_DISABLED = 2 };
 
 /* Answers above zero. */
 enum {
-    STUN_TIMED_OUT = 1, /* stun_agent_poll: no response came to a request in time */
-    STUN_CANCELLED = 2, /* stun_agent_poll: a request was cancelled */
-    STUN_RESEND = 3,    /* stun_client_validate: a 401 or 438 was taken up; sign a new request and send it */
+    STUN_TIMED_OUT = 1,     /* stun_agent_poll: no response came to a request in time */
+    STUN_CANCELLED = 2,     /* stun_agent_poll: a request was cancelled */
+    STUN_RESEND = 3,        /* stun_client_validate: a 401 or 438 was taken up; sign a new request and send it */
+    STUN_RESEND_SHA1 = 4,   /* the same, and its MESSAGE-INTEGRITY verifies under the key that was kept before it */
+    STUN_RESEND_SHA256 = 5, /* the same, and its MESSAGE-INTEGRITY-SHA256 does */
 };
+
+/* Whether an answer of stun_client_validate asks for another request. */
+static inline bool stun_is_resend(int64_t answer) { return answer >= STUN_RESEND && answer <= STUN_RESEND_SHA256; }
 
 /* When a request is sent again (section 6.2.1): the wait after the first transmission, the longest wait between two, the
  * wait after the last, in nanoseconds, and how many transmissions there are over UDP. Each wait between two is twice the one
@@ -331,11 +336,16 @@ int64_t stun_client_sign(stun_client *client, uint8_t *buffer, size_t room, size
 
 /* What a response says. Show it only responses to an outstanding request, from the address that was asked.
  *
- * Answers STUN_SHA1 or STUN_SHA256 where the digest verifies, or STUN_RESEND. Refuses STUN_EMPTY_HANDLE, STUN_TRUNCATED,
- * STUN_NOT_STUN, STUN_TOO_LARGE. Then, of a 401 before any success: STUN_UNAUTHORIZED (no credentials, no REALM or NONCE, a
- * list of algorithms that is missing, or the challenge that was answered already, as after a wrong password: give up),
- * STUN_UNSUPPORTED_FEATURE (give up). Of any other message STUN_INTEGRITY_FAILED (drop it and wait on). STUN_OUT_OF_MEMORY
- * comes only in place of STUN_RESEND. */
+ * Answers STUN_SHA1 or STUN_SHA256 where the digest verifies. Where another request is asked for it answers STUN_RESEND_SHA1 or
+ * STUN_RESEND_SHA256 if the 401 or 438 itself verifies under the key that was kept before it, and else STUN_RESEND, as for a
+ * first 401. A 401 is taken up only before the first success; a 438 with REALM and NONCE at any time, also one that nobody
+ * signed. So whoever can send from the server's address can have requests sent without end: count how often you ask, and give
+ * up.
+ *
+ * Refuses STUN_EMPTY_HANDLE, STUN_TRUNCATED, STUN_NOT_STUN, STUN_TOO_LARGE. Then, of a 401 before any success:
+ * STUN_UNAUTHORIZED (no credentials, no REALM or NONCE, a list of algorithms that is missing, or the challenge that was answered
+ * already, as after a wrong password: give up), STUN_UNSUPPORTED_FEATURE (give up). Of any other message STUN_INTEGRITY_FAILED
+ * (drop it and wait on). STUN_OUT_OF_MEMORY comes only in place of an answer for which stun_is_resend holds. */
 int64_t stun_client_validate(stun_client *client, const uint8_t *message, size_t length);
 
 void stun_client_free(stun_client *client);

@@ -167,7 +167,7 @@ static const struct step {
     {"signs a late request", client_signs, 10, 10, 0, true},
     {"finds its nonce stale", server_validates, LATE, LATE, STUN_STALE_NONCE, true},
     {"signs a 438", server_signs, 438, 438, 0, true},
-    {"takes up the 438", client_validates, 0, 0, STUN_RESEND, true},
+    {"takes up the 438", client_validates, 0, 0, STUN_RESEND_SHA256, true},
     {"signs another request", client_signs, 11, 11, 0, true},
     {"validates it", server_validates, LATE, LATE, STUN_SHA256, true},
     {"removes a client", removes_client, 0, 0, 0, false},

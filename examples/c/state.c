@@ -306,6 +306,9 @@ static void set_servers(void) {
     want_no_blocks("set_servers");
 }
 
+/* The number of a challenge that is signed by an algorithm. */
+static int64_t resend_of(int64_t algorithm) { return algorithm == STUN_SHA1 ? STUN_RESEND_SHA1 : STUN_RESEND_SHA256; }
+
 static void negotiate(uint32_t algorithms, int64_t strongest) {
     struct pair pair = pair_of(algorithms);
     stun_address from = address_of(7), other = address_of(8);
@@ -328,7 +331,7 @@ static void negotiate(uint32_t algorithms, int64_t strongest) {
     int64_t verdict = stun_server_validate(&pair.server, request.bytes, request.length, &from, late, other_words);
     want("a nonce that expired", verdict, STUN_STALE_NONCE);
     struct message answer = answer_of(&pair, 3, 438, &from);
-    want("a 438", stun_client_validate(&pair.client, answer.bytes, answer.length), STUN_RESEND);
+    want("a signed 438", stun_client_validate(&pair.client, answer.bytes, answer.length), resend_of(strongest));
     validate(&pair, &from, late, strongest);
 
     /* The user goes, and then its client. */
@@ -343,6 +346,51 @@ static void negotiate(uint32_t algorithms, int64_t strongest) {
     want("nobody again", stun_server_client(&pair.server, &from, name, sizeof name, &length), 0);
     free_pair(&pair);
     want_no_blocks("negotiate");
+}
+
+/* An answer of the client that asks for another request, or one that does not. */
+static void want_reading(const char *what, struct pair *pair, const struct message *answer, int64_t wanted) {
+    int64_t reading = stun_client_validate(&pair->client, answer->bytes, answer->length);
+    want(what, reading, wanted);
+    want(what, stun_is_resend(reading), wanted == STUN_RESEND || wanted == STUN_RESEND_SHA1 || wanted == STUN_RESEND_SHA256);
+}
+
+/* Which challenges are taken up, and whether they are signed: a first 401, one after a success that was lost, 438s by the server
+ * and by anybody, and no 401 after a success. */
+static void challenges(uint32_t algorithms, int64_t strongest) {
+    struct pair pair = pair_of(algorithms);
+    stun_address from = address_of(7), other = address_of(8);
+    uint64_t late = 3602 * SECOND;
+    challenge(&pair, &from, 0);
+    struct message request = request_of(&pair, 2), unsigned_request = message_of(STUN_REQUEST, 3);
+    int64_t verdict = stun_server_validate(&pair.server, request.bytes, request.length, &from, 0, some_words);
+    want("a signed request", verdict, strongest);
+    verdict = stun_server_validate(&pair.server, unsigned_request.bytes, 20, &from, late, other_words);
+    want("an unsigned request", verdict, STUN_UNAUTHORIZED);
+    struct message answer = answer_of(&pair, 3, 401, &from);
+    if (strongest == STUN_SHA1) {
+        want_reading("a signed 401", &pair, &answer, STUN_RESEND_SHA1);
+        want_reading("the same again", &pair, &answer, STUN_UNAUTHORIZED);
+    } else {
+        want_reading("a signed 401 without the algorithms that its nonce speaks of", &pair, &answer, STUN_UNAUTHORIZED);
+        answer = answer_of(&pair, 3, 438, &from);
+        want_reading("a signed 438 before a success", &pair, &answer, STUN_RESEND_SHA256);
+    }
+    validate(&pair, &from, late, strongest);
+    answer = answer_of(&pair, 3, 401, &from);
+    want_reading("a signed 401 after a success", &pair, &answer, strongest);
+
+    answer = answer_of(&pair, 4, 438, &from);
+    want_reading("a signed 438", &pair, &answer, resend_of(strongest));
+    want_reading("the same again", &pair, &answer, resend_of(strongest));
+    verdict = stun_server_validate(&pair.server, unsigned_request.bytes, 20, &other, late, some_words);
+    want("a stranger's request", verdict, STUN_UNAUTHORIZED);
+    answer = answer_of(&pair, 5, 438, &other);
+    want_reading("an unsigned 438", &pair, &answer, STUN_RESEND);
+    answer = answer_of(&pair, 5, 401, &other);
+    want_reading("an unsigned 401 after a success", &pair, &answer, STUN_INTEGRITY_FAILED);
+    free_pair(&pair);
+    want_no_blocks("challenges");
 }
 
 static void refuse_requests(void) {
@@ -527,6 +575,9 @@ int main(void) {
     negotiate(STUN_SHA1, STUN_SHA1);
     negotiate(STUN_SHA256, STUN_SHA256);
     negotiate(STUN_SHA1 | STUN_SHA256, STUN_SHA256);
+    challenges(STUN_SHA1, STUN_SHA1);
+    challenges(STUN_SHA256, STUN_SHA256);
+    challenges(STUN_SHA1 | STUN_SHA256, STUN_SHA256);
     refuse_requests();
     refuse_signing();
     clients();

@@ -87,7 +87,7 @@ static enum end judge(struct asker *asker, const uint8_t *bytes, size_t length, 
     if (verdict < 0) return fails(asker, verdict);
     int64_t taken = stun_agent_handle(&asker->agent, bytes, length, from, moment());
     if (taken < 0) return fails(asker, taken);
-    return verdict == STUN_RESEND ? ask(asker) : read_response(asker, bytes, length);
+    return stun_is_resend(verdict) ? ask(asker) : read_response(asker, bytes, length);
 }
 
 /* Sends again what is due, and waits for a datagram until something else is. */

@@ -51,11 +51,16 @@ fn only(algorithm: IntegrityAlgorithm) -> &'static [IntegrityAlgorithm] {
     }
 }
 
+/// The numbers of a challenge that was taken up: not signed under the kept key, or signed by one of the algorithms.
+const RESEND: usize = 3;
+const RESEND_SHA1: usize = 4;
+const RESEND_SHA256: usize = 5;
+
 /// What a client makes of a message that it does not refuse.
 #[derive(Debug, Clone, Copy, PartialEq, Eq)]
 pub enum LongTermClientValidation {
-    /// The request is to be signed and sent again, under a new id. The archive does not tell whether the challenge itself
-    /// was signed, so this is always `None`.
+    /// The request is to be signed and sent again, under a new id. The algorithm is there if the message itself was signed
+    /// under the key that was kept before it.
     ResendRequest(Option<IntegrityAlgorithm>),
     /// The digest of this algorithm verifies.
     Validated(IntegrityAlgorithm),
@@ -195,7 +200,9 @@ impl LongTermClientAuth {
         msg: &Message<'_>,
     ) -> Result<LongTermClientValidation, LongTermClientAuthError> {
         match Refusal::of(self.handle.validate(msg.as_bytes())) {
-            Ok(3) => Ok(LongTermClientValidation::ResendRequest(None)),
+            Ok(RESEND) => Ok(LongTermClientValidation::ResendRequest(None)),
+            Ok(RESEND_SHA1) => Ok(LongTermClientValidation::ResendRequest(Some(Sha1))),
+            Ok(RESEND_SHA256) => Ok(LongTermClientValidation::ResendRequest(Some(Sha256))),
             Ok(answer) => Ok(LongTermClientValidation::Validated(IntegrityAlgorithm::of(answer))),
             Err(refusal) => Err(LongTermClientAuthError::of(refusal)),
         }

@@ -160,8 +160,40 @@ fn renews_a_stale_nonce() {
         let (verdict, answer) = both.answer(&request, late, &OTHER_WORDS);
         assert_eq!(verdict, Err(LongTermServerAuthErrorReason::StaleNonce));
         assert_eq!(Message::from_bytes(&answer).unwrap().error_code(), Ok(438));
-        assert!(matches!(both.read(&answer), Ok(LongTermClientValidation::ResendRequest(_))));
+        assert_eq!(both.read(&answer), Ok(LongTermClientValidation::ResendRequest(Some(algorithm))));
         both.is_validated(late, algorithm);
+    }
+}
+
+#[test]
+fn tells_by_what_a_challenge_is_signed() {
+    for (mut both, algorithm) in [(Conversation::new("pass"), Sha1), (Conversation::with_both("pass"), Sha256)] {
+        both.is_challenged(Instant::ZERO);
+        let request = both.request();
+        assert_eq!(both.answer(&request, Instant::ZERO, &WORDS).0, Ok(algorithm));
+        // The success is lost, and the next request comes late and unsigned.
+        let unsigned = Message::builder_request(BINDING, TransactionId([99; 12])).finish();
+        let late = Instant::ZERO + Duration::from_secs(3601);
+        let (verdict, answer) = both.answer(&unsigned, late, &OTHER_WORDS);
+        assert_eq!(verdict, Err(LongTermServerAuthErrorReason::Unauthorized));
+        if algorithm == Sha1 {
+            assert_eq!(both.read(&answer), Ok(LongTermClientValidation::ResendRequest(Some(Sha1))));
+        } else {
+            // The algorithms that its nonce speaks of are missing.
+            assert_eq!(both.read(&answer), Err(LongTermClientAuthErrorReason::Unauthorized));
+            let (verdict, answer) = both.answer(&request, late, &OTHER_WORDS);
+            assert_eq!(verdict, Err(LongTermServerAuthErrorReason::StaleNonce));
+            assert_eq!(both.read(&answer), Ok(LongTermClientValidation::ResendRequest(Some(Sha256))));
+        }
+        both.is_validated(late, algorithm);
+        // A 438 that nobody signed is taken up at any time.
+        both.from = "10.0.0.2:12345".parse().unwrap();
+        assert_eq!(both.answer(&unsigned, late, &WORDS).0, Err(LongTermServerAuthErrorReason::Unauthorized));
+        let mut stale = Message::builder_error(&Message::from_bytes(&unsigned).unwrap());
+        stale.add_error_code(438, "").unwrap();
+        let stale = both.server.sign_outgoing_message(stale, both.from).unwrap().finish();
+        assert!(!has(&stale, AttributeType::MESSAGE_INTEGRITY) && !has(&stale, AttributeType::MESSAGE_INTEGRITY_SHA256));
+        assert_eq!(both.read(&stale), Ok(LongTermClientValidation::ResendRequest(None)));
     }
 }
 

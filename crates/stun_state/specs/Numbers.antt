@@ -1,5 +1,5 @@
 -- The numbers that calls answer.
-use Rattle.std.specs.Prelude.{◌≡◌, ◌⊎◌, ℕ, ℤ, pos, int_lt, min, if◌then◌else◌, Option, Some, None, Result, Ok, Err}
+use Rattle.std.specs.Prelude.{◌≡◌, ◌⊎◌, ◌+◌, ℕ, ℤ, pos, int_lt, min, if◌then◌else◌, Option, Some, None, Result, Ok, Err}
 use Rattle.stun_auth.specs.declared.client_answer.LongTermClientValidation.{LongTermClientValidation}
 use Rattle.stun_auth.specs.declared.client_answer.LongTermClientValidation.TheVariants as Reading
 use Rattle.stun_base.specs.declared.algorithm.IntegrityAlgorithm.{IntegrityAlgorithm}
@@ -28,10 +28,15 @@ abbrev pub algorithm_answer : Result IntegrityAlgorithm Refusal → ℤ
 algorithm_answer (Ok algorithm) = pos (algorithm_number algorithm)
 algorithm_answer (Err refusal) = code_of refusal
 
--- the algorithm's number, 3 where another request is asked for, or the refusal's
+-- another request is asked for: 3 by a message that does not verify, and 3 more than the number of the algorithm by which it does
+abbrev pub resend_number : Option IntegrityAlgorithm → ℕ
+resend_number None = 3
+resend_number (Some algorithm) = 3 + algorithm_number algorithm
+
+-- the algorithm's number, the number where another request is asked for, or the refusal's
 abbrev pub reading_answer : Result LongTermClientValidation Refusal → ℤ
 reading_answer (Ok (Reading.Validated algorithm)) = pos (algorithm_number algorithm)
-reading_answer (Ok (Reading.ResendRequest _)) = pos 3
+reading_answer (Ok (Reading.ResendRequest digest)) = pos (resend_number digest)
 reading_answer (Err refusal) = code_of refusal
 
 -- the number of a client's algorithm, or 0 of none, and how long its name is

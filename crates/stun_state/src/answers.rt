@@ -1,14 +1,14 @@
 //! The numbers that calls answer.
 
-ghost use Rattle.std.specs.Prelude.{◌≡◌};
-ghost use Rattle.stun_state.specs.Numbers.{algorithm_answer, client_answer, done_answer, length_answer, length_told, number_answer, reading_answer};
+ghost use Rattle.std.specs.Prelude.{◌≡◌, pos};
+ghost use Rattle.stun_state.specs.Numbers.{algorithm_answer, client_answer, done_answer, length_answer, length_told, number_answer, reading_answer, resend_number};
 
 use crate::codes::{Refusal, algorithm_number};
 use crate::server::Validated;
 use stun_auth::auth::LongTermClientValidation;
 use stun_base::algorithm::IntegrityAlgorithm;
 
-/// The number of a response that asks for another request.
+/// The number of a response that asks for another request, and that is not rightly signed.
 const RESEND: i64 = 3;
 
 /// The greatest number that a call answers.
@@ -44,6 +44,16 @@ pub fn algorithm(answer: Result<IntegrityAlgorithm, Refusal>) -> i64
     }
 }
 
+/// The number of a response that asks for another request, and verifies by this algorithm or by none.
+fn resend(signed_by: Option<IntegrityAlgorithm>) -> i64
+    ensures { result ≡ pos (resend_number signed_by) }
+{
+    match signed_by {
+        Some(algorithm) => RESEND + i64::from(algorithm_number(algorithm)),
+        None => RESEND,
+    }
+}
+
 /// What a response says, or the refusal.
 pub fn reading(answer: Result<LongTermClientValidation, Refusal>) -> i64
     ensures { result ≡ reading_answer answer }
@@ -52,7 +62,7 @@ pub fn reading(answer: Result<LongTermClientValidation, Refusal>) -> i64
         Ok(LongTermClientValidation::Validated(algorithm)) => i64::from(algorithm_number(
             algorithm,
         )),
-        Ok(LongTermClientValidation::ResendRequest(_)) => RESEND,
+        Ok(LongTermClientValidation::ResendRequest(signed_by)) => resend(signed_by),
         Err(refusal) => refusal.code(),
     }
 }

@@ -208,9 +208,22 @@ int64_t stun_agent_poll_transmit(stun_agent *agent, uint64_t now, uint8_t *out, 
  * address, or is no response, and 0 where it is a response to nothing that is outstanding: the message is to be dropped.
  *
  * Refuses as stun_agent_send_request does up to STUN_TOO_LARGE, and STUN_OUT_OF_MEMORY. It checks no digest: show a
- * response to stun_client_validate first. */
+ * response to stun_client_validate first.
+ *
+ * The agent keeps each address from which it took a request, an indication or a response, until it is freed. Whoever gives
+ * it requests and indications of strangers must bound how many, or free the agent from time to time. */
 int64_t stun_agent_handle(stun_agent *agent, const uint8_t *message, size_t length, const stun_address *from,
                           uint64_t now);
+
+/* Names an address as one from which a message was taken: it is kept until the agent is freed. One that is kept already
+ * changes nothing.
+ *
+ * Answers 0, or refuses: STUN_EMPTY_HANDLE, STUN_BAD_ARGUMENT, STUN_OUT_OF_MEMORY. */
+int64_t stun_agent_validated_peer(stun_agent *agent, const stun_address *peer);
+
+/* Whether stun_agent_handle took a message from an address, or stun_agent_validated_peer named it: 1, or 0. Refuses
+ * STUN_EMPTY_HANDLE and STUN_BAD_ARGUMENT. Does not allocate. */
+int64_t stun_agent_is_validated_peer(stun_agent *agent, const stun_address *peer);
 
 /* Whether a request of an id is outstanding: 1, and the address that it went to, or 0. Refuses STUN_EMPTY_HANDLE and
  * STUN_BAD_ARGUMENT. */

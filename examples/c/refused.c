@@ -3,7 +3,7 @@
  * block is left. */
 #include "fixture.h"
 
-enum { MANY = 20, MOST_TRIES = 1000, LATE = 3602 };
+enum { MANY = 20, MOST_TRIES = 1000, LATE = 3602, MOST_PEERS = 256 };
 
 struct world { stun_agent agent; stun_server server; stun_client client; struct message message; };
 
@@ -125,6 +125,11 @@ static int64_t sends_again(struct world *world, uint32_t number) {
     return stun_agent_poll_transmit(&world->agent, SECOND, world->message.bytes, sizeof world->message.bytes, &to);
 }
 
+static int64_t names_peer(struct world *world, uint32_t number) {
+    stun_address peer = address_of(number);
+    return stun_agent_validated_peer(&world->agent, &peer);
+}
+
 /* From then on requests have ended, and looking polls no more. */
 static bool has_ended;
 
@@ -177,6 +182,8 @@ static const struct step {
     {"sends again", sends_again, 0, MANY - 1, STUN_HEADER_LENGTH, false},
     {"takes responses", takes, 0, 9, 1, true},
     {"takes requests of strangers", takes, 100, 100 + MANY, 1, true},
+    {"names addresses", names_peer, 200, 200 + MANY, 0, true},
+    {"names them again", names_peer, 200, 200 + MANY, 0, false},
     {"cancels", cancels, 10, 14, 1, false},
     {"ends what was cancelled", polls, 2, 6, STUN_CANCELLED, false},
 };
@@ -185,7 +192,7 @@ static const struct step {
 struct answers {
     stun_statistics counts;
     stun_address peers[MANY];
-    int64_t outstanding[MANY], clients[MANY], signs[MANY], client_signs;
+    int64_t outstanding[MANY], clients[MANY], signs[MANY], client_signs, is_peer[MOST_PEERS];
     uint8_t names[MANY][16];
     struct message signed_answers[MANY], signed_request;
     uint64_t until;
@@ -205,6 +212,10 @@ static void look(struct world *world, struct answers *seen) {
         seen->clients[i] = stun_server_client(&world->server, &at, seen->names[i], 16, &length);
         seen->signed_answers[i] = message_of(STUN_SUCCESS, i);
         seen->signs[i] = stun_server_sign(&world->server, seen->signed_answers[i].bytes, 2048, 20, &at);
+    }
+    for (uint32_t i = 0; i < MOST_PEERS; i++) {
+        stun_address at = address_of(i);
+        seen->is_peer[i] = stun_agent_is_validated_peer(&world->agent, &at);
     }
     seen->signed_request = message_of(STUN_REQUEST, 1);
     seen->client_signs = stun_client_sign(&world->client, seen->signed_request.bytes, 2048, 20);

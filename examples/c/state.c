@@ -36,6 +36,8 @@ static void empty_agents(void) {
     want("poll", stun_agent_poll(&agent, 0, &until, id, 1), STUN_EMPTY_HANDLE);
     want("poll_transmit", stun_agent_poll_transmit(&agent, 0, id, 1, &peer), STUN_EMPTY_HANDLE);
     want("handle", stun_agent_handle(&agent, id, 1, &nowhere, 0), STUN_EMPTY_HANDLE);
+    want("validated_peer", stun_agent_validated_peer(&agent, &nowhere), STUN_EMPTY_HANDLE);
+    want("is_validated_peer", stun_agent_is_validated_peer(&agent, &nowhere), STUN_EMPTY_HANDLE);
     want("is_outstanding", stun_agent_is_outstanding(&agent, id, 1, &peer), STUN_EMPTY_HANDLE);
     want("cancel", stun_agent_cancel(&agent, id, 1), STUN_EMPTY_HANDLE);
     want("cancel_retransmissions", stun_agent_cancel_retransmissions(&agent, id, 1), STUN_EMPTY_HANDLE);
@@ -177,6 +179,55 @@ static void send(void) {
     want_same("counts", &counts, &wanted, sizeof counts);
     stun_agent_free(&agent);
     want_no_blocks("send");
+}
+
+/* The addresses from which messages were taken, and those that are named. */
+static void peers(void) {
+    enum { MANY = 100 };
+    stun_agent agent = {0}, other = {0};
+    stun_address local = address_of(1), remote = address_of(2), stranger = address_of(3), mapped = {{0}, 3478, 16};
+    struct message request = message_of(STUN_REQUEST, 1), response = message_of(STUN_SUCCESS, 1);
+    want("new", stun_agent_new(&agent, STUN_UDP, &local), 0);
+    want("new", stun_agent_new(&other, STUN_UDP, &local), 0);
+    want("name nowhere", stun_agent_validated_peer(&agent, &nowhere), STUN_BAD_ARGUMENT);
+    want("nowhere", stun_agent_is_validated_peer(&agent, &nowhere), STUN_BAD_ARGUMENT);
+    want("send_request", stun_agent_send_request(&agent, request.bytes, request.length, &remote, 0), 0);
+    want("asked", stun_agent_is_validated_peer(&agent, &remote), 0);
+    want("another answers", stun_agent_handle(&agent, response.bytes, response.length, &stranger, 1), 0);
+    want("it is not taken", stun_agent_is_validated_peer(&agent, &stranger), 0);
+    want("an answer", stun_agent_handle(&agent, response.bytes, response.length, &remote, 2), 1);
+    want("it is taken", stun_agent_is_validated_peer(&agent, &remote), 1);
+    want("a request", stun_agent_handle(&agent, request.bytes, request.length, &stranger, 3), 1);
+    want("it is taken", stun_agent_is_validated_peer(&agent, &stranger), 1);
+
+    mapped.octets[10] = mapped.octets[11] = 0xff;
+    memcpy(mapped.octets + 12, stranger.octets, 4);
+    want("mapped into IPv6", stun_agent_is_validated_peer(&agent, &mapped), 0);
+    stranger.port++;
+    want("another port", stun_agent_is_validated_peer(&agent, &stranger), 0);
+    want("name it", stun_agent_validated_peer(&agent, &stranger), 0);
+    want("name it again", stun_agent_validated_peer(&agent, &stranger), 0);
+    want("it is named", stun_agent_is_validated_peer(&agent, &stranger), 1);
+    want("not shared", stun_agent_is_validated_peer(&other, &stranger), 0);
+    for (uint32_t i = 0; i < MANY; i++) {
+        stun_address at = address_of(1000 + i);
+        want("not named", stun_agent_is_validated_peer(&agent, &at), 0);
+        want("name it", stun_agent_validated_peer(&agent, &at), 0);
+        size_t bytes = heap_bytes();
+        want("name it again", stun_agent_validated_peer(&agent, &at), 0);
+        want("it takes no more", (int64_t)heap_bytes(), (int64_t)bytes);
+        want("it is named", stun_agent_is_validated_peer(&agent, &at), 1);
+    }
+    want("still", stun_agent_is_validated_peer(&agent, &remote), 1);
+
+    stun_statistics counts;
+    const stun_statistics wanted = {.requests_sent = 1, .requests_received = 1, .responses_received = 1, .bytes_sent = 20,
+        .bytes_received = 40, .round_trips = 1, .round_trip_least = 2, .round_trip_most = 2, .round_trip_average = 2};
+    want("statistics", stun_agent_statistics(&agent, &counts), 0);
+    want_same("naming counts nothing", &counts, &wanted, sizeof counts);
+    stun_agent_free(&agent);
+    stun_agent_free(&other);
+    want_no_blocks("peers");
 }
 
 /* Requests that are cancelled, silenced, or have time-outs of their own. */
@@ -568,6 +619,7 @@ int main(void) {
     schedule(&defaults);
     waits();
     send();
+    peers();
     change();
     move_and_share();
     empty_servers();

@@ -241,6 +241,9 @@ impl StunAgent {
 
     /// Takes a message that came from an address: false where it is a response to nothing that is outstanding there, and
     /// is to be dropped. No digest is checked: show a response to the authenticator first.
+    ///
+    /// The address of each message that is taken is kept as long as the agent: whoever gives it requests of strangers must
+    /// bound how many.
     pub fn handle_stun_message_with_time(
         &mut self,
         msg: &Message<'_>,
@@ -248,6 +251,16 @@ impl StunAgent {
         now: Instant,
     ) -> Result<bool, StunError> {
         StunError::of(self.handle.handle(msg.as_bytes(), from.into(), now.as_nanos())).map(|taken| taken == 1)
+    }
+
+    /// Names an address as one from which a message was taken. Or `OutOfMemory`.
+    pub fn validated_peer(&mut self, addr: SocketAddr) -> Result<(), StunError> {
+        StunError::of(self.handle.validated_peer(addr.into())).map(drop)
+    }
+
+    /// Whether a message from this address was taken, or the address was named by `validated_peer`.
+    pub fn is_validated_peer(&self, addr: SocketAddr) -> bool {
+        self.handle.is_validated_peer(addr.into()) == 1
     }
 
     fn peer_of(&self, id: TransactionId) -> Option<SocketAddr> {

@@ -320,6 +320,8 @@ extern "C" {
         from: *const Address,
         now: u64,
     ) -> i64;
+    fn stun_agent_validated_peer(agent: *mut Handle, peer: *const Address) -> i64;
+    fn stun_agent_is_validated_peer(agent: *mut Handle, peer: *const Address) -> i64;
     fn stun_agent_is_outstanding(agent: *mut Handle, id: *const u8, id_length: usize, peer: *mut Address) -> i64;
     fn stun_agent_cancel(agent: *mut Handle, id: *const u8, id_length: usize) -> i64;
     fn stun_agent_cancel_retransmissions(agent: *mut Handle, id: *const u8, id_length: usize) -> i64;
@@ -415,6 +417,14 @@ impl Agent {
 
     pub fn handle(&mut self, message: &[u8], from: Address, now: u64) -> i64 {
         unsafe { stun_agent_handle(self.0.get(), message.as_ptr(), message.len(), &from, now) }
+    }
+
+    pub fn validated_peer(&mut self, peer: Address) -> i64 {
+        unsafe { stun_agent_validated_peer(self.0.get(), &peer) }
+    }
+
+    pub fn is_validated_peer(&self, peer: Address) -> i64 {
+        unsafe { stun_agent_is_validated_peer(self.0.get(), &peer) }
     }
 
     pub fn is_outstanding(&self, id: &[u8; 12], peer: &mut Address) -> i64 {

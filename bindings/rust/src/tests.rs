@@ -56,6 +56,18 @@ fn an_agent_survives_refused_allocations() {
     refused_in_turn(StunError::OutOfMemory, || {
         agent.handle_stun_message_with_time(&message, peer(), Instant::ZERO)
     });
+    let named = (1..=20).map(|port| SocketAddr::new(peer().ip(), port));
+    let mut refused = 0;
+    for other in named.clone() {
+        let (_, taken) = refused_in_turn(StunError::OutOfMemory, || {
+            let answer = agent.validated_peer(other);
+            assert_eq!(agent.is_validated_peer(other), answer.is_ok());
+            answer
+        });
+        refused += taken;
+    }
+    assert!(refused > 0, "addresses are kept");
+    assert!(named.chain([peer()]).all(|other| agent.is_validated_peer(other)));
     drop(agent);
     assert_eq!(blocks(), before);
 }

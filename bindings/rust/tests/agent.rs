@@ -170,6 +170,31 @@ fn a_response_is_taken_once_and_from_the_address_asked() {
 }
 
 #[test]
+fn addresses_are_validated_by_their_messages_or_by_name() {
+    let mut agent = agent_of(TransportType::Udp);
+    let (bytes, _) = request(1);
+    let response = success(&bytes);
+    agent.send_request(&bytes, remote(), at(0)).unwrap();
+    assert!(!agent.is_validated_peer(remote()), "nothing came yet");
+    assert!(!is_taken(&mut agent, &response, local(), at(1)));
+    assert!(!agent.is_validated_peer(local()), "its response was not taken");
+    assert!(is_taken(&mut agent, &response, remote(), at(2)));
+    assert!(agent.is_validated_peer(remote()));
+    let there: SocketAddr = "[2001:db8::1]:3478".parse().unwrap();
+    assert!(is_taken(&mut agent, &bytes, there, at(3)));
+    assert!(agent.is_validated_peer(there));
+    let before = agent.stats();
+    for _ in 0..2 {
+        agent.validated_peer(local()).unwrap();
+        assert!(agent.is_validated_peer(local()));
+    }
+    assert_eq!(agent.stats(), before);
+    let other_port = SocketAddr::new(local().ip(), 2001);
+    assert!(!agent.is_validated_peer(other_port));
+    assert!(!agent_of(TransportType::Udp).is_validated_peer(local()), "agents share nothing");
+}
+
+#[test]
 fn what_is_refused_leaves_the_agent() {
     let mut agent = agent_of(TransportType::Udp);
     let (bytes, id) = request(1);

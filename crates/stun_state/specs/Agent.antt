@@ -5,6 +5,7 @@ use Rattle.std.specs.declared.net.socket_addr.SocketAddr.{SocketAddr}
 use Rattle.byteorder.specs.Endian.{big_bytes, big_number}
 use Rattle.stun_agent.specs.Agent as agent
 use Rattle.stun_agent.specs.Agent.{Agent}
+use Rattle.stun_agent.specs.Peers.{is_peer}
 use Rattle.stun_agent.specs.Statistics as counts
 use Rattle.stun_agent.specs.Timing.{Settings}
 use Rattle.stun_agent.specs.Transactions.{Transaction, at, changed}
@@ -92,6 +93,16 @@ kept_after_request a bytes to now = after_address (socket_address to) a (λ to. 
 
 abbrev pub kept_after_message : Agent → List ℕ → Address → ℕ → Agent
 kept_after_message a bytes from now = after_address (socket_address from) a (λ from. agent.after_message (Some now) bytes from a)
+
+-- ---- addresses
+
+-- what is answered of an address: 1 where a message from it was taken, or it was named as such
+abbrev pub known : Agent → SocketAddr → Result ℕ Refusal
+known a peer = Ok (if is_peer peer a.peers then 1 else 0)
+
+-- the agent once an address is named, as a caller gives it
+abbrev pub kept_after_naming : Agent → Address → Agent
+kept_after_naming a peer = after_address (socket_address peer) a (λ peer. agent.with_validated peer a)
 
 -- ---- time
 

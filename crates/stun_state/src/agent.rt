@@ -7,8 +7,8 @@ ghost use Rattle.byteorder.specs.Endian.{big_bytes};
 ghost use Rattle.stun_agent.specs.Agent.{after_message, after_poll, after_poll_transmit, after_send, after_send_request, poll_answer, sent_by_poll};
 ghost use Rattle.stun_agent.specs.Transactions.{cancelled, configured, silenced};
 ghost use Rattle.stun_state.specs.Addresses.{socket_address};
-ghost use Rattle.stun_state.specs.Agent.{bytes_told, found, handled, id_in, id_told, made, made_with, moment_told, nanoseconds, peer_found, polled, refusal_of_agent, requested, sent, sent_again, sent_to, settings_of, told, told_of, transport_numbered, with_changed};
-ghost use Rattle.stun_state.specs.Answers.{OrMemory, at_address};
+ghost use Rattle.stun_state.specs.Agent.{bytes_told, found, handled, id_in, id_told, kept_after_naming, known, made, made_with, moment_told, nanoseconds, peer_found, polled, refusal_of_agent, requested, sent, sent_again, sent_to, settings_of, told, told_of, transport_numbered, with_changed};
+ghost use Rattle.stun_state.specs.Answers.{OrMemory, at_address, done_if_given};
 
 use crate::address::Address;
 use crate::codes::Refusal;
@@ -277,6 +277,23 @@ pub fn handle(
     let message = Message::from_bytes(message)?;
     let is_taken = agent.handle_stun_message_with_time(&message, from, Instant::from_nanos(now))?;
     Ok(u32::from(is_taken))
+}
+
+/// Names an address as one whose messages were taken.
+pub fn validated_peer(agent: &mut StunAgent<Global>, peer: &Address) -> Result<(), Refusal>
+    ensures answer { OrMemory result (result ≡ done_if_given (socket_address peer.now)) ⊤ }
+    ensures ok { OnOk result (agent.new ≡ kept_after_naming agent.old peer.now) }
+    ensures err { OnErr result (agent.new ≡ agent.old) }
+{
+    agent.validated_peer(peer.socket()?)?;
+    Ok(())
+}
+
+/// Whether a message from an address was taken, or the address was named as such.
+pub fn is_validated_peer(agent: &StunAgent<Global>, peer: &Address) -> Result<u32, Refusal>
+    ensures { result ≡ at_address (socket_address peer.now) (known agent.now) }
+{
+    Ok(u32::from(agent.is_validated_peer(peer.socket()?)))
 }
 
 /// Whether a request of an id is outstanding, and the address that it went to.

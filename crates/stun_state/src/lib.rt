@@ -9,7 +9,7 @@ ghost use Rattle.stun_agent.specs.Agent.{after_poll, after_poll_transmit, after_
 ghost use Rattle.stun_agent.specs.Transactions.{cancelled, configured, silenced};
 ghost use Rattle.stun_auth.specs.Forgetting.{after_forgetting};
 ghost use Rattle.stun_state.specs.Addresses.{socket_address};
-ghost use Rattle.stun_state.specs.Agent.{bytes_told, found, handled, id_in, id_told, kept_after_message, kept_after_request, made, made_with, moment_told, peer_found, polled, requested, sent, sent_again, sent_to, settings_of, told_of, transport_numbered, with_changed};
+ghost use Rattle.stun_state.specs.Agent.{bytes_told, found, handled, id_in, id_told, kept_after_message, kept_after_naming, kept_after_request, known, made, made_with, moment_told, peer_found, polled, requested, sent, sent_again, sent_to, settings_of, told_of, transport_numbered, with_changed};
 ghost use Rattle.stun_state.specs.Answers.{after_address, at_address, done_if_given, text_refusal, texts_refusal, unless_refused};
 ghost use Rattle.stun_auth.specs.Client.{new_client};
 ghost use Rattle.stun_auth.specs.Registered.{with_user};
@@ -243,6 +243,50 @@ pub extern "C" fn stun_agent_handle(
         return Refusal::EmptyHandle.code();
     };
     let answer = answers::number(agent::handle(&mut kept.agent, message, from, now));
+    handle.put(alloc, kept);
+    answer
+}
+
+/// Names an address as one whose messages were taken.
+#[unsafe(no_mangle)]
+pub extern "C" fn stun_agent_validated_peer(
+    alloc: Global,
+    handle: &mut AgentHandle,
+    peer: &Address,
+) -> i64
+    ensures empty { IfNone handle.old.agent ((result ≡ code_of Refusal.EmptyHandle)
+        × (handle.new.agent ≡ None)) }
+    ensures answer { IfSome handle.old.agent (λ _. IsOrOutOfMemory result (done_answer
+        (done_if_given (socket_address peer.now)))) }
+    ensures state { IfSome handle.old.agent (λ kept. handle.new.agent ≡ Some (record {
+      agent = left_by result kept.agent (kept_after_naming kept.agent peer.now);
+    })) }
+{
+    let Some(mut kept) = handle.take(alloc) else {
+        return Refusal::EmptyHandle.code();
+    };
+    let answer = answers::done(agent::validated_peer(&mut kept.agent, peer));
+    handle.put(alloc, kept);
+    answer
+}
+
+/// Whether a message from an address was taken, or the address was named as such.
+#[unsafe(no_mangle)]
+pub extern "C" fn stun_agent_is_validated_peer(
+    alloc: Global,
+    handle: &mut AgentHandle,
+    peer: &Address,
+) -> i64
+    ensures empty { IfNone handle.old.agent ((result ≡ code_of Refusal.EmptyHandle)
+        × (handle.new.agent ≡ None)) }
+    ensures answer { IfSome handle.old.agent (λ kept. result ≡ number_answer
+        (at_address (socket_address peer.now) (known kept.agent))) }
+    ensures same { handle.new.agent ≡ handle.old.agent }
+{
+    let Some(mut kept) = handle.take(alloc) else {
+        return Refusal::EmptyHandle.code();
+    };
+    let answer = answers::number(agent::is_validated_peer(&kept.agent, peer));
     handle.put(alloc, kept);
     answer
 }

@@ -13,6 +13,7 @@ use std::time::{Duration, Instant as Clock};
 use stun::agent::{StunAgent, StunAgentPollRet, TransportType};
 use stun::auth::{LongTermClientAuth, LongTermClientAuthErrorReason, LongTermClientValidation};
 use stun::message::*;
+use stun::prelude::*;
 use stun::Instant;
 
 /// A first request, one for a challenge, one for a nonce that expired, and one to spare: a forged challenge draws no more.
@@ -51,7 +52,7 @@ impl Asker {
     fn ask(&mut self) -> Result<(), Box<dyn Error>> {
         let mut id = [0; 12];
         self.random.read_exact(&mut id)?;
-        let mut request = Message::builder_request(BINDING, TransactionId(id));
+        let mut request = Message::builder_request(BINDING, TransactionId(id), MessageWriteVec::new())?;
         if let Some(auth) = &mut self.auth {
             request = auth.sign_outgoing_message(request)?;
         }

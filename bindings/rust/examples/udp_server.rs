@@ -19,6 +19,7 @@ use std::thread;
 use std::time::{Duration, Instant as Clock};
 use stun::auth::{LongTermServerAuth, LongTermServerAuthErrorReason, LongTermServerValidation};
 use stun::message::*;
+use stun::prelude::*;
 use stun::Instant;
 
 const USAGE: &str = "udp_server PORT [REALM NAME PASSWORD [NAME PASSWORD]..] [--sha256] [--expiry SECONDS] [--workers N] [-v]";
@@ -113,10 +114,10 @@ impl Server {
     fn answer(&mut self, bytes: &[u8], from: SocketAddr) -> Result<(u16, Vec<u8>), Box<dyn Error>> {
         let (request, has_fingerprint) = read_request(bytes)?;
         let code = self.judge(&request, from)?;
-        let mut answer = Message::builder_error(&request);
+        let mut answer = Message::builder_error(&request, MessageWriteVec::new())?;
         match code {
             200 => {
-                answer = Message::builder_success(&request);
+                answer = Message::builder_success(&request, MessageWriteVec::new())?;
                 answer.add_xor_mapped_address(from)?;
             }
             400 => answer.add_error_code(code, "Bad Request")?,

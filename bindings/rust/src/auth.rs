@@ -1,8 +1,12 @@
-//! The long-term authenticators of a client and a server (RFC 8489, section 9.2).
+//! The short-term authenticator (RFC 8489, section 9.1), and the long-term ones of a client and a server (section 9.2).
 use crate::archive::{self, Address};
 use crate::error::Refusal;
 use crate::instant::{nanos_of, Instant};
-use crate::message::{IntegrityAlgorithm, LongTermCredentials, Message, MessageWriteVec};
+use crate::message::{
+    IntegrityAlgorithm, IntegrityKey, LongTermCredentials, Message, MessageWriteVec, ShortTermCredentials, TransactionId,
+    BINDING,
+};
+use crate::write::{MessageWrite, MessageWriteExt};
 use std::fmt;
 use std::net::SocketAddr;
 use std::time::Duration;
@@ -27,16 +31,82 @@ const LONGEST_MESSAGE: usize = 65552;
 /// The bytes of a user name that are tried first: a message that hides the name may mean a longer one.
 const USUAL_NAME: usize = 256;
 
-/// Signs in the message's own buffer, with more room where the usual one does not do. A refusal leaves the message.
-fn signed(
-    mut msg: MessageWriteVec,
-    mut sign: impl FnMut(&mut [u8], usize) -> i64,
-) -> Result<MessageWriteVec, Refusal> {
-    match msg.write(USUAL_ROOM, &mut sign) {
-        Err(Refusal::BufferTooSmall) => msg.write(LONGEST_MESSAGE, sign)?,
+/// Signs in the message's own buffer, with more room where the usual one does not do.
+fn signed<W: MessageWrite>(mut msg: W, mut sign: impl FnMut(&mut [u8], usize) -> i64) -> Result<W, Refusal> {
+    let mut sign = |buffer: &mut [u8], length: usize| Refusal::of(sign(buffer, length));
+    match msg.write_with(USUAL_ROOM, &mut sign) {
+        Err(Refusal::BufferTooSmall) => msg.write_with(LONGEST_MESSAGE, &mut sign)?,
         answer => answer?,
     }
     Ok(msg)
+}
+
+/// The credentials of a short-term authenticator, the algorithm that it signs by, and their key.
+#[derive(Clone)]
+struct KeptPassword {
+    credentials: ShortTermCredentials,
+    algorithm: IntegrityAlgorithm,
+    key: IntegrityKey,
+}
+
+/// Signs messages with a password that both sides know, and checks theirs (section 9.1). Debug shows no password.
+#[derive(Default, Clone)]
+pub struct ShortTermAuth {
+    kept: Option<KeptPassword>,
+}
+
+impl fmt::Debug for ShortTermAuth {
+    fn fmt(&self, f: &mut fmt::Formatter<'_>) -> fmt::Result {
+        f.debug_struct("ShortTermAuth").finish_non_exhaustive()
+    }
+}
+
+impl ShortTermAuth {
+    /// Without credentials. It does not allocate.
+    pub fn new() -> ShortTermAuth {
+        ShortTermAuth::default()
+    }
+
+    /// By which password and algorithm messages are signed. Or `OutOfMemory`, and both stay as they were.
+    pub fn set_credentials(
+        &mut self,
+        credentials: ShortTermCredentials,
+        algorithm: IntegrityAlgorithm,
+    ) -> Result<(), Refusal> {
+        let key = credentials.make_key()?;
+        self.kept = Some(KeptPassword { credentials, algorithm, key });
+        Ok(())
+    }
+
+    pub fn credentials(&self) -> Option<(&ShortTermCredentials, IntegrityAlgorithm)> {
+        self.kept.as_ref().map(|kept| (&kept.credentials, kept.algorithm))
+    }
+
+    pub fn integrity_key(&self) -> Option<&IntegrityKey> {
+        self.kept.as_ref().map(|kept| &kept.key)
+    }
+
+    /// How many bytes signing adds to a message.
+    pub fn message_signature_bytes(&self) -> usize {
+        self.kept.as_ref().map_or(0, |kept| kept.algorithm.attribute_length())
+    }
+
+    /// Adds the integrity attribute under the password. Without credentials the message stays as it is.
+    pub fn sign_outgoing_message<W: MessageWrite>(&mut self, mut msg: W) -> Result<W, Refusal> {
+        if let Some(kept) = &self.kept {
+            msg.add_message_integrity_with_key(&kept.key, kept.algorithm)?;
+        }
+        Ok(msg)
+    }
+
+    /// The algorithm whose digest verifies under the password, be it that of the credentials or the other. Without
+    /// credentials nothing is checked, and the answer is `None`.
+    pub fn validate_incoming_message(&mut self, msg: &Message<'_>) -> Result<Option<IntegrityAlgorithm>, Refusal> {
+        match &self.kept {
+            None => Ok(None),
+            Some(kept) => msg.validate_integrity_with_key(&kept.key).map(Some),
+        }
+    }
 }
 
 fn number_of(algorithms: &[IntegrityAlgorithm]) -> u32 {
@@ -143,7 +213,7 @@ impl fmt::Debug for LongTermClientAuth {
 impl LongTermClientAuth {
     /// A client without credentials, which supports HMAC-SHA1. Or `OutOfMemory`.
     pub fn new() -> Result<LongTermClientAuth, Refusal> {
-        let handle = archive::Client::new().or_else(|answer| Err(Refusal::of(answer).unwrap_err()))?;
+        let handle = archive::Client::new().map_err(|answer| Refusal::of(answer).unwrap_err())?;
         let anonymous_username = Feature::Auto;
         Ok(LongTermClientAuth { handle, credentials: None, supported: &[Sha1], anonymous_username })
     }
@@ -189,8 +259,16 @@ impl LongTermClientAuth {
         self.anonymous_username
     }
 
+    /// How many bytes signing adds to a request: 0 before a challenge was taken up. It signs one to know, and answers a
+    /// refusal where that is refused.
+    pub fn message_signature_bytes(&mut self) -> Result<usize, Refusal> {
+        let empty = Message::builder_request(BINDING, TransactionId([0; 12]), MessageWriteVec::new())?;
+        let length = empty.len();
+        Ok(self.sign_outgoing_message(empty)?.len() - length)
+    }
+
     /// Signs a message as the challenge that was taken up asks. Before one was, the message stays as it is.
-    pub fn sign_outgoing_message(&mut self, msg: MessageWriteVec) -> Result<MessageWriteVec, Refusal> {
+    pub fn sign_outgoing_message<W: MessageWrite>(&mut self, msg: W) -> Result<W, Refusal> {
         signed(msg, |buffer, length| self.handle.sign(buffer, length))
     }
 
@@ -300,7 +378,7 @@ impl fmt::Debug for LongTermServerAuth {
 impl LongTermServerAuth {
     /// A server without users, which supports HMAC-SHA1 and whose nonces last an hour. Or `OutOfMemory`.
     pub fn new(realm: String) -> Result<LongTermServerAuth, Refusal> {
-        let handle = archive::Server::new(&realm).or_else(|answer| Err(Refusal::of(answer).unwrap_err()))?;
+        let handle = archive::Server::new(&realm).map_err(|answer| Refusal::of(answer).unwrap_err())?;
         Ok(LongTermServerAuth { handle, realm, supported: &[Sha1], anonymous_username: Feature::Auto })
     }
 
@@ -337,10 +415,9 @@ impl LongTermServerAuth {
     }
 
     /// A server takes `Required` as `Auto`.
-    pub fn set_anonymous_username(&mut self, anonymous: Feature) -> Result<(), Refusal> {
-        Refusal::of(self.handle.set_anonymous_username(anonymous as u32))?;
+    pub fn set_anonymous_username(&mut self, anonymous: Feature) {
+        Refusal::of(self.handle.set_anonymous_username(anonymous as u32)).expect("a feature that there is");
         self.anonymous_username = anonymous;
-        Ok(())
     }
 
     pub fn anonymous_username(&self) -> Feature {
@@ -384,11 +461,7 @@ impl LongTermServerAuth {
 
     /// Signs a message to an address: NONCE and REALM in a response, and the offered algorithms or the digest under the
     /// key of the address's client. Sign successes, 401 and 438; a 400 goes out as it is.
-    pub fn sign_outgoing_message(
-        &mut self,
-        msg: MessageWriteVec,
-        to: SocketAddr,
-    ) -> Result<MessageWriteVec, Refusal> {
+    pub fn sign_outgoing_message<W: MessageWrite>(&mut self, msg: W, to: SocketAddr) -> Result<W, Refusal> {
         signed(msg, |buffer, length| self.handle.sign(buffer, length, to.into()))
     }
 

@@ -1,10 +1,19 @@
 //! Messages: read from bytes, and written attribute by attribute.
 use crate::archive;
+use crate::attribute::{mapped_address, AttributeFromRaw, AttributeStaticType, HEADER_LENGTH};
+pub use crate::attribute::{AttributeType, RawAttribute};
+pub use crate::credentials::*;
 use crate::error::Refusal;
-use std::net::{IpAddr, Ipv4Addr, Ipv6Addr, SocketAddr};
+use crate::write::MessageWrite;
+pub use crate::write::{MessageWriteMutSlice, MessageWriteVec};
+use std::net::SocketAddr;
 
-/// The bytes of a header.
-const HEADER_LENGTH: usize = 20;
+/// Why bytes are not read. The Rust crate has three types of errors, here they are one.
+pub type StunParseError = Refusal;
+/// Why no digest verifies.
+pub type ValidateError = Refusal;
+/// Why something is not written.
+pub type StunWriteError = Refusal;
 
 /// The class of a message (RFC 8489, section 5).
 #[derive(Debug, Clone, Copy, PartialEq, Eq, Hash)]
@@ -13,6 +22,13 @@ pub enum MessageClass {
     Indication,
     Success,
     Error,
+}
+
+impl MessageClass {
+    /// Whether it is success or error.
+    pub fn is_response(self) -> bool {
+        matches!(self, MessageClass::Success | MessageClass::Error)
+    }
 }
 
 /// The method of a message: a number of 12 bits.
@@ -33,119 +49,49 @@ impl Method {
     }
 }
 
+/// The type of a message: its class and its method.
+#[derive(Debug, Clone, Copy, PartialEq, Eq, Hash)]
+pub struct MessageType {
+    class: MessageClass,
+    method: Method,
+}
+
+impl MessageType {
+    pub fn from_class_method(class: MessageClass, method: Method) -> MessageType {
+        MessageType { class, method }
+    }
+
+    pub fn class(self) -> MessageClass {
+        self.class
+    }
+
+    pub fn method(self) -> Method {
+        self.method
+    }
+
+    pub fn has_class(self, class: MessageClass) -> bool {
+        self.class == class
+    }
+
+    /// Whether it is a success or an error.
+    pub fn is_response(self) -> bool {
+        self.class.is_response()
+    }
+}
+
 /// The id of a transaction: 12 bytes, which are to be random.
 #[derive(Debug, Clone, Copy, PartialEq, Eq, PartialOrd, Ord, Hash)]
 pub struct TransactionId(pub [u8; 12]);
 
-/// The name and the password of a user, for long-term credentials. Debug shows no password.
-#[derive(Clone, PartialEq, Eq, Hash)]
-pub struct LongTermCredentials {
-    username: String,
-    password: String,
-}
-
-impl LongTermCredentials {
-    pub fn new(username: String, password: String) -> LongTermCredentials {
-        LongTermCredentials { username, password }
+impl TransactionId {
+    /// The id of a number, in network order, where it has 96 bits.
+    pub fn from_u128(number: u128) -> Option<TransactionId> {
+        let [0, 0, 0, 0, id @ ..] = number.to_be_bytes() else { return None };
+        Some(TransactionId(id))
     }
 
-    pub fn username(&self) -> &str {
-        &self.username
-    }
-
-    pub fn password(&self) -> &str {
-        &self.password
-    }
-}
-
-impl std::fmt::Debug for LongTermCredentials {
-    fn fmt(&self, f: &mut std::fmt::Formatter<'_>) -> std::fmt::Result {
-        f.debug_struct("LongTermCredentials").finish_non_exhaustive()
-    }
-}
-
-/// The type of an attribute.
-#[derive(Debug, Clone, Copy, PartialEq, Eq, Hash)]
-pub struct AttributeType(pub u16);
-
-impl AttributeType {
-    pub const USERNAME: AttributeType = AttributeType(0x0006);
-    pub const MESSAGE_INTEGRITY: AttributeType = AttributeType(0x0008);
-    pub const ERROR_CODE: AttributeType = AttributeType(0x0009);
-    pub const UNKNOWN_ATTRIBUTES: AttributeType = AttributeType(0x000a);
-    pub const REALM: AttributeType = AttributeType(0x0014);
-    pub const NONCE: AttributeType = AttributeType(0x0015);
-    pub const MESSAGE_INTEGRITY_SHA256: AttributeType = AttributeType(0x001c);
-    pub const PASSWORD_ALGORITHM: AttributeType = AttributeType(0x001d);
-    pub const USERHASH: AttributeType = AttributeType(0x001e);
-    pub const XOR_MAPPED_ADDRESS: AttributeType = AttributeType(0x0020);
-    pub const PASSWORD_ALGORITHMS: AttributeType = AttributeType(0x8002);
-    pub const SOFTWARE: AttributeType = AttributeType(0x8022);
-    pub const FINGERPRINT: AttributeType = AttributeType(0x8028);
-
-    /// Whether one who does not know the type must refuse the message.
-    pub fn comprehension_required(self) -> bool {
-        self.0 < 0x8000
-    }
-}
-
-/// The algorithm of message integrity.
-#[derive(Debug, Clone, Copy, PartialEq, Eq, Hash)]
-pub enum IntegrityAlgorithm {
-    Sha1,
-    Sha256,
-}
-
-impl IntegrityAlgorithm {
-    pub(crate) fn number(self) -> u32 {
-        match self {
-            IntegrityAlgorithm::Sha1 => 1,
-            IntegrityAlgorithm::Sha256 => 2,
-        }
-    }
-
-    /// The algorithm that an answer above zero names.
-    pub(crate) fn of(answer: usize) -> IntegrityAlgorithm {
-        match answer {
-            1 => IntegrityAlgorithm::Sha1,
-            _ => IntegrityAlgorithm::Sha256,
-        }
-    }
-}
-
-/// The long-term key of a user at a realm (section 9.2.2): 16 bytes for `Sha1`, 32 for `Sha256`.
-pub fn long_term_key(algorithm: IntegrityAlgorithm, username: &str, realm: &str, password: &str) -> Vec<u8> {
-    let mut key = vec![0; 32];
-    let answer = archive::long_term_key(algorithm.number(), username, realm, password, &mut key);
-    key.truncate(Refusal::of(answer).expect("three texts, and room for either key"));
-    key
-}
-
-/// The hash that stands for a user at a realm (section 14.4).
-pub fn userhash(username: &str, realm: &str) -> [u8; 32] {
-    let mut hash = [0; 32];
-    Refusal::of(archive::userhash(username, realm, &mut hash)).expect("two texts, and room for a hash");
-    hash
-}
-
-/// An attribute as it is in a message.
-#[derive(Debug, Clone, Copy, PartialEq, Eq)]
-pub struct RawAttribute<'a> {
-    kind: AttributeType,
-    value: &'a [u8],
-}
-
-impl<'a> RawAttribute<'a> {
-    pub fn new(kind: AttributeType, value: &'a [u8]) -> RawAttribute<'a> {
-        RawAttribute { kind, value }
-    }
-
-    pub fn get_type(&self) -> AttributeType {
-        self.kind
-    }
-
-    pub fn value(&self) -> &'a [u8] {
-        self.value
+    pub fn as_u128(self) -> u128 {
+        self.0.iter().fold(0, |number, byte| number << 8 | u128::from(*byte))
     }
 }
 
@@ -175,13 +121,17 @@ impl<'a> Message<'a> {
         }
     }
 
+    pub fn get_type(&self) -> MessageType {
+        MessageType::from_class_method(self.class(), self.method())
+    }
+
     pub fn has_class(&self, class: MessageClass) -> bool {
         self.class() == class
     }
 
     /// Whether it is a success or an error.
     pub fn is_response(&self) -> bool {
-        matches!(self.class(), MessageClass::Success | MessageClass::Error)
+        self.class().is_response()
     }
 
     pub fn method(&self) -> Method {
@@ -207,7 +157,12 @@ impl<'a> Message<'a> {
 
     /// The first visible attribute of a type.
     pub fn raw_attribute(&self, kind: AttributeType) -> Option<RawAttribute<'a>> {
-        self.iter_attributes().map(|(_, attribute)| attribute).find(|attribute| attribute.kind == kind)
+        self.iter_attributes().map(|(_, attribute)| attribute).find(|attribute| attribute.get_type() == kind)
+    }
+
+    /// The first visible attribute of a type, read; or `MissingAttribute`, or the refusal of `from_raw`.
+    pub fn attribute<A: AttributeFromRaw<'a> + AttributeStaticType>(&self) -> Result<A, Refusal> {
+        self.raw_attribute(A::TYPE).ok_or(Refusal::MissingAttribute).and_then(A::from_raw)
     }
 
     /// The code of the error that the message reports, from 300 to 699.
@@ -217,88 +172,61 @@ impl<'a> Message<'a> {
 
     /// The address that the message reports in XOR-MAPPED-ADDRESS.
     pub fn xor_mapped_address(&self) -> Result<SocketAddr, Refusal> {
-        let (mut octets, mut port) = ([0; 16], 0);
-        let count = Refusal::of(archive::xor_mapped_address(self.bytes, &mut octets, &mut port))?;
-        let ip = match <[u8; 4]>::try_from(&octets[..count]) {
-            Ok(octets) => IpAddr::V4(Ipv4Addr::from(octets)),
-            Err(_) => IpAddr::V6(Ipv6Addr::from(octets)),
+        mapped_address(self.bytes)
+    }
+
+    /// The algorithm whose digest verifies, under the key that the credentials have for the attribute that decides.
+    pub fn validate_integrity(&self, credentials: &MessageIntegrityCredentials) -> Result<IntegrityAlgorithm, Refusal> {
+        // MESSAGE-INTEGRITY-SHA256 decides where it is visible.
+        let algorithm = match self.raw_attribute(AttributeType::MESSAGE_INTEGRITY_SHA256) {
+            Some(_) => IntegrityAlgorithm::Sha256,
+            None => IntegrityAlgorithm::Sha1,
         };
-        Ok(SocketAddr::new(ip, port))
+        credentials.with_key(algorithm, |key| self.validate_integrity_with_key(key))
     }
 
-    /// The algorithm whose digest verifies under a key of any length.
-    pub fn validate_integrity_with_key(&self, key: &[u8]) -> Result<IntegrityAlgorithm, Refusal> {
-        Refusal::of(archive::verify(self.bytes, key)).map(IntegrityAlgorithm::of)
+    /// The algorithm whose digest verifies under a key of any length: an `IntegrityKey`, or bytes.
+    pub fn validate_integrity_with_key<K: AsRef<[u8]> + ?Sized>(&self, key: &K) -> Result<IntegrityAlgorithm, Refusal> {
+        Refusal::of(archive::verify(self.bytes, key.as_ref())).map(IntegrityAlgorithm::of)
     }
 
-    pub fn builder(class: MessageClass, method: Method, id: TransactionId) -> MessageWriteVec {
-        let mut bytes = vec![0; HEADER_LENGTH];
-        let answer = archive::begin(class as u32, method.0.into(), &id.0, &mut bytes);
-        Refusal::of(answer).expect("a class, a method, an id, and room for a header");
-        MessageWriteVec { bytes }
+    /// The algorithm of the last visible integrity attribute.
+    pub(crate) fn integrity(&self) -> Option<IntegrityAlgorithm> {
+        let kinds = self.iter_attributes().map(|(_, attribute)| attribute.get_type());
+        let algorithms = kinds.filter_map(|kind| match kind {
+            AttributeType::MESSAGE_INTEGRITY => Some(IntegrityAlgorithm::Sha1),
+            AttributeType::MESSAGE_INTEGRITY_SHA256 => Some(IntegrityAlgorithm::Sha256),
+            _ => None,
+        });
+        algorithms.last()
     }
 
-    pub fn builder_request(method: Method, id: TransactionId) -> MessageWriteVec {
-        Message::builder(MessageClass::Request, method, id)
+    /// Begins a message in a writer that has no bytes yet: `BadArgument` where it has, `BufferTooSmall` or `OutOfMemory`
+    /// where it has no room for 20.
+    pub fn builder<W: MessageWrite>(message_type: MessageType, id: TransactionId, mut writer: W) -> Result<W, Refusal> {
+        let MessageType { class, method } = message_type;
+        writer.write_with(HEADER_LENGTH, &mut |buffer, length| match length {
+            0 => Refusal::of(archive::begin(class as u32, method.0.into(), &id.0, buffer)),
+            _ => Err(Refusal::BadArgument),
+        })?;
+        Ok(writer)
     }
 
-    pub fn builder_success(request: &Message<'_>) -> MessageWriteVec {
-        Message::builder(MessageClass::Success, request.method(), request.transaction_id())
+    pub fn builder_request<W: MessageWrite>(method: Method, id: TransactionId, writer: W) -> Result<W, Refusal> {
+        Message::builder(MessageType::from_class_method(MessageClass::Request, method), id, writer)
     }
 
-    pub fn builder_error(request: &Message<'_>) -> MessageWriteVec {
-        Message::builder(MessageClass::Error, request.method(), request.transaction_id())
-    }
-}
-
-/// A message as it is written. A refusal leaves it as it was.
-#[derive(Debug, Clone, PartialEq, Eq)]
-pub struct MessageWriteVec {
-    bytes: Vec<u8>,
-}
-
-impl MessageWriteVec {
-    pub fn transaction_id(&self) -> TransactionId {
-        let mut id = [0; 12];
-        id.copy_from_slice(&self.bytes[8..HEADER_LENGTH]);
-        TransactionId(id)
+    pub fn builder_indication<W: MessageWrite>(method: Method, id: TransactionId, writer: W) -> Result<W, Refusal> {
+        Message::builder(MessageType::from_class_method(MessageClass::Indication, method), id, writer)
     }
 
-    /// Makes room, writes, and keeps what the answer says.
-    pub(crate) fn write(
-        &mut self,
-        room: usize,
-        call: impl FnOnce(&mut [u8], usize) -> i64,
-    ) -> Result<(), Refusal> {
-        let length = self.bytes.len();
-        self.bytes.try_reserve(room).map_err(|_| Refusal::OutOfMemory)?;
-        self.bytes.resize(length + room, 0);
-        let answer = Refusal::of(call(&mut self.bytes, length));
-        self.bytes.truncate(*answer.as_ref().unwrap_or(&length));
-        answer.map(|_| ())
+    pub fn builder_success<W: MessageWrite>(request: &Message<'_>, writer: W) -> Result<W, Refusal> {
+        let message_type = MessageType::from_class_method(MessageClass::Success, request.method());
+        Message::builder(message_type, request.transaction_id(), writer)
     }
 
-    pub fn add_attribute(&mut self, attribute: &RawAttribute<'_>) -> Result<(), Refusal> {
-        let RawAttribute { kind, value } = *attribute;
-        self.write(8 + value.len(), |bytes, length| archive::add(bytes, length, kind.0, value))
-    }
-
-    pub fn add_xor_mapped_address(&mut self, address: SocketAddr) -> Result<(), Refusal> {
-        self.write(24, |bytes, length| match address.ip() {
-            IpAddr::V4(ip) => archive::add_address(bytes, length, &ip.octets(), address.port()),
-            IpAddr::V6(ip) => archive::add_address(bytes, length, &ip.octets(), address.port()),
-        })
-    }
-
-    pub fn add_error_code(&mut self, code: u16, reason: &str) -> Result<(), Refusal> {
-        self.write(12 + reason.len(), |bytes, length| archive::add_error(bytes, length, code, reason))
-    }
-
-    pub fn add_message_integrity_with_key(&mut self, key: &[u8], algorithm: IntegrityAlgorithm) -> Result<(), Refusal> {
-        self.write(36, |bytes, length| archive::sign(bytes, length, algorithm.number(), key))
-    }
-
-    pub fn finish(self) -> Vec<u8> {
-        self.bytes
+    pub fn builder_error<W: MessageWrite>(request: &Message<'_>, writer: W) -> Result<W, Refusal> {
+        let message_type = MessageType::from_class_method(MessageClass::Error, request.method());
+        Message::builder(message_type, request.transaction_id(), writer)
     }
 }

@@ -4,6 +4,7 @@ use crate::archive::refusals::{blocks, refuse_after};
 use crate::auth::*;
 use crate::error::Refusal;
 use crate::message::*;
+use crate::prelude::*;
 use crate::Instant;
 use std::net::SocketAddr;
 
@@ -34,7 +35,7 @@ fn refused_in_turn<T, E: PartialEq + std::fmt::Debug>(wanted: E, mut call: impl 
 }
 
 fn request(number: u8) -> Vec<u8> {
-    Message::builder_request(BINDING, TransactionId([number; 12])).finish()
+    Message::builder_request(BINDING, TransactionId([number; 12]), MessageWriteVec::new()).unwrap().finish()
 }
 
 #[test]
@@ -84,7 +85,7 @@ fn authenticators_survive_refused_allocations() {
         refused_in_turn(Refusal::OutOfMemory, || client.set_credentials(credentials.clone()));
         refused_in_turn(Refusal::OutOfMemory, || server.add_user(credentials.clone()));
         for number in 0..3 {
-            let unsigned = Message::builder_request(BINDING, TransactionId([number; 12]));
+            let unsigned = Message::builder_request(BINDING, TransactionId([number; 12]), MessageWriteVec::new()).unwrap();
             let (signed, _) =
                 refused_in_turn(Refusal::OutOfMemory, || client.sign_outgoing_message(unsigned.clone()));
             let bytes = signed.finish();
@@ -96,9 +97,9 @@ fn authenticators_survive_refused_allocations() {
                 }
             });
             assert_eq!(verdict.is_ok(), number > 0);
-            let mut answer = Message::builder_success(&asked);
+            let mut answer = Message::builder_success(&asked, MessageWriteVec::new()).unwrap();
             if verdict.is_err() {
-                answer = Message::builder_error(&asked);
+                answer = Message::builder_error(&asked, MessageWriteVec::new()).unwrap();
                 answer.add_error_code(401, "").unwrap();
             }
             let (answer, _) =

@@ -4,6 +4,7 @@ use std::time::Duration;
 use stun::agent::{StunAgent, StunAgentPollRet, StunError, TransportType};
 use stun::error::Refusal;
 use stun::message::*;
+use stun::prelude::*;
 use stun::stats::StunAgentStats;
 use stun::Instant;
 
@@ -28,11 +29,11 @@ fn request(number: u8) -> (Vec<u8>, TransactionId) {
     let mut id = [0x55; 12];
     id[0] = number;
     let id = TransactionId(id);
-    (Message::builder_request(BINDING, id).finish(), id)
+    (Message::builder_request(BINDING, id, MessageWriteVec::new()).unwrap().finish(), id)
 }
 
 fn success(request: &[u8]) -> Vec<u8> {
-    let mut response = Message::builder_success(&Message::from_bytes(request).unwrap());
+    let mut response = Message::builder_success(&Message::from_bytes(request).unwrap(), MessageWriteVec::new()).unwrap();
     response.add_xor_mapped_address(local()).unwrap();
     response.finish()
 }
@@ -250,7 +251,7 @@ fn statistics_count_each_kind() {
     assert_eq!(stats.rtt_max(), Some(Duration::from_millis(100)));
     assert_eq!(stats.rtt_average(), Some(Duration::from_millis(55)));
 
-    let indication = Message::builder(MessageClass::Indication, BINDING, TransactionId([9; 12])).finish();
+    let indication = Message::builder_indication(BINDING, TransactionId([9; 12]), MessageWriteVec::new()).unwrap().finish();
     agent.send(&indication, remote(), at(200)).unwrap();
     agent.send(success(&first), remote(), at(200)).unwrap();
     assert!(is_taken(&mut agent, &indication, remote(), at(200)));
@@ -295,7 +296,7 @@ fn requests_of_many_lengths_and_families() {
     let mut agent = StunAgent::builder(TransportType::Udp, "[::]:1".parse().unwrap()).build().unwrap();
     let mut sent = Vec::new();
     for number in 0..4 {
-        let mut request = Message::builder_request(BINDING, TransactionId([number; 12]));
+        let mut request = Message::builder_request(BINDING, TransactionId([number; 12]), MessageWriteVec::new()).unwrap();
         let text = vec![b'a'; 200 * usize::from(3 - number)];
         request.add_attribute(&RawAttribute::new(AttributeType::SOFTWARE, &text)).unwrap();
         let bytes = request.finish();

@@ -4,6 +4,7 @@ use std::time::Duration;
 use stun::auth::*;
 use stun::error::Refusal;
 use stun::message::*;
+use stun::prelude::*;
 use stun::Instant;
 use IntegrityAlgorithm::{Sha1, Sha256};
 
@@ -39,7 +40,7 @@ impl Conversation {
 
     fn request(&mut self) -> Vec<u8> {
         self.requests += 1;
-        let request = Message::builder_request(BINDING, TransactionId([self.requests; 12]));
+        let request = Message::builder_request(BINDING, TransactionId([self.requests; 12]), MessageWriteVec::new()).unwrap();
         self.client.sign_outgoing_message(request).unwrap().finish()
     }
 
@@ -60,11 +61,11 @@ impl Conversation {
                 reason => (Err(reason), Some(400)),
             },
         };
-        let mut answer = Message::builder_success(&request);
+        let mut answer = Message::builder_success(&request, MessageWriteVec::new()).unwrap();
         match code {
             None => answer.add_xor_mapped_address(self.from).unwrap(),
             Some(code) => {
-                answer = Message::builder_error(&request);
+                answer = Message::builder_error(&request, MessageWriteVec::new()).unwrap();
                 answer.add_error_code(code, "").unwrap();
             }
         }
@@ -237,7 +238,7 @@ fn a_removed_user_is_refused() {
     let request = Message::from_bytes(&request).unwrap();
     let verdict = both.server.validate_incoming_message(&request, both.from, Instant::ZERO, &WORDS);
     assert_eq!(verdict.unwrap_err().reason(), LongTermServerAuthErrorReason::Unauthorized);
-    let unsigned = Message::builder_error(&request);
+    let unsigned = Message::builder_error(&request, MessageWriteVec::new()).unwrap();
     assert_eq!(both.server.sign_outgoing_message(unsigned, both.from), Err(Refusal::IntegrityFailed));
     both.server.remove_client(both.from);
     assert_eq!(both.server.client(both.from), Ok(None));
@@ -252,8 +253,8 @@ fn addresses_are_apart_and_forgotten() {
     let (verdict, _) = both.answer(&signed, Instant::ZERO, &OTHER_WORDS);
     assert_eq!(verdict, Err(LongTermServerAuthErrorReason::StaleNonce), "the nonce is another address's");
     both.server.forget_expired(Instant::MAX);
-    let other = Message::builder_request(BINDING, TransactionId([99; 12])).finish();
-    let success = Message::builder_success(&Message::from_bytes(&other).unwrap());
+    let other = Message::builder_request(BINDING, TransactionId([99; 12]), MessageWriteVec::new()).unwrap().finish();
+    let success = Message::builder_success(&Message::from_bytes(&other).unwrap(), MessageWriteVec::new()).unwrap();
     let unsigned = both.server.sign_outgoing_message(success.clone(), both.from).unwrap();
     assert_eq!(unsigned, success, "no nonce is known for the address");
 }
@@ -264,7 +265,7 @@ fn unsigned_answers_are_refused() {
     both.is_challenged(Instant::ZERO);
     let request = both.request();
     let request = Message::from_bytes(&request).unwrap();
-    let mut forged = Message::builder_success(&request);
+    let mut forged = Message::builder_success(&request, MessageWriteVec::new()).unwrap();
     forged.add_xor_mapped_address(both.from).unwrap();
     assert_eq!(both.read(&forged.finish()), Err(LongTermClientAuthErrorReason::IntegrityFailed));
     both.is_validated(Instant::ZERO, Sha1);
@@ -292,7 +293,7 @@ fn settings_are_told() {
     assert_eq!(server.supported_integrity(), [Sha1]);
     for feature in [Feature::Required, Feature::Disabled, Feature::Auto] {
         client.set_anonymous_username(feature);
-        server.set_anonymous_username(feature).unwrap();
+        server.set_anonymous_username(feature);
         assert_eq!((client.anonymous_username(), server.anonymous_username()), (feature, feature));
     }
     let errors = [LongTermServerAuthErrorReason::BadRequest, LongTermServerAuthErrorReason::StaleNonce];

@@ -1,6 +1,7 @@
 //! The samples of RFC 5769, read and written through this crate.
 use stun::error::Refusal;
 use stun::message::*;
+use stun::prelude::*;
 
 fn bytes(digits: &str) -> Vec<u8> {
     let digits: Vec<u32> = digits.chars().filter_map(|c| c.to_digit(16)).collect();
@@ -45,7 +46,7 @@ fn writes_the_long_term_request() {
     let id = Message::from_bytes(&wanted).unwrap().transaction_id();
     let name = "\u{30de}\u{30c8}\u{30ea}\u{30c3}\u{30af}\u{30b9}";
     let key = long_term_key(IntegrityAlgorithm::Sha1, name, "example.org", "TheMatrIX");
-    let mut request = Message::builder_request(BINDING, id);
+    let mut request = Message::builder_request(BINDING, id, MessageWriteVec::new()).unwrap();
     for (kind, value) in [
         (AttributeType::USERNAME, name),
         (AttributeType::NONCE, "f//499k954d6OL34oL9FSTvy64sA"),
@@ -61,17 +62,17 @@ fn writes_the_long_term_request() {
 
 #[test]
 fn answers_with_an_address_and_an_error() {
-    let request = Message::builder_request(BINDING, TransactionId([7; 12])).finish();
+    let request = Message::builder_request(BINDING, TransactionId([7; 12]), MessageWriteVec::new()).unwrap().finish();
     let request = Message::from_bytes(&request).unwrap();
     for address in ["192.0.2.1:1", "[2001:db8::1]:65535"] {
-        let mut answer = Message::builder_success(&request);
+        let mut answer = Message::builder_success(&request, MessageWriteVec::new()).unwrap();
         answer.add_xor_mapped_address(address.parse().unwrap()).unwrap();
         let answer = answer.finish();
         let answer = Message::from_bytes(&answer).unwrap();
         assert_eq!(answer.transaction_id(), request.transaction_id());
         assert_eq!(answer.xor_mapped_address(), Ok(address.parse().unwrap()));
     }
-    let mut answer = Message::builder_error(&request);
+    let mut answer = Message::builder_error(&request, MessageWriteVec::new()).unwrap();
     assert_eq!(answer.add_error_code(299, ""), Err(Refusal::BadArgument));
     answer.add_error_code(401, "Unauthorized").unwrap();
     assert_eq!(answer.add_error_code(401, "Unauthorized"), Err(Refusal::AttributeExists));

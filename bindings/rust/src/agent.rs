@@ -2,7 +2,7 @@
 use crate::archive::{self, Address, Timeouts};
 use crate::error::Refusal;
 use crate::instant::{nanos_of, Instant};
-use crate::message::{Message, TransactionId};
+use crate::message::{IntegrityAlgorithm, Message, TransactionId};
 use crate::stats::StunAgentStats;
 use std::fmt;
 use std::net::SocketAddr;
@@ -143,8 +143,8 @@ impl StunAgentBuilder {
         let StunAgentBuilder { transport, local_addr, remote_addr, timeouts, stats } = self;
         let made =
             archive::Agent::new(transport as u32, local_addr.into(), remote_addr.map(Address::from), timeouts);
-        let handle = made.or_else(|answer| Err(StunError::of(answer).unwrap_err()))?;
-        Ok(StunAgent { handle, transport, local_addr, remote_addr, stats, again: Vec::new() })
+        let handle = made.map_err(|answer| StunError::of(answer).unwrap_err())?;
+        Ok(StunAgent { handle, transport, local_addr, remote_addr, stats, again: Vec::new(), signed: Vec::new() })
     }
 }
 
@@ -164,6 +164,8 @@ pub struct StunAgent {
     stats: bool,
     /// Where a request is written to that is sent again: as long as the longest that was sent.
     again: Vec<u8>,
+    /// The signed requests that are outstanding, by their ids in order.
+    signed: Vec<(TransactionId, IntegrityAlgorithm)>,
 }
 
 impl fmt::Debug for StunAgent {
@@ -230,9 +232,37 @@ impl StunAgent {
         let bytes = msg.as_ref();
         let more = bytes.len().saturating_sub(self.again.len());
         self.again.try_reserve(more).map_err(|_| StunError::OutOfMemory)?;
+        self.signed.try_reserve(1).map_err(|_| StunError::OutOfMemory)?;
         StunError::of(self.handle.send_request(bytes, to.into(), now.as_nanos()))?;
         self.again.resize(self.again.len().max(bytes.len()), 0);
+        self.keep_integrity(bytes);
         Ok(self.transmit(msg, to))
+    }
+
+    /// Keeps the algorithm of a request that was taken, where it is signed.
+    fn keep_integrity(&mut self, request: &[u8]) {
+        let Ok(request) = Message::from_bytes(request) else { return };
+        let Some(algorithm) = request.integrity() else { return };
+        let id = request.transaction_id();
+        match self.place_of(id) {
+            Ok(place) => self.signed[place].1 = algorithm,
+            Err(place) => self.signed.insert(place, (id, algorithm)),
+        }
+    }
+
+    fn place_of(&self, id: TransactionId) -> Result<usize, usize> {
+        self.signed.binary_search_by_key(&id, |(signed, _)| *signed)
+    }
+
+    fn integrity_of(&self, id: TransactionId) -> Option<IntegrityAlgorithm> {
+        self.place_of(id).ok().map(|place| self.signed[place].1)
+    }
+
+    /// Forgets the algorithm of a request that has ended.
+    fn forget_integrity(&mut self, id: TransactionId) {
+        if let Ok(place) = self.place_of(id) {
+            self.signed.remove(place);
+        }
     }
 
     fn transmit<T: AsRef<[u8]>>(&self, data: T, to: SocketAddr) -> Transmit<T> {
@@ -250,7 +280,11 @@ impl StunAgent {
         from: SocketAddr,
         now: Instant,
     ) -> Result<bool, StunError> {
-        StunError::of(self.handle.handle(msg.as_bytes(), from.into(), now.as_nanos())).map(|taken| taken == 1)
+        let taken = StunError::of(self.handle.handle(msg.as_bytes(), from.into(), now.as_nanos()))? == 1;
+        if taken && msg.is_response() {
+            self.forget_integrity(msg.transaction_id());
+        }
+        Ok(taken)
     }
 
     /// Names an address as one from which a message was taken. Or `OutOfMemory`.
@@ -271,20 +305,26 @@ impl StunAgent {
     /// The outstanding request of an id.
     pub fn request_transaction(&self, transaction_id: TransactionId) -> Option<StunRequest<'_>> {
         let peer_address = self.peer_of(transaction_id)?;
-        Some(StunRequest { agent: self, peer_address })
+        Some(StunRequest { agent: self, peer_address, integrity: self.integrity_of(transaction_id) })
     }
 
     pub fn mut_request_transaction(&mut self, transaction_id: TransactionId) -> Option<StunRequestMut<'_>> {
         let peer_address = self.peer_of(transaction_id)?;
-        Some(StunRequestMut { agent: self, transaction_id, peer_address })
+        let integrity = self.integrity_of(transaction_id);
+        Some(StunRequestMut { agent: self, transaction_id, peer_address, integrity })
     }
 
     /// What is to be done at a moment. Where nothing is awaited it waits an hour. Does not allocate.
     pub fn poll(&mut self, now: Instant) -> StunAgentPollRet {
         let (mut until, mut id) = (0, [0; 12]);
-        match self.handle.poll(now.as_nanos(), &mut until, &mut id) {
-            1 => StunAgentPollRet::TransactionTimedOut(TransactionId(id)),
-            2 => StunAgentPollRet::TransactionCancelled(TransactionId(id)),
+        let answer = self.handle.poll(now.as_nanos(), &mut until, &mut id);
+        let ended = TransactionId(id);
+        if answer == 1 || answer == 2 {
+            self.forget_integrity(ended);
+        }
+        match answer {
+            1 => StunAgentPollRet::TransactionTimedOut(ended),
+            2 => StunAgentPollRet::TransactionCancelled(ended),
             _ => StunAgentPollRet::WaitUntil(Instant::from_nanos(until).min(now + LONGEST_WAIT)),
         }
     }
@@ -303,12 +343,18 @@ impl StunAgent {
 pub struct StunRequest<'a> {
     agent: &'a StunAgent,
     peer_address: SocketAddr,
+    integrity: Option<IntegrityAlgorithm>,
 }
 
 impl StunRequest<'_> {
     /// The address that the request was sent to.
     pub fn peer_address(&self) -> SocketAddr {
         self.peer_address
+    }
+
+    /// The algorithm that the request is signed by.
+    pub fn integrity(&self) -> Option<IntegrityAlgorithm> {
+        self.integrity
     }
 
     pub fn agent(&self) -> &StunAgent {
@@ -322,12 +368,18 @@ pub struct StunRequestMut<'a> {
     agent: &'a mut StunAgent,
     transaction_id: TransactionId,
     peer_address: SocketAddr,
+    integrity: Option<IntegrityAlgorithm>,
 }
 
 impl StunRequestMut<'_> {
     /// The address that the request was sent to.
     pub fn peer_address(&self) -> SocketAddr {
         self.peer_address
+    }
+
+    /// The algorithm that the request is signed by.
+    pub fn integrity(&self) -> Option<IntegrityAlgorithm> {
+        self.integrity
     }
 
     pub fn agent(&self) -> &StunAgent {

@@ -1,6 +1,8 @@
 //! Messages: read from bytes, and written attribute by attribute.
 use crate::archive;
-use crate::attribute::{mapped_address, AttributeFromRaw, AttributeStaticType, HEADER_LENGTH};
+use crate::attribute::{
+    mapped_address, AttributeFromRaw, AttributeStaticType, ATTRIBUTE_HEADER_LENGTH, HEADER_LENGTH,
+};
 pub use crate::attribute::{AttributeType, RawAttribute};
 pub use crate::credentials::*;
 use crate::error::Refusal;
@@ -155,9 +157,19 @@ impl<'a> Message<'a> {
         })
     }
 
-    /// The first visible attribute of a type.
+    /// The first visible attribute of a type. Unlike a walk of `iter_attributes`, it takes time that grows as the message.
     pub fn raw_attribute(&self, kind: AttributeType) -> Option<RawAttribute<'a>> {
-        self.iter_attributes().map(|(_, attribute)| attribute).find(|attribute| attribute.get_type() == kind)
+        let mut place = HEADER_LENGTH;
+        while let Some([high, low, length @ ..]) = self.bytes.get(place..place + ATTRIBUTE_HEADER_LENGTH) {
+            if AttributeType(u16::from_be_bytes([*high, *low])) == kind {
+                // Where the first of a type is not visible, none is.
+                let (found, _, length) = archive::next(self.bytes, place - 1)?;
+                return (found == place).then(|| RawAttribute::new(kind, &self.bytes[found + 4..][..length]));
+            }
+            let length = length.iter().fold(0, |length, byte| length << 8 | usize::from(*byte));
+            place += ATTRIBUTE_HEADER_LENGTH + length.next_multiple_of(4);
+        }
+        None
     }
 
     /// The first visible attribute of a type, read; or `MissingAttribute`, or the refusal of `from_raw`.
@@ -177,12 +189,16 @@ impl<'a> Message<'a> {
 
     /// The algorithm whose digest verifies, under the key that the credentials have for the attribute that decides.
     pub fn validate_integrity(&self, credentials: &MessageIntegrityCredentials) -> Result<IntegrityAlgorithm, Refusal> {
-        // MESSAGE-INTEGRITY-SHA256 decides where it is visible.
-        let algorithm = match self.raw_attribute(AttributeType::MESSAGE_INTEGRITY_SHA256) {
-            Some(_) => IntegrityAlgorithm::Sha256,
-            None => IntegrityAlgorithm::Sha1,
-        };
-        credentials.with_key(algorithm, |key| self.validate_integrity_with_key(key))
+        let mut refusal = Refusal::IntegrityFailed;
+        // A digest under the key of the other algorithm does not count.
+        for algorithm in [IntegrityAlgorithm::Sha256, IntegrityAlgorithm::Sha1] {
+            match credentials.with_key(algorithm, |key| self.validate_integrity_with_key(key)) {
+                Ok(verified) if verified == algorithm => return Ok(verified),
+                Ok(_) => {}
+                Err(other) => refusal = other,
+            }
+        }
+        Err(refusal)
     }
 
     /// The algorithm whose digest verifies under a key of any length: an `IntegrityKey`, or bytes.
@@ -192,13 +208,11 @@ impl<'a> Message<'a> {
 
     /// The algorithm of the last visible integrity attribute.
     pub(crate) fn integrity(&self) -> Option<IntegrityAlgorithm> {
-        let kinds = self.iter_attributes().map(|(_, attribute)| attribute.get_type());
-        let algorithms = kinds.filter_map(|kind| match kind {
-            AttributeType::MESSAGE_INTEGRITY => Some(IntegrityAlgorithm::Sha1),
-            AttributeType::MESSAGE_INTEGRITY_SHA256 => Some(IntegrityAlgorithm::Sha256),
-            _ => None,
-        });
-        algorithms.last()
+        // After MESSAGE-INTEGRITY-SHA256 no other is visible.
+        if self.raw_attribute(AttributeType::MESSAGE_INTEGRITY_SHA256).is_some() {
+            return Some(IntegrityAlgorithm::Sha256);
+        }
+        self.raw_attribute(AttributeType::MESSAGE_INTEGRITY).map(|_| IntegrityAlgorithm::Sha1)
     }
 
     /// Begins a message in a writer that has no bytes yet: `BadArgument` where it has, `BufferTooSmall` or `OutOfMemory`

@@ -229,6 +229,69 @@ fn digests_have_lengths() {
     is_read_back(&Userhash::new([9; 32]), &[9; 32]);
 }
 
+/// A message of attributes of these types, whose values have from 0 bytes on.
+fn of_types(kinds: &[u16]) -> Vec<u8> {
+    let mut bytes = vec![0, 1, 0, 0, 0x21, 0x12, 0xa4, 0x42];
+    bytes.extend([7; 12]);
+    for (length, kind) in kinds.iter().enumerate() {
+        bytes.extend(kind.to_be_bytes());
+        bytes.extend((length as u16).to_be_bytes());
+        bytes.resize((bytes.len() + length).next_multiple_of(4), length as u8);
+    }
+    let length = (bytes.len() - 20) as u16;
+    bytes[2..4].copy_from_slice(&length.to_be_bytes());
+    bytes
+}
+
+#[test]
+fn the_first_of_a_type_is_found_where_it_is_visible() {
+    let kinds = [0x0006, 0x0008, 0x001c, 0x8028, 0x8022];
+    for number in 0..5usize.pow(6) {
+        let chosen: Vec<u16> = (0..6).map(|digit| kinds[number / 5usize.pow(digit) % 5]).collect();
+        let bytes = of_types(&chosen);
+        let message = Message::from_bytes(&bytes).unwrap();
+        for kind in kinds.map(AttributeType) {
+            let wanted = message.iter_attributes().map(|(_, found)| found).find(|found| found.get_type() == kind);
+            assert_eq!(message.raw_attribute(kind), wanted, "{chosen:x?}");
+        }
+    }
+}
+
+#[test]
+fn many_attributes_are_passed_over_in_little_time() {
+    let begun = of_types(&[]);
+    let many = [&begun, &[0x80, 0x22, 0, 0].repeat(16000)[..], &[0, 6, 0, 1, b'u', 0, 0, 0]].concat();
+    let many = [&many[..2], &((many.len() - 20) as u16).to_be_bytes(), &many[4..]].concat();
+    let message = Message::from_bytes(&many).unwrap();
+    for _ in 0..100 {
+        assert_eq!(message.attribute::<Username>().unwrap().username(), "u");
+        assert_eq!(message.validate_integrity(&matrix()), Err(Refusal::NoIntegrity));
+    }
+}
+
+#[test]
+fn a_digest_counts_under_the_key_of_its_own_algorithm() {
+    let MessageIntegrityCredentials::LongTerm(credentials) = matrix() else { unreachable!() };
+    for (algorithm, other) in [(Sha1, Sha256), (Sha256, Sha1)] {
+        let begun = Message::builder_request(BINDING, TransactionId([1; 12]), MessageWriteVec::new()).unwrap();
+        let (mut right, mut wrong) = (begun.clone(), begun);
+        right.add_message_integrity_with_key(&credentials.make_key(algorithm), algorithm).unwrap();
+        wrong.add_message_integrity_with_key(&credentials.make_key(other), algorithm).unwrap();
+        let (right, wrong) = (Message::from_bytes(&right).unwrap(), Message::from_bytes(&wrong).unwrap());
+        assert_eq!(right.validate_integrity(&matrix()), Ok(algorithm));
+        assert_eq!(wrong.validate_integrity(&matrix()), Err(Refusal::IntegrityFailed));
+        assert_eq!(wrong.validate_integrity_with_key(&credentials.make_key(other)), Ok(algorithm));
+    }
+    for (kinds, refusal) in [
+        (&[0x0006][..], Refusal::NoIntegrity),
+        (&[0x0008], Refusal::MalformedIntegrity),
+        (&[0x0006, 0x001c], Refusal::MalformedIntegrity),
+    ] {
+        let bytes = of_types(kinds);
+        assert_eq!(Message::from_bytes(&bytes).unwrap().validate_integrity(&matrix()), Err(refusal));
+    }
+}
+
 /// An attribute of a program's own.
 #[derive(Debug, PartialEq)]
 struct Priority(u32);

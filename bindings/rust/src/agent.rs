@@ -33,22 +33,43 @@ impl fmt::Display for TransportType {
 pub enum StunError {
     /// A request of this id is outstanding.
     AlreadyInProgress,
+    /// Kept from the Rust crate: no call of an agent answers it.
+    ResourceNotFound,
+    /// Kept from the Rust crate: no call of an agent answers it.
+    TimedOut,
     /// The message has a class that this call does not send, or the agent sends to another address alone.
     ProtocolViolation,
-    /// The bytes are no message of STUN.
+    /// Kept from the Rust crate: no call of an agent answers it.
+    Aborted,
+    /// The bytes are no message of STUN, or what was read of one is missing or malformed.
     ParseError(Refusal),
+    /// Something was not written. No call of an agent answers it.
+    WriteError(Refusal),
     /// An allocation failed.
     OutOfMemory,
 }
 
 impl StunError {
     fn of(answer: i64) -> Result<usize, StunError> {
-        Refusal::of(answer).map_err(|refusal| match refusal {
+        Refusal::of(answer).map_err(StunError::from)
+    }
+}
+
+impl From<Refusal> for StunError {
+    fn from(refusal: Refusal) -> StunError {
+        match refusal {
             Refusal::AlreadyInProgress => StunError::AlreadyInProgress,
             Refusal::ProtocolViolation => StunError::ProtocolViolation,
             Refusal::OutOfMemory => StunError::OutOfMemory,
-            other => StunError::ParseError(other),
-        })
+            Refusal::Truncated
+            | Refusal::NotStun
+            | Refusal::TooLarge
+            | Refusal::NoIntegrity
+            | Refusal::MalformedIntegrity
+            | Refusal::MissingAttribute
+            | Refusal::MalformedAttribute => StunError::ParseError(refusal),
+            _ => StunError::WriteError(refusal),
+        }
     }
 }
 
@@ -56,8 +77,11 @@ impl fmt::Display for StunError {
     fn fmt(&self, f: &mut fmt::Formatter<'_>) -> fmt::Result {
         match self {
             StunError::AlreadyInProgress => f.write_str("The operation is already in progress"),
+            StunError::ResourceNotFound => f.write_str("A required resource could not be found"),
+            StunError::TimedOut => f.write_str("An operation timed out"),
             StunError::ProtocolViolation => f.write_str("Unexpected data was received"),
-            StunError::ParseError(refusal) => refusal.fmt(f),
+            StunError::Aborted => f.write_str("Operation was aborted"),
+            StunError::ParseError(refusal) | StunError::WriteError(refusal) => refusal.fmt(f),
             StunError::OutOfMemory => f.write_str("Out of memory"),
         }
     }

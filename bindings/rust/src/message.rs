@@ -103,6 +103,12 @@ pub struct Message<'a> {
     bytes: &'a [u8],
 }
 
+impl AsRef<[u8]> for Message<'_> {
+    fn as_ref(&self) -> &[u8] {
+        self.bytes
+    }
+}
+
 impl<'a> Message<'a> {
     /// The message that these bytes are (RFC 8489, sections 5 and 14), or `Truncated`, `NotStun` or `TooLarge`.
     pub fn from_bytes(bytes: &'a [u8]) -> Result<Message<'a>, Refusal> {

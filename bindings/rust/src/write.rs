@@ -124,6 +124,12 @@ impl MessageWriteVec {
     }
 }
 
+impl AsRef<[u8]> for MessageWriteVec {
+    fn as_ref(&self) -> &[u8] {
+        &self.bytes
+    }
+}
+
 impl Deref for MessageWriteVec {
     type Target = [u8];
 
@@ -163,6 +169,12 @@ pub struct MessageWriteMutSlice<'a> {
 impl<'a> MessageWriteMutSlice<'a> {
     pub fn new(buffer: &'a mut [u8]) -> MessageWriteMutSlice<'a> {
         MessageWriteMutSlice { buffer, written: 0 }
+    }
+}
+
+impl AsRef<[u8]> for MessageWriteMutSlice<'_> {
+    fn as_ref(&self) -> &[u8] {
+        self.data()
     }
 }
 

@@ -2,7 +2,7 @@
 use std::net::SocketAddr;
 use std::time::Duration;
 use stun as stun_proto;
-use stun_proto::agent::{StunAgent, StunAgentPollRet};
+use stun_proto::agent::{StunAgent, StunAgentPollRet, StunError};
 use stun_proto::auth::*;
 use stun_proto::types::attribute::*;
 use stun_proto::types::message::*;
@@ -308,6 +308,34 @@ fn indications_are_sent_and_counted() {
     assert!(agent.handle_stun_message_with_time(&msg, server_addr(), Instant::ZERO).unwrap());
     let stats = agent.stats().unwrap();
     assert_eq!((stats.indications_sent(), stats.indications_received()), (1, 1));
+}
+
+/// Answers a request by the question mark alone.
+fn answered(agent: &mut StunAgent, bytes: &[u8], software: &str) -> Result<SocketAddr, StunError> {
+    let asked = Message::from_bytes(bytes)?;
+    let from = asked.attribute::<XorMappedAddress>()?.addr(asked.transaction_id());
+    let mut response = Message::builder_success(&asked, MessageWriteVec::new())?;
+    response.add_attribute(&Software::new(software)?)?;
+    let response = Message::from_bytes(&response)?;
+    Ok(agent.send(&response, from, Instant::ZERO)?.to)
+}
+
+#[test]
+fn refusals_are_errors_of_the_agent() {
+    let mut agent = StunAgent::builder(TransportType::Udp, client_addr()).remote_addr(server_addr()).build().unwrap();
+    let mut msg = request(1);
+    let missing = StunError::ParseError(StunParseError::MissingAttribute);
+    assert_eq!(answered(&mut agent, &msg, "stun"), Err(missing));
+    msg.add_attribute(&XorMappedAddress::new(server_addr(), id(1))).unwrap();
+    assert_eq!(answered(&mut agent, &msg, "stun"), Ok(server_addr()));
+    let long = StunError::WriteError(StunWriteError::TextTooLong);
+    assert_eq!(answered(&mut agent, &msg, &"s".repeat(764)), Err(long));
+    assert_eq!(long.to_string(), StunWriteError::TextTooLong.to_string());
+    assert_eq!(answered(&mut agent, &msg[..9], "stun"), Err(StunError::ParseError(StunParseError::Truncated)));
+    let mut elsewhere = request(1);
+    elsewhere.add_attribute(&XorMappedAddress::new(client_addr(), id(1))).unwrap();
+    assert_eq!(answered(&mut agent, &elsewhere, "stun"), Err(StunError::ProtocolViolation));
+    assert_eq!(agent.send_request(&msg, server_addr(), Instant::ZERO).map(|transmit| transmit.data.len()), Ok(msg.len()));
 }
 
 #[test]

@@ -24,7 +24,7 @@ mod write;
 /// The traits of attributes and of writers.
 pub mod prelude {
     pub use crate::attribute::{Attribute, AttributeFromRaw, AttributeStaticType};
-    pub use crate::write::{MessageWrite, MessageWriteExt, Write};
+    pub use crate::write::{MessageWrite, MessageWriteExt};
 }
 
 /// The paths of the Rust crate.

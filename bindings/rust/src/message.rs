@@ -7,7 +7,7 @@ pub use crate::attribute::{AttributeType, RawAttribute};
 pub use crate::credentials::*;
 use crate::error::Refusal;
 use crate::write::MessageWrite;
-pub use crate::write::{MessageWriteMutSlice, MessageWriteVec};
+pub use crate::write::{MessageWriteMutSlice, MessageWriteVec, WriteCall};
 use std::net::SocketAddr;
 
 /// Why bytes are not read. The Rust crate has three types of errors, here they are one.
@@ -166,13 +166,13 @@ impl<'a> Message<'a> {
     /// The first visible attribute of a type. Unlike a walk of `iter_attributes`, it takes time that grows as the message.
     pub fn raw_attribute(&self, kind: AttributeType) -> Option<RawAttribute<'a>> {
         let mut place = HEADER_LENGTH;
-        while let Some([high, low, length @ ..]) = self.bytes.get(place..place + ATTRIBUTE_HEADER_LENGTH) {
-            if AttributeType(u16::from_be_bytes([*high, *low])) == kind {
+        while let Some(&[a, b, c, d]) = self.bytes.get(place..place + ATTRIBUTE_HEADER_LENGTH) {
+            if AttributeType(u16::from_be_bytes([a, b])) == kind {
                 // Where the first of a type is not visible, none is.
                 let (found, _, length) = archive::next(self.bytes, place - 1)?;
                 return (found == place).then(|| RawAttribute::new(kind, &self.bytes[found + 4..][..length]));
             }
-            let length = length.iter().fold(0, |length, byte| length << 8 | usize::from(*byte));
+            let length = usize::from(u16::from_be_bytes([c, d]));
             place += ATTRIBUTE_HEADER_LENGTH + length.next_multiple_of(4);
         }
         None

@@ -88,6 +88,8 @@ fn authenticators_survive_refused_allocations() {
             let unsigned = Message::builder_request(BINDING, TransactionId([number; 12]), MessageWriteVec::new()).unwrap();
             let (signed, _) =
                 refused_in_turn(Refusal::OutOfMemory, || client.sign_outgoing_message(unsigned.clone()));
+            let (added, _) = refused_in_turn(Refusal::OutOfMemory, || client.message_signature_bytes());
+            assert_eq!(added, signed.len() - 20);
             let bytes = signed.finish();
             let asked = Message::from_bytes(&bytes).unwrap();
             let (verdict, _) = refused_in_turn(LongTermServerAuthErrorReason::OutOfMemory, || {

@@ -9,7 +9,7 @@ use std::ops::Deref;
 
 /// What writes after a message: it is handed a buffer and the number of bytes that the message has at the front of it, and
 /// answers how many there are then; or it refuses, and leaves the buffer.
-pub type Write<'a> = dyn FnMut(&mut [u8], usize) -> Result<usize, Refusal> + 'a;
+pub type WriteCall<'a> = dyn FnMut(&mut [u8], usize) -> Result<usize, Refusal> + 'a;
 
 /// Something that a message is written to: `MessageWriteVec`, `MessageWriteMutSlice`, or one of yours.
 pub trait MessageWrite {
@@ -21,7 +21,7 @@ pub trait MessageWrite {
 
     /// Has a call write after the bytes so far, with room for so many more, or for as many as there is room for. Or
     /// `OutOfMemory`, before the call.
-    fn write_with(&mut self, more: usize, call: &mut Write<'_>) -> Result<(), Refusal>;
+    fn write_with(&mut self, more: usize, call: &mut WriteCall<'_>) -> Result<(), Refusal>;
 
     fn finish(self) -> Self::Output;
 }
@@ -145,7 +145,7 @@ impl MessageWrite for MessageWriteVec {
         &self.bytes
     }
 
-    fn write_with(&mut self, more: usize, call: &mut Write<'_>) -> Result<(), Refusal> {
+    fn write_with(&mut self, more: usize, call: &mut WriteCall<'_>) -> Result<(), Refusal> {
         let length = self.bytes.len();
         self.bytes.try_reserve(more).map_err(|_| Refusal::OutOfMemory)?;
         self.bytes.resize(length + more, 0);
@@ -193,7 +193,7 @@ impl<'a> MessageWrite for MessageWriteMutSlice<'a> {
         &self.buffer[..self.written]
     }
 
-    fn write_with(&mut self, _more: usize, call: &mut Write<'_>) -> Result<(), Refusal> {
+    fn write_with(&mut self, _more: usize, call: &mut WriteCall<'_>) -> Result<(), Refusal> {
         self.written = call(self.buffer, self.written)?.min(self.buffer.len());
         Ok(())
     }

@@ -380,6 +380,37 @@ fn a_slice_is_written_to() {
     assert_eq!(&signed[..], &auth.sign_outgoing_message(request(1)).unwrap()[..]);
 }
 
+/// A writer of a program's own: what is written comes after a length of two bytes, as over TCP in other protocols.
+#[derive(Default)]
+struct Framed {
+    message: MessageWriteVec,
+}
+
+impl MessageWrite for Framed {
+    type Output = Vec<u8>;
+
+    fn data(&self) -> &[u8] {
+        self.message.data()
+    }
+
+    fn write_with(&mut self, more: usize, call: &mut WriteCall<'_>) -> Result<(), StunWriteError> {
+        self.message.write_with(more, call)
+    }
+
+    fn finish(self) -> Vec<u8> {
+        [&(self.message.len() as u16).to_be_bytes(), &self.message[..]].concat()
+    }
+}
+
+#[test]
+fn a_program_has_writers_of_its_own() {
+    let asked = request(1);
+    let asked = Message::from_bytes(&asked).unwrap();
+    let plain = success(&asked, client_addr(), MessageWriteVec::new()).finish();
+    let framed = success(&asked, client_addr(), Framed::default()).finish();
+    assert_eq!((&framed[..2], &framed[2..]), (&[0, 32][..], &plain[..]));
+}
+
 #[test]
 fn a_message_is_begun_in_an_empty_writer() {
     let refused = Message::builder_request(BINDING, id(2), request(1));

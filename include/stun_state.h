@@ -47,7 +47,7 @@
  *             if (verdict < 0) return verdict;
  *             answer = stun_agent_handle(agent, bytes, received, &from, moment());
  *             if (answer < 0) return answer;
- *             is_to_ask = verdict >= STUN_RESEND;
+ *             is_to_ask = stun_is_resend(verdict);
  *             if (is_to_ask) continue;
  *             if (type == STUN_ERROR) return stun_error_code(bytes, received);
  *             return stun_xor_mapped_address(bytes, received, octets, 16, port);

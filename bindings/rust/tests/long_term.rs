@@ -173,7 +173,7 @@ fn tells_by_what_a_challenge_is_signed() {
         let request = both.request();
         assert_eq!(both.answer(&request, Instant::ZERO, &WORDS).0, Ok(algorithm));
         // The success is lost, and the next request comes late and unsigned.
-        let unsigned = Message::builder_request(BINDING, TransactionId([99; 12])).finish();
+        let unsigned = Message::builder_request(BINDING, TransactionId([99; 12]), MessageWriteVec::new()).unwrap().finish();
         let late = Instant::ZERO + Duration::from_secs(3601);
         let (verdict, answer) = both.answer(&unsigned, late, &OTHER_WORDS);
         assert_eq!(verdict, Err(LongTermServerAuthErrorReason::Unauthorized));

@@ -190,7 +190,8 @@ fn tells_by_what_a_challenge_is_signed() {
         // A 438 that nobody signed is taken up at any time.
         both.from = "10.0.0.2:12345".parse().unwrap();
         assert_eq!(both.answer(&unsigned, late, &WORDS).0, Err(LongTermServerAuthErrorReason::Unauthorized));
-        let mut stale = Message::builder_error(&Message::from_bytes(&unsigned).unwrap());
+        let unsigned = Message::from_bytes(&unsigned).unwrap();
+        let mut stale = Message::builder_error(&unsigned, MessageWriteVec::new()).unwrap();
         stale.add_error_code(438, "").unwrap();
         let stale = both.server.sign_outgoing_message(stale, both.from).unwrap().finish();
         assert!(!has(&stale, AttributeType::MESSAGE_INTEGRITY) && !has(&stale, AttributeType::MESSAGE_INTEGRITY_SHA256));

@@ -6,6 +6,7 @@ pub mod CountLemmas
 pub mod DeadlineLemmas
 pub mod DueLemmas
 pub mod EntryLemmas
+pub mod FirstLemmas
 pub mod IndexedLemmas
 pub mod LastLemmas
 pub mod LentLemmas

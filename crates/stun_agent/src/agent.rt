@@ -57,7 +57,7 @@ ghost use Rattle.stun_agent.specs.Agent.{Agent};
 
 pub use crate::builder::StunAgentBuilder;
 pub use crate::deadlines::Reads;
-pub use crate::error::StunError;
+pub use crate::error::{NoRoom, StunError};
 use crate::outstanding::Outstanding;
 pub use crate::request::{StunRequest, StunRequestMut};
 pub use crate::rto::RequestRto;

@@ -32,6 +32,11 @@ pub enum StunError {
     OutOfMemory,
 }
 
+/// What is to be sent has more bytes than there is room for.
+#[derive(Clone, Copy, Debug, PartialEq, Eq, Error)]
+#[error("No room for what is to be sent")]
+pub struct NoRoom;
+
 impl From<StunParseError> for StunError {
     ghost use Rattle.std.specs.Prelude.{◌≡◌};
     ghost use Rattle.stun_agent.specs.declared.error.StunError.TheVariants.{ParseError};

@@ -1,5 +1,5 @@
 //! The requests that wait for their responses.
-ghost use Rattle.std.specs.Prelude.{◌≡◌, ◌+◌, ◌≤◌, [], length, Some, None, IfSome, OnOk, OnErr};
+ghost use Rattle.std.specs.Prelude.{◌≡◌, ◌+◌, ◌≤◌, ◌<◌, [], length, Some, None, IfSome, IsSomeAnd, IfOk, OnOk, OnErr};
 ghost use Rattle.std.specs.Option.{option_map, option_copied};
 ghost use Rattle.stun_agent.specs.Deadlines.{early_requests, IsUnused};
 ghost use Rattle.stun_agent.specs.Timing.{settings_of};
@@ -7,6 +7,7 @@ ghost use Rattle.stun_agent.specs.Transactions.{repeats, AreKept, at, with, with
 ghost use Rattle.stun_agent.specs.code.Transactions.{contents, told_of_end};
 
 use crate::deadlines::{DeadlineIndex, Reads};
+use crate::error::NoRoom;
 use crate::rto::RequestRto;
 use crate::transaction::Transaction;
 use crate::transactions::{self, Transactions};
@@ -150,6 +151,73 @@ impl<A: Allocator + Copy> Outstanding<A> {
             return None;
         }
         transactions::pass_slots(&mut self.requests, &mut self.deadlines, self.transport, now)
+    }
+
+    /// As `pass_due_slots`, where what is sent again has at most `room` bytes, and else nothing changes.
+    pub(crate) fn pass_due_slots_within(
+        &mut self,
+        now: Instant,
+        room: usize,
+    ) -> Result<Option<(TransactionId, usize)>, NoRoom>
+        ensures sent { IfOk result (λ sent. sent ≡ option_map (λ e. (e.0, length e.1.bytes))
+            (next_sent self.old.transport now self.old.requests)) }
+        ensures fits { OnOk result (IfSome (next_sent self.old.transport now self.old.requests)
+            (λ e. length e.1.bytes ≤ room)) }
+        ensures after { OnOk result (self.new ≡ record self.old {
+          requests = after_slots self.old.transport now
+              (option_map (λ e. e.0) (next_sent self.old.transport now self.old.requests))
+              self.old.requests;
+        }) }
+        ensures kept { IfOk result (λ sent. IfSome sent (λ s.
+            option_map contents (at s.0 self.new.requests)
+            ≡ option_map (λ e. contents e.1)
+            (next_sent self.old.transport now self.old.requests))) }
+        ensures refused { OnErr result (IsSomeAnd
+            (next_sent self.old.transport now self.old.requests)
+            (λ e. room < length e.1.bytes)) }
+        ensures same { OnErr result (self.new ≡ self.old) }
+    {
+        if !self.deadlines.has_come(now) {
+            return Ok(None);
+        }
+        // Mostly the first that is due is sent, and the search that finds it also measures it.
+        let Some((first, length)) = transactions::first_due(
+            &self.requests,
+            &self.deadlines,
+            self.transport,
+            now,
+        ) else {
+            self.check_room(now, room)?;
+            return Ok(self.pass_due_slots(now));
+        };
+        if room < length {
+            return Err(NoRoom);
+        }
+        let id = first.id;
+        transactions::pass_slot_of(
+            &mut self.requests,
+            &mut self.deadlines,
+            self.transport,
+            now,
+            first,
+        );
+        Ok(Some((id, length)))
+    }
+
+    fn check_room(&self, now: Instant, room: usize) -> Result<(), NoRoom>
+        ensures ok { OnOk result (IfSome (next_sent self.now.transport now self.now.requests)
+            (λ e. length e.1.bytes ≤ room)) }
+        ensures err { OnErr result (IsSomeAnd
+            (next_sent self.now.transport now self.now.requests)
+            (λ e. room < length e.1.bytes)) }
+    {
+        let Some(next) = self.next_sent(now) else {
+            return Ok(());
+        };
+        if room < next.bytes().len() {
+            return Err(NoRoom);
+        }
+        Ok(())
     }
 
     /// The request that `pass_due_slots` would send again.

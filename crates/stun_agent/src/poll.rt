@@ -1,5 +1,5 @@
 //! Ends and retransmissions.
-ghost use Rattle.std.specs.Prelude.{◌≡◌, ◌+◌, ◌≤◌, ◌<◌, IfSome};
+ghost use Rattle.std.specs.Prelude.{◌≡◌, ◌+◌, ◌≤◌, ◌<◌, length, IfSome, IsSomeAnd, IfOk, OnOk, OnErr};
 ghost use Rattle.std.specs.Borrow.{sem};
 ghost use Rattle.std.specs.Option.{option_map};
 ghost use Rattle.stun_agent.specs.Agent.{poll_answer, after_poll, ended_by_poll, sent_by_poll, after_poll_transmit, datagram_of};
@@ -11,6 +11,7 @@ ghost use Rattle.stun_agent.specs.code.Transactions.{contents, told_of_end};
 use crate::agent::{StunAgent, StunAgentPollRet};
 use crate::counting;
 use crate::deadlines::Reads;
+use crate::error::NoRoom;
 use crate::transmit::Transmit;
 use std::alloc::Allocator;
 use std::marker::Brand;
@@ -19,7 +20,7 @@ use stun_base::instant::Instant;
 use stun_base::transaction_id::TransactionId;
 
 impl<A: Allocator + Copy> StunAgent<A> {
-    ghost use Rattle.stun_agent.specs.AgentLends.{ends_as};
+    ghost use Rattle.stun_agent.specs.AgentLends.{ends_as, ends_if_ok_as};
 
     /// Ends at most one request, the one of the least id among those that are cancelled or past their end, and
     /// else says when to poll again: at the least moment that a request awaits, at most an hour from `now`, and
@@ -108,6 +109,40 @@ impl<A: Allocator + Copy> StunAgent<A> {
         })
     }
 
+    /// As `poll_transmit`, where the bytes fit into `room`. Where they do not, the agent is as before, and no transmission is
+    /// lost. It looks for the request once, as `poll_transmit` does, where that request is the first that is due.
+    pub fn poll_transmit_within(
+        &mut self,
+        now: Instant,
+        room: usize,
+    ) -> Result<Option<Transmit<&[u8]>>, NoRoom>
+        ensures* after { sem 𝓛 (ends_if_ok_as A.row A.Allocator self.entry result
+            (after_poll_transmit now self.old)) }
+        ensures sent { IfOk result (λ sent. option_map lent_datagram sent
+            ≡ option_map (λ e. datagram_of self.old e.1) (sent_by_poll now self.old)) }
+        ensures fits { OnOk result (IfSome (sent_by_poll now self.old)
+            (λ e. length e.1.bytes ≤ room)) }
+        ensures refused { OnErr result (IsSomeAnd (sent_by_poll now self.old)
+            (λ e. room < length e.1.bytes)) }
+    {
+        let Some(id) = self.pass_and_count_within(now, room)? else {
+            return Ok(None);
+        };
+        let transport = self.outstanding.transport();
+        let from = self.local_addr;
+        let Some(request) = self.outstanding.get(id) else {
+            return Ok(None);
+        };
+        let to = request.to();
+        let data = request.bytes();
+        Ok(Some(Transmit {
+            data,
+            transport,
+            from,
+            to,
+        }))
+    }
+
     /// What `poll_transmit` would lend at this moment, with the agent left as it is: for a caller that has to know the
     /// length before it takes the bytes, as for a buffer of its own. Does not allocate and copies nothing.
     pub fn next_transmit(&self, now: Instant) -> Option<Transmit<&[u8]>>
@@ -134,5 +169,30 @@ impl<A: Allocator + Copy> StunAgent<A> {
         let (id, length) = self.outstanding.pass_due_slots(now)?;
         counting::count_sent_again(&mut self.stats, length);
         Some(id)
+    }
+
+    // The same, where what is sent again fits into the room, and else nothing.
+    fn pass_and_count_within(
+        &mut self,
+        now: Instant,
+        room: usize,
+    ) -> Result<Option<TransactionId>, NoRoom>
+        ensures sent { IfOk result (λ sent. sent
+            ≡ option_map (λ e. e.0) (sent_by_poll now self.old)) }
+        ensures fits { OnOk result (IfSome (sent_by_poll now self.old)
+            (λ e. length e.1.bytes ≤ room)) }
+        ensures after { OnOk result (self.new ≡ after_poll_transmit now self.old) }
+        ensures kept { IfOk result (λ sent. IfSome sent (λ id.
+            option_map contents (at id self.new.transactions)
+            ≡ option_map (λ e. contents e.1) (sent_by_poll now self.old))) }
+        ensures refused { OnErr result (IsSomeAnd (sent_by_poll now self.old)
+            (λ e. room < length e.1.bytes)) }
+        ensures same { OnErr result (self.new ≡ self.old) }
+    {
+        let Some((id, length)) = self.outstanding.pass_due_slots_within(now, room)? else {
+            return Ok(None);
+        };
+        counting::count_sent_again(&mut self.stats, length);
+        Ok(Some(id))
     }
 }

@@ -2,8 +2,9 @@
 ghost use Rattle.std.specs.Prelude.{◌≡◌, length, Some, None, IfSome, IsTrue, MatchOption};
 ghost use Rattle.std.specs.Ordering.{nat_cmp};
 ghost use Rattle.std.specs.BTreeMap.{get};
+ghost use Rattle.std.specs.List.Sorted.{IsNonDecreasingBy};
 ghost use Rattle.std.specs.Option.{option_map};
-ghost use Rattle.stun_agent.specs.code.Deadlines.{deadline_of, IsInOrder, HasEntry, IsIndexOf, IsRenewed};
+ghost use Rattle.stun_agent.specs.code.Deadlines.{deadline_of, least_due, IsInOrder, HasEntry, IsIndexOf, IsRenewed};
 ghost use Rattle.stun_agent.specs.Timing.{settings_of};
 ghost use Rattle.stun_agent.specs.Transactions.{repeats, IsAscending, at, sooner, is_due, next_sent, after_slot, after_slots, changed, silenced, cancelled, configured};
 ghost use Rattle.stun_agent.specs.code.Transactions.{contents, length_sent};
@@ -72,6 +73,47 @@ pub(crate) fn pass_slots<A: Allocator>(
         last = Some(id);
     }
     None
+}
+
+/// The first slot that is due, and how many bytes are sent again of its request. One search finds both. None where that request is
+/// silent.
+pub(crate) fn first_due<A: Allocator>(
+    all: &Transactions<A>,
+    deadlines: &DeadlineIndex<A>,
+    transport: TransportType,
+    now: Instant,
+) -> Option<(Deadline, usize)>
+    requires { IsNonDecreasingBy (λ d. d.moment) deadlines.now }
+    ensures first { IfSome result (λ f. least_due now None deadlines.now ≡ Some f.0.id) }
+    ensures deadline { IfSome result (λ f. Some f.0
+        ≡ option_map (λ t. deadline_of transport (f.0.id, t)) (at f.0.id all.now.entries)) }
+    ensures length { IfSome result (λ f. MatchOption (at f.0.id all.now.entries)
+        (Some f.1 ≡ None) (λ t. Some f.1 ≡ length_sent t)) }
+{
+    let id = deadlines.least_due(now, &None)?;
+    let transaction = all.get(&id)?;
+    let length = transaction.length_sent()?;
+    Some((transaction.deadline(id, transport), length))
+}
+
+/// Passes the slot whose deadline this is.
+pub(crate) fn pass_slot_of<A: Allocator>(
+    all: &mut Transactions<A>,
+    deadlines: &mut DeadlineIndex<A>,
+    transport: TransportType,
+    now: Instant,
+    before: Deadline,
+)
+    requires index { IsIndexOf transport all.old.entries deadlines.old }
+    requires told { Some before ≡ option_map (λ t. deadline_of transport (before.id, t))
+        (at before.id all.old.entries) }
+    requires due { IfSome (at before.id all.old.entries)
+        (λ t. IsTrue (is_due transport now t)) }
+    ensures after { all.new.entries ≡ changed (after_slot now) before.id all.old.entries }
+    ensures index { IsIndexOf transport all.new.entries deadlines.new }
+{
+    let _sent = take_slot(all, transport, now, before.id);
+    renew(deadlines, all, transport, before);
 }
 
 // Passes the slot of the transaction at an id, and tells how many bytes it has where it is sent again.

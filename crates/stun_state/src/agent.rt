@@ -217,22 +217,6 @@ fn put_id(out: &mut [u8], id: TransactionId)
     BigEndian::write_uint128(out, id.as_u128(), ID_LENGTH);
 }
 
-/// Refuses room for `room` bytes where more are to be sent again now.
-fn check_room(agent: &StunAgent<Global>, now: Instant, room: usize) -> Result<(), Refusal>
-    ensures ok { OnOk result (IfSome (sent_by_poll now agent.now)
-        (λ e. length e.1.bytes ≤ room)) }
-    ensures err { IfErr result (λ refusal. sent_again room (sent_by_poll now agent.now)
-        ≡ Err refusal) }
-{
-    let Some(next) = agent.next_transmit(now) else {
-        return Ok(());
-    };
-    if room < next.data.len() {
-        return Err(Refusal::BufferTooSmall);
-    }
-    Ok(())
-}
-
 /// The request that is to be sent again now, at the front of the buffer, and where to: how many bytes there are.
 pub fn poll_transmit(
     agent: &mut StunAgent<Global>,
@@ -249,9 +233,7 @@ pub fn poll_transmit(
     ensures err { OnErr result ((agent.new ≡ agent.old) × (out.new ≡ out.old)
         × (to.new ≡ to.old)) }
 {
-    let now = Instant::from_nanos(now);
-    check_room(agent, now, out.len())?;
-    let Some(again) = agent.poll_transmit(now) else {
+    let Some(again) = agent.poll_transmit_within(Instant::from_nanos(now), out.len())? else {
         return Ok(0);
     };
     let bytes = again.data;

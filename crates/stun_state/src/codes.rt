@@ -4,6 +4,7 @@ ghost use Rattle.std.specs.Prelude.{◌≡◌, IfOk, IfErr, Some, None};
 ghost use Rattle.stun_state.specs.Codes.{algorithm_number, code_of, feature_numbered, refusal_of_write};
 
 use std::alloc::AllocError;
+use stun_agent::agent::NoRoom;
 use stun_auth::auth::{Feature, LongTermClientAuthErrorReason, LongTermServerAuthErrorReason};
 use stun_base::algorithm::IntegrityAlgorithm;
 use stun_base::error::{StunParseError, StunWriteError};
@@ -161,6 +162,17 @@ impl From<LongTermClientAuthErrorReason> for Refusal {
             LongTermClientAuthErrorReason::UnsupportedFeature => Refusal::UnsupportedFeature,
             LongTermClientAuthErrorReason::OutOfMemory => Refusal::OutOfMemory,
         }
+    }
+}
+
+impl From<NoRoom> for Refusal {
+    ghost use Rattle.std.specs.Prelude.{◌≡◌};
+    ghost use Rattle.stun_state.specs.declared.codes.Refusal.TheVariants.{BufferTooSmall};
+
+    ghost from_gives = { λ _ refusal. refusal ≡ BufferTooSmall };
+
+    fn from(_error: NoRoom) -> Refusal {
+        Refusal::BufferTooSmall
     }
 }
 

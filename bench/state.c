@@ -8,6 +8,16 @@
 
 enum { MOST_TIMES = 100, ID = STUN_ID_LENGTH };
 
+/* The calls, each named once before the first is made. */
+enum call {
+    POLL, POLL_TRANSMIT, TRANSMITS_ONE, ENDS_ONE, SENDS_LAST, RESPONDS, CANCELS, FINDS,
+    VALIDATES_SHA1, VALIDATES_SHA256, PARSES_SHA1, PARSES_SHA256, VERIFIES, CALLS
+};
+static const char *const names[CALLS] = {
+    "poll", "poll_transmit", "transmits_one", "ends_one", "sends_last", "responds", "cancels", "finds",
+    "validates_sha1", "validates_sha256", "parses_sha1", "parses_sha256", "verifies",
+};
+
 static const uint64_t SECOND = 1000000000;
 static const uint32_t words[16];
 
@@ -40,6 +50,24 @@ static struct message message_of(uint32_t class, uint32_t number) {
     return message;
 }
 
+/* ---- The memory of the archive: malloc alone, as a program of Rattle has it. */
+
+typedef struct { bool is_ok; void *at; } rattle_allocation;
+
+static rattle_allocation allocation(void *at) { return (rattle_allocation){at != NULL, at}; }
+
+rattle_allocation rattle_alloc(size_t length, size_t alignment) {
+    (void)alignment;
+    return allocation(malloc(length));
+}
+
+rattle_allocation rattle_realloc(void *at, size_t kept, size_t length, size_t alignment) {
+    (void)kept, (void)alignment;
+    return allocation(realloc(at, length));
+}
+
+void rattle_dealloc(void *at) { free(at); }
+
 /* ---- Calls of an agent that has sent a request in each microsecond. */
 
 static stun_agent agent;
@@ -56,22 +84,21 @@ static void prepare_agent(uint32_t size, uint32_t transmissions, uint32_t class,
     for (uint32_t i = 0; i < MOST_TIMES; i++) messages[i] = message_of(class, first + i);
 }
 
-static bool agent_does(const char *call, uint32_t size, uint32_t turn) {
+static bool agent_does(enum call call, uint32_t size, uint32_t turn) {
     const struct message *message = &messages[turn];
     stun_address to = address_of(0);
     uint8_t out[64], *id = messages[turn].bytes + 8;
     uint64_t until;
-    if (strcmp(call, "poll") == 0) return stun_agent_poll(&agent, moment(size), &until, out, sizeof out) == 0;
-    if (strcmp(call, "poll_transmit") == 0) return stun_agent_poll_transmit(&agent, moment(size), out, sizeof out, &to) == 0;
-    if (strcmp(call, "transmits_one") == 0)
-        return stun_agent_poll_transmit(&agent, moment(turn + 1 + 500000), out, sizeof out, &to) > 0;
-    if (strcmp(call, "ends_one") == 0)
-        return stun_agent_poll(&agent, moment(turn + 1 + 8000000), &until, out, sizeof out) == STUN_TIMED_OUT;
-    if (strcmp(call, "sends_last") == 0)
-        return stun_agent_send_request(&agent, message->bytes, message->length, &to, moment(size)) == 0;
-    if (strcmp(call, "responds") == 0) return stun_agent_handle(&agent, message->bytes, message->length, &to, 0) == 1;
-    if (strcmp(call, "cancels") == 0) return stun_agent_cancel(&agent, id, ID) == 1;
-    return stun_agent_is_outstanding(&agent, id, ID, &to) == 1;
+    switch (call) {
+    case POLL: return stun_agent_poll(&agent, moment(size), &until, out, sizeof out) == 0;
+    case POLL_TRANSMIT: return stun_agent_poll_transmit(&agent, moment(size), out, sizeof out, &to) == 0;
+    case TRANSMITS_ONE: return stun_agent_poll_transmit(&agent, moment(turn + 1 + 500000), out, sizeof out, &to) > 0;
+    case ENDS_ONE: return stun_agent_poll(&agent, moment(turn + 1 + 8000000), &until, out, sizeof out) == STUN_TIMED_OUT;
+    case SENDS_LAST: return stun_agent_send_request(&agent, message->bytes, message->length, &to, moment(size)) == 0;
+    case RESPONDS: return stun_agent_handle(&agent, message->bytes, message->length, &to, 0) == 1;
+    case CANCELS: return stun_agent_cancel(&agent, id, ID) == 1;
+    default: return stun_agent_is_outstanding(&agent, id, ID, &to) == 1;
+    }
 }
 
 /* ---- Calls of a server that knows so many users and addresses. */
@@ -131,26 +158,42 @@ static bool verifies(void) {
 
 static bool parses(void) { return stun_parse(signed_request.bytes, signed_request.length) == 0; }
 
-int main(int count, char **arguments) {
-    if (count != 4) fail("usage: state CALL SIZE TIMES");
-    const char *call = arguments[1];
-    uint32_t size = (uint32_t)strtoul(arguments[2], NULL, 10), times = (uint32_t)strtoul(arguments[3], NULL, 10), done = 0;
-    if (times > MOST_TIMES) fail("too many times");
-    bool is_strong = strstr(call, "sha256") != NULL, is_server = is_strong || strstr(call, "sha1") != NULL;
-    if (is_server) prepare_server(size, is_strong);
-    else if (strcmp(call, "verifies") == 0) {
+static enum call named(const char *name) {
+    for (int i = 0; i < CALLS; i++)
+        if (strcmp(name, names[i]) == 0) return (enum call)i;
+    fail("no such call");
+    return CALLS;
+}
+
+static void prepare(enum call call, uint32_t size) {
+    switch (call) {
+    case VALIDATES_SHA1: case PARSES_SHA1: prepare_server(size, false); break;
+    case VALIDATES_SHA256: case PARSES_SHA256: prepare_server(size, true); break;
+    case VERIFIES:
         signed_request = message_of(STUN_REQUEST, 2);
         signed_request.length = (size_t)stun_sign(signed_request.bytes, 512, 20, STUN_SHA1, (const uint8_t *)"pass", 4);
-    } else {
-        bool is_response = strcmp(call, "responds") == 0, is_new = strcmp(call, "sends_last") == 0;
-        prepare_agent(size, strcmp(call, "ends_one") == 0 ? 1 : 7, is_response ? STUN_SUCCESS : STUN_REQUEST, is_new ? size : 0);
+        break;
+    default:
+        prepare_agent(size, call == ENDS_ONE ? 1 : 7, call == RESPONDS ? STUN_SUCCESS : STUN_REQUEST, call == SENDS_LAST ? size : 0);
     }
-    for (uint32_t turn = 0; turn < times; turn++) {
-        if (strncmp(call, "parses", 6) == 0) done += parses();
-        else if (is_server) done += is_validated(0);
-        else if (strcmp(call, "verifies") == 0) done += verifies();
-        else done += agent_does(call, size, turn);
+}
+
+static bool is_done(enum call call, uint32_t size, uint32_t turn) {
+    switch (call) {
+    case PARSES_SHA1: case PARSES_SHA256: return parses();
+    case VALIDATES_SHA1: case VALIDATES_SHA256: return is_validated(0);
+    case VERIFIES: return verifies();
+    default: return agent_does(call, size, turn);
     }
+}
+
+int main(int count, char **arguments) {
+    if (count != 4) fail("usage: state CALL SIZE TIMES");
+    enum call call = named(arguments[1]);
+    uint32_t size = (uint32_t)strtoul(arguments[2], NULL, 10), times = (uint32_t)strtoul(arguments[3], NULL, 10), done = 0;
+    if (times > MOST_TIMES) fail("too many times");
+    prepare(call, size);
+    for (uint32_t turn = 0; turn < times; turn++) done += is_done(call, size, turn);
     printf("%u\n", done);
     stun_agent_free(&agent);
     stun_server_free(&server);

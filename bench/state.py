@@ -21,6 +21,9 @@ TOP = os.path.dirname(HERE)
 LIBRARY = os.path.join(TOP, "crates", "bench_agent", "out", "bench_agent")
 FEW, MANY, BAR = 10, 50, 150
 
+# malloc sets no small block aside when it is freed: else all of them are gathered in whichever call next asks for a large one.
+ENVIRONMENT = dict(os.environ, GLIBC_TUNABLES="glibc.malloc.mxfast=0")
+
 # The row of both programs, its title, and the row of what the library's call leaves to its caller.
 ROWS = [
     ("verifies", "verify, 44 bytes, HMAC-SHA1", None),
@@ -50,7 +53,7 @@ def done(words, **how):
 def instructions(program, call, size, times):
     with tempfile.TemporaryDirectory() as room:
         words = ["valgrind", "--tool=callgrind", f"--callgrind-out-file={room}/counts", program, call, str(size), str(times)]
-        printed, _ = done(words)
+        printed, _ = done(words, env=ENVIRONMENT)
         if f"{times}\n" not in printed.splitlines(keepends=True):
             sys.exit(f"bench: not each call did its work: {' '.join(words)}\n{printed}")
         with open(f"{room}/counts") as lines:
@@ -69,10 +72,10 @@ def build(room):
         _, seconds = done(["rt", "lib"], cwd=folder)
         print(f"rt lib in crates/{name}: {seconds:.0f} s", file=sys.stderr)
         archives.append(os.path.join(folder, "out", f"lib{name}.a"))
-    sources = [os.path.join(HERE, "state.c"), os.path.join(TOP, "examples", "c", "heap.c")]
+    source = os.path.join(HERE, "state.c")
     program = os.path.join(room, "state")
     compiler = os.environ.get("CC", "cc")
-    done([compiler, "-std=c99", "-O2", "-Wall", "-Wextra", "-Werror", "-I" + os.path.join(TOP, "include")] + sources + archives + ["-o", program])
+    done([compiler, "-std=c99", "-O2", "-Wall", "-Wextra", "-Werror", "-I" + os.path.join(TOP, "include"), source] + archives + ["-o", program])
     _, seconds = done(["rt", "run", "--", "poll", "1", "1"], cwd=os.path.dirname(os.path.dirname(LIBRARY)))
     print(f"rt run in crates/bench_agent: {seconds:.0f} s", file=sys.stderr)
     return program

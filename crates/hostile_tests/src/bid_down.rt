@@ -37,6 +37,16 @@ fn without_list(mut challenge: Vec<u8>) -> Vec<u8> {
     challenge
 }
 
+/// The challenge whose list offers MD5 alone: it is four bytes shorter.
+fn with_weaker_list(challenge: Vec<u8>) -> Result<Vec<u8>, Fail> {
+    let mut weakened = without_list(challenge);
+    weakened.extend_from_slice(&[0x80, 0x02, 0, 4, 0, 1, 0, 0])?;
+    if let Some(length) = weakened.get_mut(3) {
+        *length = length.saturating_add(8);
+    }
+    Ok(weakened)
+}
+
 /// The challenge whose nonce asks for hashed names alone: `wAAA` is `QAAA`.
 fn without_bit(mut challenge: Vec<u8>) -> Vec<u8> {
     if let Some(letter) = challenge.get_mut(BITS) {
@@ -87,6 +97,16 @@ fn a_server_refuses_changed_security_bits(rt: HostRuntime) -> Result<(), Fail> {
     let stripped = without_list(without_bit(challenge));
     let answer = answer_to(&rt, alloc, &mut server, stripped.as_slice())?;
     assert_eq!(rt; answer, server::UNAUTHORIZED);
+    Ok(())
+}
+
+/// The client takes up the weaker algorithm, and the server sees that the list is not the one it offered.
+#[test]
+fn a_server_refuses_a_weaker_list(rt: HostRuntime) -> Result<(), Fail> {
+    let (mut server, challenge) = challenged(rt.alloc())?;
+    let weakened = with_weaker_list(challenge)?;
+    let answer = answer_to(&rt, rt.alloc(), &mut server, weakened.as_slice())?;
+    assert_eq!(rt; answer, server::BAD_REQUEST);
     Ok(())
 }
 

@@ -1,4 +1,4 @@
-//! Tests of a server before hostile messages, and of what it shows of itself.
+//! Tests of a server before hostile messages, of what it shows of itself, and of what signing refuses.
 #![tactic(auto)]
 
 #[cfg(test)]
@@ -7,5 +7,7 @@ mod bid_down;
 mod long;
 #[cfg(test)]
 mod server;
+#[cfg(test)]
+mod signing;
 #[cfg(test)]
 mod texts;

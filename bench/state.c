@@ -52,8 +52,6 @@ static struct message message_of(uint32_t class, uint32_t number) {
 
 /* ---- The memory of the archive: malloc alone, as a program of Rattle has it. */
 
-typedef struct { bool is_ok; void *at; } rattle_allocation;
-
 static rattle_allocation allocation(void *at) { return (rattle_allocation){at != NULL, at}; }
 
 rattle_allocation rattle_alloc(size_t length, size_t alignment) {

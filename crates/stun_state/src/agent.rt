@@ -1,10 +1,11 @@
 //! What the exports do with an agent (RFC 8489, section 6.2).
 
-ghost use Rattle.std.specs.Prelude.{◌≡◌, ◌≤◌, ◌++◌, ⊤, length, drop, Some, None, Ok, Err, IfOk, IfErr, IfNone, IfSome, OnErr, OnOk};
+ghost use Rattle.std.specs.Prelude.{◌≡◌, ◌≤◌, ◌++◌, ◌||◌, not, ⊤, IsTrue, length, drop, Some, None, Ok, Err, IfOk, IfErr, IfNone, IfSome, OnErr, OnOk};
 ghost use Rattle.std.specs.Duration.{as_nanos};
 ghost use Rattle.std.specs.Option.{option_map};
 ghost use Rattle.byteorder.specs.Endian.{big_bytes};
-ghost use Rattle.stun_agent.specs.Agent.{after_message, after_poll, after_poll_transmit, after_send, after_send_request, poll_answer, sent_by_poll};
+ghost use Rattle.stun_agent.specs.Agent.{after_message, after_poll, after_poll_transmit, after_send, after_send_request, poll_answer, sent_by_poll, takes_message};
+ghost use Rattle.stun_agent.specs.Peers.{is_peer};
 ghost use Rattle.stun_agent.specs.Transactions.{cancelled, configured, silenced};
 ghost use Rattle.stun_state.specs.Addresses.{socket_address};
 ghost use Rattle.stun_state.specs.Agent.{bytes_told, found, handled, id_in, id_told, kept_after_naming, known, made, made_with, moment_told, nanoseconds, peer_found, polled, refusal_of_agent, requested, sent, sent_again, sent_to, settings_of, told, told_of, transport_numbered, with_changed};
@@ -254,6 +255,11 @@ pub fn handle(
     ensures ok { OnOk result (IfSome (socket_address from.now)
         (λ from. agent.new ≡ after_message (Some now) message.now from agent.old)) }
     ensures err { OnErr result (agent.new ≡ agent.old) }
+
+    // A message that is not taken, or comes from an address that is kept already, wants no memory.
+    ensures no_memory { IfSome (socket_address from.now) (λ from.
+        IsTrue (is_peer from agent.old.peers || not (takes_message message.now from agent.old)) →
+        result ≡ handled agent.old message.now from) }
 {
     let from = from.socket()?;
     let message = Message::from_bytes(message)?;

@@ -124,7 +124,7 @@ fn a_transmit_is_owned_or_not(rt: HostRuntime) -> Result<(), Fail> {
     heap.each_refusal(|nth| owns(&rt, &heap, nth))
 }
 
-/// Polls, changes of a request, its end and a response from a known peer ask for no memory.
+/// Polls, changes of a request, its end, stray responses and one from a known peer ask for no memory.
 #[test]
 fn polls_do_not_allocate(rt: HostRuntime) -> Result<(), Fail> {
     let heap = RefusingAllocator::new(rt.alloc());
@@ -138,6 +138,7 @@ fn polls_do_not_allocate(rt: HostRuntime) -> Result<(), Fail> {
     let allocations = heap.allocations();
     heap.refuse(1);
     waits_and_sends_again(&rt, &mut agent)?;
+    drops_stray_responses(&rt, &mut agent)?;
     ends_each_request(&rt, &mut agent)?;
     assert!(rt; heap.is_waiting());
     assert_eq!(rt; heap.allocations(), allocations);
@@ -159,6 +160,16 @@ fn waits_and_sends_again(rt: &impl Abort, agent: &mut StunAgent<&Heap>) -> Resul
     }
     assert!(rt; agent.poll_transmit(at(500)).is_none());
     assert_eq!(rt; agent.next_awaited(), Some(at(1500)));
+    Ok(())
+}
+
+/// A response with another id is not taken, nor one from another address.
+fn drops_stray_responses(rt: &impl Abort, agent: &mut StunAgent<&Heap>) -> Result<(), Fail> {
+    for (number, from) in [(4, peer()), (3, address(7, 1))] {
+        let bytes = message(SUCCESS, number);
+        let response = Message::from_bytes(&bytes)?;
+        assert_eq!(rt; agent.handle_stun_message(&response, from), Ok(false));
+    }
     Ok(())
 }
 

@@ -159,6 +159,18 @@ fn reset_forgets_what_is_outstanding(rt: HostRuntime) -> Result<(), Fail> {
 }
 
 #[test]
+fn reset_forgets_round_trips(rt: HostRuntime) -> Result<(), Fail> {
+    let mut agent = counting_agent(rt.alloc(), UDP);
+    ask(&mut agent, 1, at(0))?;
+    assert!(rt; takes(&mut agent, &message(SUCCESS, 1), at(10))?);
+    agent.stats_mut().ok_or("they are kept")?.reset();
+    assert!(rt; statistics(&agent)? == &StunAgentStats::default());
+    ask(&mut agent, 2, at(10))?;
+    assert!(rt; takes(&mut agent, &message(SUCCESS, 2), at(40))?);
+    expect_trips(&rt, &agent, 1, [30_000_000; 3])
+}
+
+#[test]
 fn without_statistics_none_are_kept(rt: HostRuntime) {
     let mut agent = StunAgent::builder(rt.alloc(), UDP, local()).build();
     assert!(rt; agent.stats().is_none());

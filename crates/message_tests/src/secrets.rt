@@ -5,7 +5,7 @@ use std::process::Abort;
 use std::test::Fail;
 use stun_types::message::{
     IntegrityAlgorithm, IntegrityKey, LongTermCredentials, MessageIntegrityCredentials,
-    ShortTermCredentials,
+    PreparedKey, ShortTermCredentials,
 };
 use test_support::secrets::{are_silent, shown};
 
@@ -40,5 +40,7 @@ fn keys_are_silent(rt: HostRuntime) -> Result<(), Fail> {
     let short: IntegrityKey = IntegrityKey::from_bytes(alloc, b"wonderland")?;
     expect_silent(&rt, alloc, &short)?;
     let long: IntegrityKey = IntegrityKey::from_bytes(alloc, &[119; 64])?;
-    expect_silent(&rt, alloc, &long)
+    expect_silent(&rt, alloc, &long)?;
+    let prepared = PreparedKey::new(long, IntegrityAlgorithm::Sha1);
+    expect_silent(&rt, alloc, &prepared)
 }

@@ -1,15 +1,21 @@
-//! What the errors of runs and of authenticators say, and a signing that a server refuses in a run.
+//! What the errors of runs and of authenticators say, what `Debug` shows of a call, and a signing that a server refuses in a
+//! run.
 use std::test::Fail;
 use stun_auth::auth::{LongTermClientAuth, LongTermServerAuth};
 use stun_proto::replay::{NegotiateError, ServerCall, ServerReply, Stopped, negotiate, serve};
 use stun_types::attribute::AttributeType;
 use stun_types::message::{Message, StunWriteError, TransactionId};
 use test_support::datagrams::{address, at};
+use test_support::secrets::{are_silent, shown};
 use test_support::spelled::bytes_of;
 use test_support::words::Words;
 
 /// A Binding request with id 1.
 const REQUEST: &str = "000100002112a442000000000000000000000001";
+
+/// The same with a MESSAGE-INTEGRITY of zeros.
+const NAMELESS: &str =
+    "000100182112a442000000000000000000000001000800140000000000000000000000000000000000000000";
 
 /// A Binding error with id 1, ERROR-CODE 401 and a REALM.
 const REALM_ALREADY: &str =
@@ -25,41 +31,67 @@ fn of_errors(rt: HostRuntime) -> Result<(), Fail> {
     );
     let memory = NegotiateError::Memory;
     assert_eq!(rt; format!(in alloc; "{memory}")?.as_str(), "out of memory");
+    let write = NegotiateError::Write(StunWriteError::TooSmall);
+    assert_eq!(rt;
+        format!(in alloc; "{write}")?.as_str(),
+        "the writer has too little room"
+    );
     Ok(())
 }
 
-/// A server refuses a request without integrity, and says why.
+/// A server refuses a request without integrity, and one that is signed without a name, and says why.
 #[test]
 fn of_a_refusal_of_a_server(rt: HostRuntime) -> Result<(), Fail> {
     let alloc = rt.alloc();
     let mut server = LongTermServerAuth::new(alloc, String::from_str(alloc, "realm")?);
-    let bytes = bytes_of(alloc, REQUEST)?;
-    let message = Message::from_bytes(bytes.as_slice())?;
-    let mut words = Words::new([0; 16]);
-    match server.validate_incoming_message(&message, address(1, 5000), at(0), &mut words) {
-        Ok(_) => assert!(rt; false),
-        Err(error) => assert_eq!(rt;
-            format!(in alloc; "{error}")?.as_str(),
-            "The message is not sufficiently authenticated"
-        ),
+    for (digits, text) in [
+        (REQUEST, "The message is not sufficiently authenticated"),
+        (NAMELESS, "The request message is not well-formed"),
+    ] {
+        let bytes = bytes_of(alloc, digits)?;
+        let message = Message::from_bytes(bytes.as_slice())?;
+        let mut words = Words::new([0; 16]);
+        match server.validate_incoming_message(&message, address(1, 5000), at(0), &mut words) {
+            Ok(_) => assert!(rt; false),
+            Err(error) => assert_eq!(rt; format!(in alloc; "{error}")?.as_str(), text),
+        }
     }
     Ok(())
 }
 
-/// A client cannot check a request without integrity, and says so.
+/// A client cannot check a request without integrity, nor take up a challenge without a nonce, and says so.
 #[test]
 fn of_a_refusal_of_a_client(rt: HostRuntime) -> Result<(), Fail> {
     let alloc = rt.alloc();
     let mut client = LongTermClientAuth::new(alloc);
-    let bytes = bytes_of(alloc, REQUEST)?;
-    let message = Message::from_bytes(bytes.as_slice())?;
-    match client.validate_incoming_message(&message) {
-        Ok(_) => assert!(rt; false),
-        Err(error) => assert_eq!(rt;
-            format!(in alloc; "{error}")?.as_str(),
-            "The message failed integrity checks"
+    for (digits, text) in [
+        (REQUEST, "The message failed integrity checks"),
+        (
+            REALM_ALREADY,
+            "The message is not sufficiently authenticated",
         ),
+    ] {
+        let bytes = bytes_of(alloc, digits)?;
+        let message = Message::from_bytes(bytes.as_slice())?;
+        match client.validate_incoming_message(&message) {
+            Ok(_) => assert!(rt; false),
+            Err(error) => assert_eq!(rt; format!(in alloc; "{error}")?.as_str(), text),
+        }
     }
+    Ok(())
+}
+
+/// Whatever the formatter asks for, and where a write fails.
+#[test]
+fn debug_shows_no_password_of_a_call(rt: HostRuntime) -> Result<(), Fail> {
+    let alloc = rt.alloc();
+    let call = ServerCall::AddUser {
+        name: String::from_str(alloc, "alice")?,
+        password: String::from_str(alloc, "wonderland")?,
+    };
+    let texts = shown(alloc, &call)?;
+    assert_eq!(rt; texts[0].as_str(), "AddUser { .. }");
+    assert!(rt; are_silent(&texts, &["alice", "wonderland"]));
     Ok(())
 }
 

@@ -5,7 +5,7 @@ mod schedule;
 mod serve;
 
 use crate::check::check;
-use crate::input::{Counted, Failure};
+use crate::input::{Counted, Failure, read_to_end};
 use crate::run;
 use crate::status::Status;
 use fail_alloc::RefusingAllocator;
@@ -317,23 +317,43 @@ fn each_allocation_refused(rt: HostRuntime) -> Result<(), Fail> {
     let alloc = rt.alloc();
     let password = words(alloc, &[LONG_PASSWORD])?;
     let heap = RefusingAllocator::new(alloc);
-    for nth in 1..100 {
+    heap.each_refusal(|nth| {
         heap.refuse(nth);
         let mut reader = Counted::new(SAMPLE_REQUEST.as_bytes());
         let mut writer = Vec::new(alloc);
         let status = check(&heap, password.as_slice(), &mut reader, &mut writer);
+        let met_none = heap.met_none();
         // A growth that was refused may be tried again for less.
         if status == Status::Failed {
-            assert!(rt; !heap.is_waiting());
+            assert!(rt; !met_none);
             assert!(rt; writer.is_empty());
         } else {
             assert_eq!(rt; status, Status::Refused);
             assert_eq!(rt; writer.as_slice(), b"invalid\n".as_slice());
         }
-        if heap.is_waiting() {
-            assert!(rt; nth > 1);
-            return Ok(());
-        }
+        assert!(rt; nth > 1 || !met_none);
+        Ok(met_none)
+    })
+}
+
+/// Reads byte by byte while the nth allocation is refused: all, or nothing.
+fn reads(rt: &impl Abort, heap: &RefusingAllocator<Global>, nth: u64) -> Result<bool, Fail> {
+    let mut reader = Counted::new(SlowReader {
+        rest: SAMPLE_REQUEST.as_bytes(),
+        is_interrupted: false,
+    });
+    heap.refuse(nth);
+    let answer = read_to_end(heap, &mut reader);
+    let met_none = heap.met_none();
+    match answer {
+        Ok(bytes) => assert_eq!(rt; bytes.as_slice(), SAMPLE_REQUEST.as_bytes()),
+        Err(Failure) => assert!(rt; !met_none),
     }
-    panic!(rt; "each run met a refusal")
+    Ok(met_none)
+}
+
+#[test]
+fn all_is_read_or_nothing(rt: HostRuntime) -> Result<(), Fail> {
+    let heap = RefusingAllocator::new(rt.alloc());
+    heap.each_refusal(|nth| reads(&rt, &heap, nth))
 }

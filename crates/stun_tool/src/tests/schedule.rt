@@ -182,7 +182,7 @@ fn each_allocation_refused(rt: HostRuntime) -> Result<(), Fail> {
     let alloc = rt.alloc();
     let settings = settings_of(words(alloc, DEFAULT_WORDS)?.as_slice()).ok_or("right words")?;
     let heap = RefusingAllocator::new(alloc);
-    for nth in 1..200 {
+    heap.each_refusal(|nth| {
         let request = binding_message(alloc, MessageClass::Request)
             .ok()
             .ok_or("ample memory")?;
@@ -192,11 +192,9 @@ fn each_allocation_refused(rt: HostRuntime) -> Result<(), Fail> {
         let mut writer = Vec::new(alloc);
         heap.refuse(nth);
         let answer = print_schedule(&heap, settings, request, response, &mut writer);
-        assert!(rt; answer.is_ok() || !heap.is_waiting());
+        let met_none = heap.met_none();
+        assert!(rt; answer.is_ok() || !met_none);
         expect_beginning(&rt, answer, writer.as_slice(), DEFAULT_LINES);
-        if heap.is_waiting() {
-            return Ok(());
-        }
-    }
-    panic!(rt; "each run met a refusal")
+        Ok(met_none)
+    })
 }

@@ -21,7 +21,7 @@ TOP = os.path.dirname(HERE)
 LIBRARY = os.path.join(TOP, "crates", "bench_agent", "out", "bench_agent")
 FEW, MANY, BAR = 10, 50, 150
 
-# malloc sets no small block aside when it is freed: else all of them are gathered in whichever call next asks for a large one.
+# malloc keeps no block in its fast bins: else all of them are gathered in whichever call next asks for a large one.
 ENVIRONMENT = dict(os.environ, GLIBC_TUNABLES="glibc.malloc.mxfast=0")
 
 # The row of both programs, its title, and the row of what the library's call leaves to its caller.

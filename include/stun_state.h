@@ -5,8 +5,9 @@
  * the messages themselves, and examples/c/heap.c (installed in share/stun) or an allocator of your own (below). Beside these the
  * archive needs what every C compiler has: memcpy, memmove, memset, and __udivti3 and __umodti3 of its runtime.
  *
- * A client with a name and a password asks a server over UDP at which address it sees the client. The socket, the clock and
- * the random bytes are yours: send_to, receive (0 where nothing came until then), moment, fill_randomly.
+ * A client with a name and a password asks a server over UDP at which address it sees the client, by an agent that has no
+ * other request. The socket, the clock and the random bytes are yours: send_to, receive (0 where nothing came until then),
+ * moment, fill_randomly.
  *
  *     #include "stun_state.h"
  *     #include <string.h>
@@ -44,8 +45,8 @@
  *             if (memcmp(from.octets, to.octets, to.length) != 0) continue;        // not from whom was asked
  *             int64_t verdict = stun_client_validate(client, bytes, received);
  *             if (verdict == STUN_INTEGRITY_FAILED) continue;                      // forged: wait on
+ *             answer = stun_agent_handle(agent, bytes, received, &from, moment()); // this request has ended
  *             if (verdict < 0) return verdict;
- *             answer = stun_agent_handle(agent, bytes, received, &from, moment());
  *             if (answer < 0) return answer;
  *             is_to_ask = stun_is_resend(verdict);
  *             if (is_to_ask) continue;
@@ -123,7 +124,7 @@ enum { STUN_AUTO = 0, STUN_REQUIRED = 1, STUN_DISABLED = 2 };
 /* Answers above zero. */
 enum {
     STUN_TIMED_OUT = 1,     /* stun_agent_poll: no response came to a request in time */
-    STUN_CANCELLED = 2,     /* stun_agent_poll: a request was cancelled */
+    STUN_CANCELLED = 2,     /* stun_agent_poll: a request ended that was cancelled, or whose retransmissions were */
     STUN_RESEND = 3,        /* stun_client_validate: a 401 or 438 was taken up; sign a new request and send it */
     STUN_RESEND_SHA1 = 4,   /* the same, and its MESSAGE-INTEGRITY verifies under the key that was kept before it */
     STUN_RESEND_SHA256 = 5, /* the same, and its MESSAGE-INTEGRITY-SHA256 does */
@@ -229,8 +230,9 @@ int64_t stun_agent_is_validated_peer(stun_agent *agent, const stun_address *peer
  * STUN_BAD_ARGUMENT. */
 int64_t stun_agent_is_outstanding(stun_agent *agent, const uint8_t *id, size_t id_length, stun_address *peer);
 
-/* Cancels the request of an id: the next stun_agent_poll answers STUN_CANCELLED for it. Or only ends its
- * retransmissions, or gives it time-outs of its own. Each answers 1, or 0 where none is outstanding, or refuses
+/* Cancels the request of an id: stun_agent_poll then answers STUN_CANCELLED for it, one call for each request that is over. Or
+ * only ends its retransmissions: a response is waited for as long as before, and without one it ends as STUN_CANCELLED. Or gives
+ * it time-outs of its own. Each answers 1, or 0 where none is outstanding, or refuses
  * STUN_EMPTY_HANDLE and STUN_BAD_ARGUMENT. */
 int64_t stun_agent_cancel(stun_agent *agent, const uint8_t *id, size_t id_length);
 int64_t stun_agent_cancel_retransmissions(stun_agent *agent, const uint8_t *id, size_t id_length);
@@ -288,7 +290,8 @@ int64_t stun_server_client(stun_server *server, const stun_address *at, uint8_t 
  * from many addresses makes the server grow: call stun_server_remove_client for a client whose session ended, and
  * stun_server_forget_expired now and then, and bound the number of addresses.
  *
- * Answers STUN_SHA1 or STUN_SHA256 where the message is validated, and this is the algorithm of the key. Refuses
+ * Answers STUN_SHA1 or STUN_SHA256 where the message is validated: of a request or an indication the algorithm of the key, of a
+ * response that of the digest that verifies. Refuses
  * STUN_EMPTY_HANDLE, STUN_BAD_ARGUMENT, STUN_TRUNCATED, STUN_NOT_STUN, STUN_TOO_LARGE. Then, of a response,
  * STUN_INTEGRITY_FAILED where it is not rightly signed. Of a request or an indication, in this order: STUN_UNAUTHORIZED
  * (answer 401) without an integrity attribute; STUN_BAD_REQUEST (400) where REALM, NONCE, a name or algorithms that agree
@@ -300,7 +303,8 @@ int64_t stun_server_validate(stun_server *server, const uint8_t *message, size_t
                              uint64_t now, const uint32_t words[16]);
 
 /* Signs the message in the first `length` bytes of a buffer of `room` bytes, which goes to an address: NONCE and REALM in a
- * response, and the offered algorithms or the integrity attribute of the address's client. Sign successes, 401 and 438; a
+ * response, and, for an address without a client, the offered algorithms; for a client of SHA-256 PASSWORD-ALGORITHM, and for each
+ * client the integrity attribute. Sign successes, 401 and 438; a
  * 400 goes out as it is (section 9.2.4). Before any nonce was made for the address the message stays as it is.
  *
  * Answers the message's new length, or refuses: STUN_EMPTY_HANDLE, STUN_BAD_ARGUMENT (address, or `length` above `room`),

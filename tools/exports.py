@@ -1,8 +1,8 @@
 #!/usr/bin/env python3
 """Compares include/stun.h and include/stun_state.h with the exports of stun_c and stun_state and with what Rust declares.
 
-Functions by name, result, and the types of parameters in their order; structs by their fields; refusals by number, and those of
-bindings/rust by text. Run at the top of the repository. Prints each difference, then a count; the status is 1 where one is.
+Functions by name, result, and the types of parameters in their order; addresses, time-outs and statistics by their fields; refusals
+by number, and those of bindings/rust by text. Not the handles' fields, nor the numbers of other answers. Run at the top of the repository. Prints each difference, then a count; the status is 1 where one is.
 """
 import re
 import sys

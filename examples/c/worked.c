@@ -127,23 +127,20 @@ static size_t receive(stun_address *from, uint8_t *bytes, size_t room, uint64_t 
     return length;
 }
 
-static void asks(enum peer with, int64_t wanted, int wanted_transmissions) {
-    static stun_agent agent;
+static void asks(stun_agent *agent, const char *password, enum peer with, int64_t wanted, int wanted_transmissions) {
     static stun_client client;
     uint8_t octets[16];
     uint16_t port = 0;
     peer = with;
     transmissions = 0;
     first_waiting = after_waiting = 0;
-    want("an agent", stun_agent_new(&agent, STUN_UDP, &client_address), 0);
     want("a client", stun_client_new(&client), 0);
     want("algorithms", stun_client_set_algorithms(&client, STUN_SHA1 | STUN_SHA256), 0);
-    want("credentials", stun_client_set_credentials(&client, TEXT("name"), TEXT("password")), 0);
-    want("ask", ask(&agent, &client, &server_address, octets, &port), wanted);
+    want("credentials", stun_client_set_credentials(&client, TEXT("name"), (const uint8_t *)password, strlen(password)), 0);
+    want("ask", ask(agent, &client, &server_address, octets, &port), wanted);
     want("transmissions", transmissions, wanted_transmissions);
     if (wanted == 4) want("the octets", memcmp(octets, client_address.octets, 4), 0);
     if (wanted == 4) want("the port", port, client_address.port);
-    stun_agent_free(&agent);
     stun_client_free(&client);
 }
 
@@ -154,14 +151,16 @@ int main(void) {
     server_address.length = client_address.length = stranger_address.length = 4;
     server_address.port = 3478, client_address.port = 50000, stranger_address.port = 3479;
     client_address.octets[3] = 9;
-    want("time-outs", stun_agent_new_with(&agent, STUN_UDP, &client_address, &server_address, &timeouts), 0);
-    stun_agent_free(&agent);
+    want("an agent", stun_agent_new_with(&agent, STUN_UDP, &client_address, &server_address, &timeouts), 0);
     want("a server", stun_server_new(&server, TEXT("realm")), 0);
     want("algorithms", stun_server_set_algorithms(&server, STUN_SHA1 | STUN_SHA256), 0);
     want("a user", stun_server_add_user(&server, TEXT("name"), TEXT("password")), 0);
-    asks(HONEST, 4, 3);
-    asks(SILENT, STUN_TIMED_OUT, 7);
-    asks(CHALLENGING, STUN_UNAUTHORIZED, 5);
+    /* One agent asks them all: none leaves a request behind. */
+    asks(&agent, "wrong", HONEST, STUN_UNAUTHORIZED, 3);
+    asks(&agent, "password", SILENT, STUN_TIMED_OUT, 7);
+    asks(&agent, "password", HONEST, 4, 3);
+    asks(&agent, "password", CHALLENGING, STUN_UNAUTHORIZED, 5);
+    stun_agent_free(&agent);
     stun_server_free(&server);
     puts("worked: passed");
     return 0;

@@ -43,7 +43,7 @@ pub enum StunError {
     Aborted,
     /// The bytes are no message of STUN, or what was read of one is missing or malformed.
     ParseError(Refusal),
-    /// Something was not written. No call of an agent answers it.
+    /// Something was not written, or not verified. No call of an agent answers it.
     WriteError(Refusal),
     /// An allocation failed.
     OutOfMemory,
@@ -121,7 +121,7 @@ impl<T: AsRef<[u8]>> fmt::Display for Transmit<T> {
 pub enum StunAgentPollRet {
     /// No response came to this request in time.
     TransactionTimedOut(TransactionId),
-    /// This request was cancelled.
+    /// This request was cancelled; or its retransmissions were, and no response came in time.
     TransactionCancelled(TransactionId),
     /// Nothing before this moment.
     WaitUntil(Instant),
@@ -414,12 +414,13 @@ impl StunRequestMut<'_> {
         self.agent
     }
 
-    /// Sends the request no more. A response is waited for as long as before.
+    /// Sends the request no more. A response is waited for as long as before; without one the request ends as
+    /// `TransactionCancelled`.
     pub fn cancel_retransmissions(&mut self) {
         self.agent.handle.cancel_retransmissions(&self.transaction_id.0);
     }
 
-    /// Ends the request: the next `poll` answers `TransactionCancelled`.
+    /// Ends the request: a `poll` answers `TransactionCancelled` for it.
     pub fn cancel(&mut self) {
         self.agent.handle.cancel(&self.transaction_id.0);
     }

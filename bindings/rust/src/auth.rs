@@ -35,7 +35,14 @@ const USUAL_NAME: usize = 256;
 fn signed<W: MessageWrite>(mut msg: W, mut sign: impl FnMut(&mut [u8], usize) -> i64) -> Result<W, Refusal> {
     let mut sign = |buffer: &mut [u8], length: usize| Refusal::of(sign(buffer, length));
     match msg.write_with(USUAL_ROOM, &mut sign) {
-        Err(Refusal::BufferTooSmall) => msg.write_with(LONGEST_MESSAGE, &mut sign)?,
+        Err(Refusal::BufferTooSmall) => msg.write_with(LONGEST_MESSAGE, &mut |buffer, length| {
+            // With so much room it is the message that would be too long.
+            let has_all = buffer.len() >= LONGEST_MESSAGE;
+            sign(buffer, length).map_err(|refusal| match refusal {
+                Refusal::BufferTooSmall if has_all => Refusal::MessageTooLong,
+                refusal => refusal,
+            })
+        })?,
         answer => answer?,
     }
     Ok(msg)

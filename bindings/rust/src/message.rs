@@ -97,6 +97,31 @@ impl TransactionId {
     }
 }
 
+/// Which attributes that hide later ones a walk has passed.
+#[derive(Default)]
+struct Passed {
+    integrity: bool,
+    integrity_sha256: bool,
+    fingerprint: bool,
+}
+
+impl Passed {
+    /// Whether an attribute of this type is visible behind those (sections 14.5 to 14.7).
+    fn shows(&self, kind: AttributeType) -> bool {
+        let is_fingerprint = kind == AttributeType::FINGERPRINT;
+        let is_integrity_sha256 = kind == AttributeType::MESSAGE_INTEGRITY_SHA256;
+        !self.fingerprint
+            && (!self.integrity_sha256 || is_fingerprint)
+            && (!self.integrity || is_integrity_sha256 || is_fingerprint)
+    }
+
+    fn pass(&mut self, kind: AttributeType) {
+        self.integrity |= kind == AttributeType::MESSAGE_INTEGRITY;
+        self.integrity_sha256 |= kind == AttributeType::MESSAGE_INTEGRITY_SHA256;
+        self.fingerprint |= kind == AttributeType::FINGERPRINT;
+    }
+}
+
 /// A message, which borrows its bytes.
 #[derive(Debug, Clone, Copy, PartialEq, Eq)]
 pub struct Message<'a> {
@@ -152,18 +177,28 @@ impl<'a> Message<'a> {
         TransactionId(id)
     }
 
-    /// The visible attributes in their order, each with its place (sections 14.5 to 14.7).
+    /// The visible attributes in their order, each with its place (sections 14.5 to 14.7). The archive tells the next one after
+    /// a place, and begins at the first each time. This is one walk, in time that grows as the message.
     pub fn iter_attributes(&self) -> impl Iterator<Item = (usize, RawAttribute<'a>)> {
         let bytes = self.bytes;
-        let mut place = 0;
-        std::iter::from_fn(move || {
-            let (found, kind, length) = archive::next(bytes, place)?;
-            place = found;
-            Some((found, RawAttribute::new(AttributeType(kind), &bytes[found + 4..][..length])))
+        let mut place = HEADER_LENGTH;
+        let mut passed = Passed::default();
+        std::iter::from_fn(move || loop {
+            let &[a, b, c, d] = bytes.get(place..)?.first_chunk()?;
+            let kind = AttributeType(u16::from_be_bytes([a, b]));
+            let length = usize::from(u16::from_be_bytes([c, d]));
+            let value = bytes.get(place + ATTRIBUTE_HEADER_LENGTH..)?.get(..length)?;
+            let found = place;
+            place += ATTRIBUTE_HEADER_LENGTH + length.next_multiple_of(4);
+            let is_visible = passed.shows(kind);
+            passed.pass(kind);
+            if is_visible {
+                return Some((found, RawAttribute::new(kind, value)));
+            }
         })
     }
 
-    /// The first visible attribute of a type. Unlike a walk of `iter_attributes`, it takes time that grows as the message.
+    /// The first visible attribute of a type.
     pub fn raw_attribute(&self, kind: AttributeType) -> Option<RawAttribute<'a>> {
         let mut place = HEADER_LENGTH;
         while let Some(&[a, b, c, d]) = self.bytes.get(place..place + ATTRIBUTE_HEADER_LENGTH) {

@@ -1,6 +1,7 @@
 //! Allocations that are refused, blocks that are given back, and handles that stay on their thread.
 use crate::agent::{StunAgent, StunError, TransportType};
 use crate::archive::refusals::{blocks, refuse_after};
+use crate::archive;
 use crate::auth::*;
 use crate::error::Refusal;
 use crate::message::*;
@@ -32,6 +33,35 @@ fn refused_in_turn<T, E: PartialEq + std::fmt::Debug>(wanted: E, mut call: impl 
         }
     }
     unreachable!()
+}
+
+/// What the archive tells of the visible attributes, one after another: place, type and the value's length.
+fn told(bytes: &[u8]) -> Vec<(usize, u16, usize)> {
+    let mut place = 0;
+    std::iter::from_fn(|| {
+        let next = archive::next(bytes, place)?;
+        place = next.0;
+        Some(next)
+    })
+    .collect()
+}
+
+#[test]
+fn attributes_are_walked_as_the_archive_tells_them() {
+    let kinds: [u16; 5] = [0x0006, 0x0008, 0x001c, 0x8028, 0x8022];
+    for number in 0..5usize.pow(6) {
+        let mut bytes = request(7);
+        for digit in 0..6 {
+            bytes.extend(kinds[number / 5usize.pow(digit) % 5].to_be_bytes());
+            bytes.extend((digit as u16).to_be_bytes());
+            bytes.resize((bytes.len() + digit as usize).next_multiple_of(4), 0);
+        }
+        let length = (bytes.len() - 20) as u16;
+        bytes[2..4].copy_from_slice(&length.to_be_bytes());
+        let message = Message::from_bytes(&bytes).unwrap();
+        let walked = message.iter_attributes().map(|(place, found)| (place, found.get_type().0, found.value().len()));
+        assert_eq!(walked.collect::<Vec<_>>(), told(&bytes), "{number}");
+    }
 }
 
 fn request(number: u8) -> Vec<u8> {

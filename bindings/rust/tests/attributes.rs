@@ -265,6 +265,7 @@ fn many_attributes_are_passed_over_in_little_time() {
     let message = Message::from_bytes(&many).unwrap();
     for _ in 0..100 {
         assert_eq!(message.attribute::<Username>().unwrap().username(), "u");
+        assert_eq!(message.iter_attributes().count(), 16001);
         assert_eq!(message.validate_integrity(&matrix()), Err(Refusal::NoIntegrity));
     }
 }

@@ -328,3 +328,16 @@ fn a_hidden_name_may_be_longer_than_a_shown_one() {
     both.is_validated(Instant::ZERO, Sha256);
     assert_eq!(both.server.client(both.from), Ok(Some((name, Sha256))));
 }
+
+#[test]
+fn a_realm_that_no_message_has_room_for_is_refused() {
+    let from = "192.0.2.1:3478".parse().unwrap();
+    for (length, refusal) in [(764, Refusal::TextTooLong), (65_500, Refusal::MessageTooLong), (65_540, Refusal::MessageTooLong)] {
+        let mut server = LongTermServerAuth::new("r".repeat(length)).unwrap();
+        let request = Message::builder_request(BINDING, TransactionId([1; 12]), MessageWriteVec::new()).unwrap().finish();
+        let request = Message::from_bytes(&request).unwrap();
+        assert!(server.validate_incoming_message(&request, from, Instant::ZERO, &WORDS).is_err());
+        let answer = Message::builder_error(&request, MessageWriteVec::new()).unwrap();
+        assert_eq!(server.sign_outgoing_message(answer, from).map(|_| ()), Err(refusal), "{length}");
+    }
+}

@@ -204,6 +204,7 @@ impl<A: Allocator + Copy> Outstanding<A> {
         Ok(Some((id, length)))
     }
 
+    /// Refuses where `pass_due_slots` would send more bytes than there is room for.
     fn check_room(&self, now: Instant, room: usize) -> Result<(), NoRoom>
         ensures ok { OnOk result (IfSome (next_sent self.now.transport now self.now.requests)
             (λ e. length e.1.bytes ≤ room)) }

@@ -75,8 +75,7 @@ pub(crate) fn pass_slots<A: Allocator>(
     None
 }
 
-/// The first slot that is due, and how many bytes are sent again of its request. One search finds both. None where that request is
-/// silent.
+/// The first slot that is due, and how many bytes its request has. None where no slot is due, or where that request is silent.
 pub(crate) fn first_due<A: Allocator>(
     all: &Transactions<A>,
     deadlines: &DeadlineIndex<A>,

@@ -46,8 +46,8 @@ pub fn events_have_runs()
 {}
 
 /// A run that stopped because an allocation failed goes on where the agent, as it was left, is driven over the events that are
-/// left. This makes exactly the later steps of the whole run and comes to its agent, so each transmission of it is made once. It
-/// may stop again, any number of times. Where no event is left, the agent is already the one that the whole run comes to.
+/// left. This makes exactly the later steps of the whole run and comes to its agent, so no transmission is made twice. It may stop
+/// again, any number of times. Where no event is left, the agent is already the one that the whole run comes to.
 pub fn stopped_runs_go_on()
     ensures left { StoppedRunsGoOn }
     ensures parts { StoppedRunsHaveTheRest }

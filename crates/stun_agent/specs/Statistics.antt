@@ -96,7 +96,7 @@ response_received bytes round_trip =
 abbrev pub indication_received : ℕ → Tally
 indication_received bytes = record no_tally { indications_received = 1; bytes_received = bytes }
 
--- a request ended without a response
+-- a request ended because no response came in time
 abbrev pub timed_out : Tally
 timed_out = record no_tally { timed_out = 1 }
 

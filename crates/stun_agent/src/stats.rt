@@ -88,14 +88,14 @@ impl StunAgentStats {
         self.indications_received
     }
 
-    /// Requests that ended without a response (RFC 8489, section 6.2).
+    /// Requests that ended because no response came in time (RFC 8489, section 6.2.1).
     pub fn transactions_timed_out(&self) -> u64
         ensures { result ≡ self.now.transactions_timed_out }
     {
         self.transactions_timed_out
     }
 
-    /// Requests that ended since the caller had cancelled them or their retransmissions.
+    /// Requests that ended because the caller had cancelled them or their retransmissions.
     pub fn transactions_cancelled(&self) -> u64
         ensures { result ≡ self.now.transactions_cancelled }
     {
@@ -109,14 +109,14 @@ impl StunAgentStats {
         self.bytes_sent
     }
 
-    /// Bytes of the messages received, but of responses to no outstanding request.
+    /// Bytes of the messages received. Responses that were not taken are left out.
     pub fn bytes_received(&self) -> u64
         ensures { result ≡ self.now.bytes_received }
     {
         self.bytes_received
     }
 
-    /// Round trips measured: of responses that came with a moment, to requests not sent again.
+    /// Round trips measured: of responses that came with a moment, to requests of which no timeout had passed.
     pub fn rtt_count(&self) -> u64
         ensures { result ≡ self.now.rtt_count }
     {

@@ -179,6 +179,7 @@ fn digest_of_utf8<H: HashFunction>(
 
 /// The long-term key of a user at a realm: 16 bytes of MD5 for HMAC-SHA1, 32 of SHA-256 for
 /// HMAC-SHA256, each the hash of `username:realm:password` (RFC 8489, sections 9.2.2 and 18.5.1).
+/// The texts are taken as they are: to prepare them by OpaqueString (RFC 8265, section 4.2) is the caller's part.
 ///
 /// It does not allocate: `alloc` is dropped, and only says where longer keys of this type would
 /// are.
@@ -223,7 +224,7 @@ pub(crate) fn hashed_key<A: Allocator>(
 }
 
 /// The long-term key for HMAC-SHA1 of texts that come as bytes: MD5 of `username:realm:password`
-/// (RFC 8489, section 9.2.2), or `None` where one of them is not UTF-8.
+/// (RFC 8489, section 9.2.2), or `None` where one of them is not UTF-8. They are taken as they are. It does not allocate.
 pub fn md5_key_from_utf8(username: &[u8], realm: &[u8], password: &[u8]) -> Option<[u8; 16]>
     ensures key { IfSome result (λ key. key ≡ spec.long_term_key IntegrityAlgorithm.Sha1 username.now realm.now password.now) }
     ensures utf8 { IsSome result ↔ (spec.are_utf8 username.now realm.now password.now ≡ true) }
@@ -232,7 +233,8 @@ pub fn md5_key_from_utf8(username: &[u8], realm: &[u8], password: &[u8]) -> Opti
 }
 
 /// The long-term key for HMAC-SHA256 of texts that come as bytes: SHA-256 of
-/// `username:realm:password` (RFC 8489, section 18.5.1), or `None` where one of them is not UTF-8.
+/// `username:realm:password` (RFC 8489, section 18.5.1), or `None` where one of them is not UTF-8. They are taken as they are.
+/// It does not allocate.
 pub fn sha256_key_from_utf8(username: &[u8], realm: &[u8], password: &[u8]) -> Option<[u8; 32]>
     ensures key { IfSome result (λ key. key ≡ spec.long_term_key IntegrityAlgorithm.Sha256 username.now realm.now password.now) }
     ensures utf8 { IsSome result ↔ (spec.are_utf8 username.now realm.now password.now ≡ true) }
@@ -240,8 +242,8 @@ pub fn sha256_key_from_utf8(username: &[u8], realm: &[u8], password: &[u8]) -> O
     digest_of_utf8::<Sha256>(username, realm, password)
 }
 
-/// The hash that names a user at a realm: SHA-256 of `username:realm` (RFC 8489, section
-/// 14.4). It does not allocate.
+/// The hash that names a user at a realm: SHA-256 of `username:realm` (RFC 8489, section 14.4). Both texts are taken as they
+/// are: to prepare them by OpaqueString (RFC 8265, section 4.2) is the caller's part. It does not allocate.
 pub fn userhash(username: &str, realm: &str) -> [u8; 32]
     ensures { result ≡ spec.userhash username.now realm.now }
 {

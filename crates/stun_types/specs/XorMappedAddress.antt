@@ -15,7 +15,7 @@ pub record XoredAddress : Type 0 where
   pub port : ℕ
   pub octets : List ℕ
 
--- the first half of the magic cookie
+-- a port, hidden by the first half of the magic cookie
 abbrev pub xor_port : ℕ → ℕ
 xor_port port = bit_xor port 0x2112
 

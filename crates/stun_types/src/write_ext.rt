@@ -42,7 +42,7 @@ fn is_set_apart(kind: AttributeType) -> bool
 /// The writer is to hold a message without FINGERPRINT, as the builders leave it and each of these calls keeps it. Their
 /// conditions ask for less: as many bytes as a header has, or a header.
 pub trait MessageWriteExt: MessageWrite {
-    /// Whether the message has an attribute of this type.
+    /// Whether the message has an attribute of this type, visible or not.
     final fn has_attribute(&self, kind: AttributeType) -> bool
     where
         Self: Sized,

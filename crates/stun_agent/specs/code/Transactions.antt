@@ -4,7 +4,7 @@ use Rattle.std.specs.declared.net.socket_addr.SocketAddr.{SocketAddr}
 use Rattle.stun_base.specs.declared.transport.TransportType.{TransportType}
 use Rattle.stun_agent.specs.Transactions.{Transaction, Transactions, repeats}
 
--- these, and the transport that carries them
+-- the outstanding requests, and the transport that carries them
 pub record Outstanding : Type 0 where
   pub transport : TransportType
   pub requests : Transactions

@@ -1,4 +1,4 @@
--- An attribute that signing adds, as the bytes that a writer gets.
+-- An attribute that signing adds, as its type and value.
 use Rattle.std.specs.Prelude.{map}
 use Rattle.stun_types.specs.Attribute.{TypedValue}
 use Rattle.stun_types.specs.PasswordAlgorithms.{integrity_of}

@@ -49,7 +49,7 @@ pub enum AgentEvent {
         /// The longest wait between two transmissions.
         max: Duration,
     },
-    /// An address is validated: its messages are accepted.
+    /// An address is named as one whose messages were taken. Messages of other addresses are taken all the same.
     ValidatePeer(SocketAddr),
 }
 

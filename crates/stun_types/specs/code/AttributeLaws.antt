@@ -1,4 +1,4 @@
--- The octets of an address as one number.
+-- How many octets an address has.
 use Rattle.std.specs.Prelude.{◌≡◌, length}
 use Rattle.std.specs.Net.Addr.{MatchIp, ipv4_octets, ipv6_octets}
 use Rattle.std.specs.declared.net.ip_addr.IpAddr.{IpAddr}

@@ -41,7 +41,8 @@ impl Userhash {
         Userhash { hash }
     }
 
-    /// The hash of a user name at a realm: SHA-256 of the two with a colon between them. It does not allocate.
+    /// The hash of a user name at a realm: SHA-256 of the two, taken as they are, with a colon between them (RFC 8489, section
+    /// 14.4). It does not allocate.
     pub fn compute(user: &str, realm: &str) -> [u8; 32]
         ensures { result ≡ keys.userhash user.now realm.now }
     {

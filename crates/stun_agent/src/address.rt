@@ -1,4 +1,4 @@
-//! Addresses that are compared.
+//! Whether two addresses are one, by the definition that contracts cite.
 ghost use Rattle.std.specs.Prelude.{◌≡◌};
 ghost use Rattle.stun_base.specs.Address.{same_address};
 

@@ -9,22 +9,22 @@ pub enum StunError {
     /// A request of this transaction is outstanding.
     #[error("The operation is already in progress")]
     AlreadyInProgress,
-    /// Never answered by an agent.
+    /// Kept from the Rust crate: no call of an agent answers it.
     #[error("A required resource could not be found")]
     ResourceNotFound,
-    /// Never answered by an agent.
+    /// Kept from the Rust crate: no call of an agent answers it.
     #[error("An operation timed out")]
     TimedOut,
     /// The message has a class that this call does not send, or the agent is to speak to another address.
     #[error("Unexpected data was received")]
     ProtocolViolation,
-    /// Never answered by an agent.
+    /// Kept from the Rust crate: no call of an agent answers it.
     #[error("Operation was aborted")]
     Aborted,
     /// The bytes do not begin with a header of STUN.
     #[error(transparent)]
     ParseError(StunParseError),
-    /// Never answered by an agent.
+    /// Kept from the Rust crate: no call of an agent answers it.
     #[error(transparent)]
     WriteError(StunWriteError),
     /// An allocation failed.

@@ -12,17 +12,17 @@ const DOUBLINGS: u32 = 94;
 /// When a request is sent again, and when it is given up (RFC 8489, sections 6.2.1 and 6.2.2).
 #[derive(Clone, Copy, Debug, PartialEq, Eq)]
 pub struct RequestRto {
-    /// The wait after the first transmission. Each further wait is twice as long.
+    /// The wait after the first transmission (RTO in section 6.2.1). Each further wait is twice as long.
     pub initial: Duration,
     /// No wait between transmissions is longer.
     pub max: Duration,
-    /// How many times the request is sent over UDP, the first time included. 0 counts as 1.
+    /// How many times the request is sent over UDP, the first time included (Rc in section 6.2.1). 0 counts as 1.
     pub retransmits: u32,
-    /// The wait after the last transmission.
+    /// The wait after the last transmission over UDP (Rm times RTO in section 6.2.1).
     pub last_retransmit: Duration,
 }
 
-/// 500 ms, no maximum, 7 transmissions, and 8 s after the last one.
+/// 500 ms, no maximum, 7 transmissions, and 8 s after the last one (RFC 8489, section 6.2.1).
 impl Default for RequestRto {
     ghost is_default = { λ rto. settings_of rto ≡ default_settings };
 

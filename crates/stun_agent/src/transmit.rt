@@ -36,7 +36,7 @@ impl<T: OwnedBytes> Transmit<T> {
         }
     }
 
-    /// The same by what a closure makes of the data.
+    /// The same with what a closure makes of the data: transport and addresses stay.
     pub fn reinterpret_data<O: OwnedBytes, F: FnOnce(T) -> O>(self, f: F) -> Transmit<O>
         requires { F.pre f (parts self).0 }
         ensures made { F.post f (parts self).0 (parts result).0 }
@@ -74,6 +74,7 @@ impl<'a, A: Allocator> Transmit<Data<'a, A>> {
     }
 }
 
+/// As `Transmit(UDP: 10.0.0.1:3478 -> 10.0.0.2:3478 of 20 bytes)`.
 impl<T: OwnedBytes> fmt::Display for Transmit<T> {
     fn fmt<W: fmt::Write>(&self, f: &mut fmt::Formatter<W>) -> fmt::Result {
         let count = self.data.bytes().len();

@@ -36,6 +36,7 @@ pub enum LongTermClientAuthErrorReason {
     OutOfMemory,
 }
 
+/// Kept from the Rust crate: no call here uses it. Whatever the error is, the reason is `IntegrityFailed`.
 impl From<ValidateError> for LongTermClientAuthErrorReason {
     ghost use Rattle.std.specs.Prelude.{◌≡◌};
     ghost use Rattle.stun_auth.specs.declared.client_answer.LongTermClientAuthErrorReason.TheVariants.{IntegrityFailed};

@@ -1,4 +1,4 @@
-//! Whether a feature is used.
+//! Whether user names are sent as their hash.
 ghost use Rattle.std.specs.Prelude.{◌≡◌};
 
 /// Whether user names are sent as their hash (RFC 8489, section 9.2).

@@ -18,7 +18,7 @@ use stun_base::algorithm::IntegrityAlgorithm;
 /// What a nonce begins with that carries security bits (RFC 8489, section 9.2).
 pub const LONG_TERM_RFC8489_NONCE_COOKIE: &str = "obMatJos2";
 
-/// The bytes of the cookie and of the four letters after it.
+/// The number of bytes of the cookie and of the four letters after it.
 const FRONT_LENGTH: usize = 13;
 
 /// The bit of the first byte that means password algorithms (section 18.1).

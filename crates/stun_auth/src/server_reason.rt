@@ -39,6 +39,7 @@ pub enum LongTermServerAuthErrorReason {
     OutOfMemory,
 }
 
+/// Kept from the Rust crate: no call here uses it. Whatever the error is, the reason is `IntegrityFailed`.
 impl From<ValidateError> for LongTermServerAuthErrorReason {
     ghost use Rattle.std.specs.Prelude.{◌≡◌};
     ghost use Rattle.stun_auth.specs.declared.server_reason.LongTermServerAuthErrorReason.TheVariants.{IntegrityFailed};

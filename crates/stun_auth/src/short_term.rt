@@ -58,7 +58,7 @@ impl<A: Allocator> fmt::Debug for ShortTermAuth<A> {
 }
 
 impl<A: Allocator> ShortTermAuth<A> {
-    /// Without credentials. It does not allocate.
+    /// Without credentials. It does not allocate, and does not keep the allocator: the key uses that of the password.
     pub fn new(_alloc: A) -> Self
         ensures { result ≡ None }
     {
@@ -123,7 +123,9 @@ impl<A: Allocator> ShortTermAuth<A> {
         Ok(writer)
     }
 
-    /// Adds the integrity attribute to a message of which the caller knows that nothing but want of memory refuses it.
+    /// Adds the integrity attribute to a message of which the caller knows that nothing but a failed allocation refuses it: where
+    /// credentials are set, it has no integrity attribute, and length field and writer have room for one: 24 bytes for
+    /// HMAC-SHA1, 36 for HMAC-SHA256. The message is the one that `sign_outgoing_message` gives.
     #[tactic(auto, using(crate::proofs::Growth::length_of_signed))]
     pub fn sign_outgoing_message_unchecked<W: MessageWrite>(
         &mut self,
@@ -167,7 +169,8 @@ impl<A: Allocator> ShortTermAuth<A> {
 impl<A: Allocator + Copy> ShortTermAuth<A> {
     /// Sets the password and the algorithm to sign with.
     ///
-    /// The key is made first, so that on want of memory both stay as they were. A password of up to 32 bytes takes none.
+    /// The key is made first, so that where its allocation fails both stay as they were. A password of up to 32 bytes
+    /// allocates nothing.
     pub fn set_credentials(
         &mut self,
         credentials: ShortTermCredentials<A>,

@@ -16,7 +16,7 @@ pub enum IntegrityAlgorithm {
 impl IntegrityAlgorithm {
     ghost use Rattle.stun_base.specs.Algorithm.{digest_length};
 
-    /// The bytes of a whole digest: 20 or 32.
+    /// The number of bytes of a whole digest: 20 or 32.
     pub fn digest_length(self) -> usize
         ensures { result ≡ digest_length self }
     {

@@ -12,10 +12,10 @@ use sha1::Sha1;
 use sha2::Sha256;
 use std::convert::AsSlice;
 
-/// The bytes of an HMAC-SHA1.
+/// The number of bytes of an HMAC-SHA1.
 pub const SHA1_LENGTH: usize = 20;
 
-/// The bytes of an HMAC-SHA256.
+/// The number of bytes of an HMAC-SHA256.
 pub const SHA256_LENGTH: usize = 32;
 
 /// The number of bytes of one block of both hash functions.

@@ -1,4 +1,4 @@
-//! The parts of STUN (RFC 8489) that reading, writing and authentication share.
+//! The parts of STUN (RFC 8489) that the crates above share: headers, types, ids, moments, errors, HMAC, keys and credentials.
 #![tactic(auto)]
 
 pub mod algorithm;

@@ -36,7 +36,7 @@ pub use userhash::Userhash;
 pub use username::Username;
 pub use xor_mapped_address::XorMappedAddress;
 
-/// The bytes of an attribute's header: its type and the length of its value (RFC 8489, section 14).
+/// The number of bytes of an attribute's header: its type and the length of its value (RFC 8489, section 14).
 pub const ATTRIBUTE_HEADER_LENGTH: usize = 4;
 
 /// How many zeros pad a value of so many bytes to a multiple of 4.

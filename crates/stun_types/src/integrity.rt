@@ -20,7 +20,7 @@ use stun_base::hmac::{SHA1_LENGTH, SHA256_LENGTH, hmac_sha1, hmac_sha256};
 use stun_base::key::IntegrityKey;
 use stun_base::prepared_key::PreparedKey;
 
-/// The bytes of the shortest cut of an HMAC-SHA256 (RFC 8489, section 14.6).
+/// The number of bytes of the shortest cut of an HMAC-SHA256 (RFC 8489, section 14.6).
 const MIN_SHA256_LENGTH: usize = 16;
 
 /// The first attribute of a type, with its place.

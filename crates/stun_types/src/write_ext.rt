@@ -293,7 +293,7 @@ fn length_with(message: &[u8], more: usize) -> usize
     (message.len() - HEADER_LENGTH).saturating_add(more)
 }
 
-/// The bytes of the integrity attribute of an algorithm with its header.
+/// The number of bytes of the integrity attribute of an algorithm with its header.
 fn integrity_length(algorithm: IntegrityAlgorithm) -> usize
     ensures { result ≡ attribute_length (digest_length algorithm) }
 {

@@ -19,10 +19,11 @@ use std::alloc::AllocError;
 use std::marker::Model;
 use stun_base::error::{StunParseError, StunWriteError};
 
-/// The bytes before the reason: reserved bits, class and number.
+/// The number of bytes before the reason: reserved bits, class and number.
 const CODE_LENGTH: usize = 4;
 
-/// Why a request was refused: a code from 300 to 699 and a reason phrase. Contracts see the two.
+/// ERROR-CODE (RFC 8489, section 14.8): why a request was refused, by a code from 300 to 699 and a reason phrase of at most 763
+/// bytes. Contracts see the two.
 #[derive(Debug, Drop)]
 pub struct ErrorCode<'a> {
     code: u16,

@@ -19,7 +19,7 @@ use std::marker::Model;
 use stun_base::error::StunParseError;
 use stun_base::hmac::SHA1_LENGTH;
 
-/// The HMAC-SHA1 of a message. Contracts see its bytes.
+/// MESSAGE-INTEGRITY (RFC 8489, section 14.5): the HMAC-SHA1 of a message, 20 bytes. Contracts see its bytes.
 #[derive(Clone, Copy, Debug, PartialEq, Eq)]
 pub struct MessageIntegrity {
     hmac: [u8; SHA1_LENGTH],
@@ -91,7 +91,8 @@ impl<'a> AttributeFromRaw<'a> for MessageIntegrity {
     }
 }
 
-/// The HMAC-SHA256 of a message, which may be cut short: 16 to 32 bytes, a multiple of 4. Contracts see its bytes.
+/// MESSAGE-INTEGRITY-SHA256 (RFC 8489, section 14.6): the HMAC-SHA256 of a message, which may be cut short: 16 to 32 bytes, a
+/// multiple of 4. A cut one is read, and never verifies. Contracts see its bytes.
 #[derive(Debug, Drop)]
 pub struct MessageIntegritySha256<'a> {
     hmac: &'a [u8],

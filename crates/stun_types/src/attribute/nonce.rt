@@ -18,7 +18,7 @@ use std::alloc::AllocError;
 use std::marker::Model;
 use stun_base::error::{StunParseError, StunWriteError};
 
-/// The nonce that a server gave out. Contracts see its bytes.
+/// NONCE (RFC 8489, section 14.10): the nonce that a server gave out, UTF-8 of at most 763 bytes. Contracts see its bytes.
 #[derive(Debug, Drop)]
 pub struct Nonce<'a> {
     text: &'a str,

@@ -14,7 +14,7 @@ use std::marker::Model;
 use stun_base::algorithm::IntegrityAlgorithm;
 use stun_base::error::StunParseError;
 
-/// The bytes of an algorithm without parameters: its number and the length of its parameters.
+/// The number of bytes of an algorithm without parameters: its number and the length of its parameters.
 pub(super) const ENTRY_LENGTH: usize = 4;
 
 /// A hash function that makes the key of a password.
@@ -73,7 +73,7 @@ pub(super) fn read_entry(bytes: &[u8]) -> Option<PasswordAlgorithmValue>
     }
 }
 
-/// The algorithm that a client chose. Contracts see the algorithm.
+/// PASSWORD-ALGORITHM (RFC 8489, section 14.12): the algorithm that a client chose. Contracts see the algorithm.
 #[derive(Clone, Copy, Debug, PartialEq, Eq)]
 pub struct PasswordAlgorithm {
     algorithm: PasswordAlgorithmValue,

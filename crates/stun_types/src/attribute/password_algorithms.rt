@@ -26,8 +26,8 @@ enum Source<'a> {
     Received(&'a [u8]),
 }
 
-/// The algorithms that a server offers, the most preferred first, in a list or in a message, which it borrows. Contracts
-/// see the list.
+/// PASSWORD-ALGORITHMS (RFC 8489, section 14.11): the algorithms that a server offers, the most preferred first, in a list or in
+/// a message, which it borrows. Contracts see the list.
 #[derive(Debug, Drop)]
 pub struct PasswordAlgorithms<'a> {
     source: Source<'a>,

@@ -18,7 +18,7 @@ use std::alloc::AllocError;
 use std::marker::Model;
 use stun_base::error::{StunParseError, StunWriteError};
 
-/// The realm that credentials belong to. Contracts see its bytes.
+/// REALM (RFC 8489, section 14.9): the realm that credentials belong to, UTF-8 of at most 763 bytes. Contracts see its bytes.
 #[derive(Debug, Drop)]
 pub struct Realm<'a> {
     text: &'a str,

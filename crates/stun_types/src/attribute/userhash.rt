@@ -14,10 +14,10 @@ use std::marker::Model;
 use stun_base::error::StunParseError;
 use stun_base::key::userhash;
 
-/// The bytes of a hash.
+/// The number of bytes of a hash.
 const LENGTH: usize = 32;
 
-/// The hash that names a user at a realm. Contracts see its bytes.
+/// USERHASH (RFC 8489, section 14.4): the hash that names a user at a realm, 32 bytes. Contracts see its bytes.
 #[derive(Clone, Copy, Debug, PartialEq, Eq)]
 pub struct Userhash {
     hash: [u8; LENGTH],

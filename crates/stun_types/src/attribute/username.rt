@@ -18,7 +18,7 @@ use std::alloc::AllocError;
 use std::marker::Model;
 use stun_base::error::{StunParseError, StunWriteError};
 
-/// The name of a user. Contracts see its bytes.
+/// USERNAME (RFC 8489, section 14.3): the name of a user, UTF-8 of at most 513 bytes. Contracts see its bytes.
 #[derive(Debug, Drop)]
 pub struct Username<'a> {
     text: &'a str,

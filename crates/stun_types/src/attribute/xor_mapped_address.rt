@@ -23,7 +23,7 @@ use stun_base::transaction_id::TransactionId;
 /// The first half of the magic cookie, which the port is hidden by.
 const PORT_KEY: u16 = (MAGIC_COOKIE >> 16) as u16;
 
-/// The bytes of the value before the octets.
+/// The number of bytes of the value before the octets.
 const FAMILY_AND_PORT_LENGTH: usize = 4;
 
 /// The family of IPv4.
@@ -39,8 +39,8 @@ enum XoredOctets {
     V6([u8; 16]),
 }
 
-/// The address that a request came from, as a message has it: port and octets are hidden by the magic cookie and the
-/// transaction id. Contracts see its hidden parts.
+/// XOR-MAPPED-ADDRESS (RFC 8489, section 14.2): the address that a request came from, as a message has it. Port and octets are
+/// hidden by the magic cookie and the transaction id. Contracts see its hidden parts.
 #[derive(Clone, Copy, Debug, PartialEq, Eq)]
 pub struct XorMappedAddress {
     port: u16,

@@ -58,9 +58,11 @@ abbrev pub tallied : Tally → Agent → Agent
 tallied tally agent = record agent { statistics = option_map (counted tally) agent.statistics }
 
 -- ---- messages
+-- the class that the header of bytes names
 abbrev pub class_of_bytes : List ℕ → MessageClass
 class_of_bytes bytes = class_of (type_field bytes)
 
+-- whether a class is that of requests
 abbrev pub is_request : MessageClass → Bool
 is_request Request = true
 is_request Indication = false
@@ -93,6 +95,7 @@ class_refusal bytes =
 abbrev pub sending_refusal : Agent → List ℕ → SocketAddr → Option StunError
 sending_refusal agent bytes to = option_or (class_refusal bytes) (address_refusal agent to)
 
+-- the agent after it has sent a message that wants no answer
 abbrev pub after_send : List ℕ → Agent → Agent
 after_send bytes agent = tallied (sending_tally (class_of_bytes bytes) (length bytes)) agent
 
@@ -109,6 +112,7 @@ request_refusal agent bytes to =
 abbrev pub request_of : Agent → List ℕ → SocketAddr → ℕ → Transaction
 request_of agent bytes to now = new_transaction bytes to (integrity_of bytes) agent.settings now
 
+-- the agent after it has sent a request, which is then outstanding
 abbrev pub after_send_request : Agent → List ℕ → SocketAddr → ℕ → Agent
 after_send_request agent bytes to now =
     tallied (request_sent (length bytes))
@@ -151,9 +155,11 @@ after_class Indication moment bytes from agent = tallied (indication_received (l
 after_class Success moment bytes from agent = after_response moment bytes from agent
 after_class Error moment bytes from agent = after_response moment bytes from agent
 
+-- whether a message is taken
 abbrev pub takes_message : List ℕ → SocketAddr → Agent → Bool
 takes_message bytes from agent = takes (class_of_bytes bytes) bytes from agent
 
+-- the agent after a message
 abbrev pub after_message : Option ℕ → List ℕ → SocketAddr → Agent → Agent
 after_message moment bytes from agent = after_class (class_of_bytes bytes) moment bytes from agent
 
@@ -162,6 +168,7 @@ after_message moment bytes from agent = after_class (class_of_bytes bytes) momen
 abbrev pub end_of : ℕ × Transaction → StunAgentPollRet
 end_of e = if repeats e.1.sending then TransactionTimedOut e.0 else TransactionCancelled e.0
 
+-- what the end of a transaction counts
 abbrev pub tally_of_end : Transaction → Tally
 tally_of_end t = if repeats t.sending then one_timed_out else one_cancelled
 
@@ -174,6 +181,7 @@ abbrev pub poll_answer : ℕ → Agent → StunAgentPollRet
 poll_answer now agent =
     option_map_or end_of (ended_by_poll now agent) (WaitUntil (wake_up agent.transport now agent.transactions))
 
+-- the agent after a poll
 abbrev pub after_poll : ℕ → Agent → Agent
 after_poll now agent =
     option_map_or (λ e. tallied (tally_of_end e.1) (with_transactions agent (without e.0 agent.transactions))) (ended_by_poll now agent) agent
@@ -187,6 +195,7 @@ sent_by_poll now agent = next_sent agent.transport now agent.transactions
 abbrev pub tally_of_sent : Option (ℕ × Transaction) → Agent → Agent
 tally_of_sent sent agent = option_map_or (λ e. tallied (request_sent_again (length e.1.bytes)) agent) sent agent
 
+-- the agent after a poll for transmissions
 abbrev pub after_poll_transmit : ℕ → Agent → Agent
 after_poll_transmit now agent =
     tally_of_sent (sent_by_poll now agent)

@@ -29,6 +29,7 @@ pub record IsWait (now until : ℕ) (agent : Agent) : Type 0 where
   pub within_an_hour : until ≤ now + an_hour
   pub quiet : (moment : ℕ) → now ≤ moment → moment < until → IsQuiet moment agent
 
+-- where a poll says to wait it changes nothing, and all is quiet until the moment that it tells
 abbrev pub WaitsAsTold : Type 0
 WaitsAsTold =
     (now until : ℕ) (agent : Agent) → poll_answer now agent ≡ WaitUntil until

@@ -51,12 +51,15 @@ abbrev pub new_transaction : List ℕ → SocketAddr → Option IntegrityAlgorit
 new_transaction bytes to integrity settings now =
     record { bytes = bytes; to = to; integrity = integrity; settings = settings; slot = 0; last = now; sending = Repeats }
 
+-- it is not sent again
 abbrev pub silenced : Transaction → Transaction
 silenced t = record t { sending = after_silence t.sending }
 
+-- it is to end
 abbrev pub cancelled : Transaction → Transaction
 cancelled t = record t { sending = Cancelled }
 
+-- it has other settings
 abbrev pub configured : Settings → Transaction → Transaction
 configured settings t = record t { settings = settings }
 
@@ -107,12 +110,15 @@ pub record AreKept (all : Transactions) : Type 0 where
   pub ascending : IsAscending all
   pub named : AllByRecursion IsNamed all
 
+-- the one at an id, if there is one
 abbrev pub at : ℕ → Transactions → Option Transaction
 at id all = lookup (is_at (nat_cmp id)) all
 
+-- with one more, or another one, at an id
 abbrev pub with : ℕ → Transaction → Transactions → Transactions
 with id t all = insert_entry nat_cmp all id t
 
+-- without the one at an id
 abbrev pub without : ℕ → Transactions → Transactions
 without id all = remove_entry (is_at (nat_cmp id)) all
 
@@ -159,5 +165,6 @@ is_reached sent id = option_map_or (λ last. nat_le id last) sent true
 abbrev pub slot_passed : TransportType → ℕ → Option ℕ → ℕ × Transaction → Transaction
 slot_passed transport now sent e = if is_reached sent e.0 && is_due transport now e.1 then after_slot now e.1 else e.1
 
+-- all of them once the due slots are passed
 abbrev pub after_slots : TransportType → ℕ → Option ℕ → Transactions → Transactions
 after_slots transport now sent all = map (λ e. (e.0, slot_passed transport now sent e)) all

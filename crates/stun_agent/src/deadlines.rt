@@ -174,7 +174,7 @@ impl<A: Allocator> DeadlineIndex<A> {
         self.least_due_from::<Brand>(now, last, Blank::new(1))
     }
 
-    // As `least_due`, with a count of its own.
+    /// As `least_due`, with a count of its own.
     fn least_due_from<L: Ledger>(
         &self,
         now: Instant,
@@ -231,7 +231,7 @@ impl<L: Ledger> fmt::Debug for Reads<L> {
 }
 
 impl<L: Ledger> Reads<L> {
-    // A count of a ledger that nobody has used.
+    /// A count of a ledger that nobody has used.
     fn new(blank: Blank) -> Self
         requires { IsUnused blank.name blank.parts L.name L.parts }
         ensures { result ≡ 0 }
@@ -298,7 +298,7 @@ impl<'a, A: Allocator, L: Ledger> DeadlineReader<'a, A, L> {
     }
 }
 
-// After all that are sooner.
+/// The place of a deadline: after all that are sooner.
 fn place<A: Allocator>(entries: &VecDeque<Deadline, A>, moment: Instant, id: TransactionId) -> usize
     requires { IsInOrder entries.now.items }
     ensures { IsPlace moment id entries.now.items result }
@@ -316,7 +316,7 @@ fn take_out<A: Allocator>(entries: &mut VecDeque<Deadline, A>, moment: Instant, 
     let _taken = entries.remove(place);
 }
 
-// What is taken out leaves the room for what is put in.
+/// What is taken out leaves the room for what is put in.
 fn replace<A: Allocator>(entries: &mut VecDeque<Deadline, A>, moment: Instant, deadline: Deadline)
     requires order { IsInOrder entries.old.items }
     requires entry { HasEntry moment deadline.id entries.old.items }

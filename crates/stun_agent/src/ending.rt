@@ -30,7 +30,7 @@ pub(crate) fn least_ended<A: Allocator, L: Ledger>(
     least
 }
 
-// The lesser id, where the deadline is an end.
+/// The lesser id, where the deadline is an end.
 fn with_end(least: Option<TransactionId>, deadline: Deadline) -> Option<TransactionId>
     ensures { result ≡ (if is_end deadline.kind then sooner least deadline.id else least) }
 {

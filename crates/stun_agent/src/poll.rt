@@ -32,7 +32,7 @@ impl<A: Allocator + Copy> StunAgent<A> {
         self.poll_from::<Brand>(now, Blank::new(1))
     }
 
-    // As `poll_counted`, with a count of its own.
+    /// As `poll_counted`, with a count of its own.
     fn poll_from<L: Ledger>(&mut self, now: Instant, blank: Blank) -> StunAgentPollRet
         requires { IsUnused blank.name blank.parts L.name L.parts }
         ensures answer { result ≡ poll_answer now self.old }
@@ -59,7 +59,7 @@ impl<A: Allocator + Copy> StunAgent<A> {
         (self.end(now, ended), reads)
     }
 
-    // Ends the request that was found to be over, and else says until when to wait.
+    /// Ends the request that was found to be over, and else says until when to wait.
     fn end(&mut self, now: Instant, ended: Option<(TransactionId, bool)>) -> StunAgentPollRet
         requires { ended ≡ option_map told_of_end (ended_by_poll now self.old) }
         ensures answer { result ≡ poll_answer now self.old }
@@ -158,7 +158,7 @@ impl<A: Allocator + Copy> StunAgent<A> {
         })
     }
 
-    // Passes the slots that are due, counts the request that is to be sent again, and tells its id.
+    /// Passes the slots that are due, counts the request that is to be sent again, and tells its id.
     fn pass_and_count(&mut self, now: Instant) -> Option<TransactionId>
         ensures sent { result ≡ option_map (λ e. e.0) (sent_by_poll now self.old) }
         ensures after { self.new ≡ after_poll_transmit now self.old }
@@ -171,7 +171,7 @@ impl<A: Allocator + Copy> StunAgent<A> {
         Some(id)
     }
 
-    // The same, where what is sent again fits into the room, and else nothing.
+    /// The same, where what is sent again fits into the room, and else nothing.
     fn pass_and_count_within(
         &mut self,
         now: Instant,

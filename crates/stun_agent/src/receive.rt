@@ -72,6 +72,7 @@ impl<A: Allocator + Copy> StunAgent<A> {
         self.receive(msg, from, Some(now))
     }
 
+    /// Takes a message, at a moment where one is told.
     fn receive(
         &mut self,
         msg: &Message<'_>,
@@ -101,6 +102,7 @@ impl<A: Allocator + Copy> StunAgent<A> {
         }
     }
 
+    /// Takes a response, where it answers an outstanding request that went to its sender.
     fn receive_response(
         &mut self,
         msg: &Message<'_>,

@@ -68,7 +68,7 @@ impl<A: Allocator + Copy> StunAgent<A> {
         })
     }
 
-    // Where a request was sent, and the algorithm of its integrity.
+    /// Where a request was sent, and the algorithm of its integrity.
     fn peer_of(&self, id: TransactionId) -> Option<(SocketAddr, Option<IntegrityAlgorithm>)>
         ensures { result ≡ option_map peer_and_integrity (at id self.now.transactions) }
     {

@@ -32,7 +32,7 @@ pub(crate) fn least_due<A: Allocator, L: Ledger>(
     least
 }
 
-// The lesser id, where the deadline is that of a slot, of an id after `last`.
+/// The lesser id, where the deadline is that of a slot, of an id after `last`.
 fn with_slot(
     least: Option<TransactionId>,
     last: Option<TransactionId>,
@@ -49,7 +49,7 @@ fn with_slot(
     }
 }
 
-// Whether an id is at most the last one whose slot has passed.
+/// Whether an id is at most the last one whose slot has passed.
 fn is_passed(last: Option<TransactionId>, id: TransactionId) -> bool
     ensures { result ≡ is_passed last id }
 {

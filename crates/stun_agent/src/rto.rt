@@ -68,6 +68,7 @@ impl RequestRto {
         }
     }
 
+    /// How many times it is sent again over UDP.
     fn repetitions(&self) -> u32
         ensures { result ≡ repetitions (settings_of self.now) }
     {
@@ -88,7 +89,7 @@ impl RequestRto {
         }
     }
 
-    // From transmission `DOUBLINGS` on the timeouts are all alike, so that few turns add them up.
+    /// From transmission `DOUBLINGS` on the timeouts are all alike, so that few turns add them up.
     fn sum_of_timeouts(&self) -> u128
         ensures value { result ≡ sum_of_timeouts (settings_of self.now)
             (repetitions (settings_of self.now)) }

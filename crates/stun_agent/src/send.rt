@@ -40,7 +40,7 @@ impl<A: Allocator + Copy> StunAgent<A> {
         Ok(Transmit::new(bytes, self.outstanding.transport(), self.local_addr, to))
     }
 
-    // Refuses every address but the one that the agent is to speak to, where there is one.
+    /// Refuses every address but the one that the agent is to speak to, where there is one.
     fn check_address(&self, to: SocketAddr) -> Result<(), StunError>
         ensures { MatchOption (address_refusal self.now to) (result ≡ Ok tt)
             (λ error. result ≡ Err error) }
@@ -113,7 +113,7 @@ impl<A: Allocator + Copy> StunAgent<A> {
         })
     }
 
-    // Changes nothing where it refuses.
+    /// Keeps and counts a request, and tells its id. It changes nothing where it refuses.
     fn keep_request(
         &mut self,
         bytes: &[u8],
@@ -136,7 +136,7 @@ impl<A: Allocator + Copy> StunAgent<A> {
         Ok(id)
     }
 
-    // The class of a message that may be sent and wants no answer.
+    /// The class of a message that may be sent and wants no answer.
     fn class_to_send(&self, bytes: &[u8], to: SocketAddr) -> Result<MessageClass, StunError>
         ensures accepted { OnOk result (sending_refusal self.now bytes.now to ≡ None) }
         ensures class { IfOk result (λ class. class ≡ class_of_bytes bytes.now) }
@@ -148,7 +148,7 @@ impl<A: Allocator + Copy> StunAgent<A> {
         Ok(class)
     }
 
-    // The id of a request that may be sent.
+    /// The id of a request that may be sent.
     fn id_to_ask(&self, bytes: &[u8], to: SocketAddr) -> Result<TransactionId, StunError>
         ensures answer { MatchOption (request_refusal self.now bytes.now to)
             (result ≡ Ok (transaction_id_field bytes.now)) (λ error. result ≡ Err error) }

@@ -152,6 +152,7 @@ impl<A: Allocator> Transaction<A> {
         self.sending = self.sending.silenced();
     }
 
+    /// It ends, as cancelled, at the next poll that reaches it.
     pub(crate) fn cancel(&mut self)
         ensures { self.new ≡ cancelled self.old }
     {
@@ -164,6 +165,7 @@ impl<A: Allocator> Transaction<A> {
         self.settings = settings;
     }
 
+    /// Whether timeouts are left, each with a transmission at its end.
     fn has_slots(&self, transport: TransportType) -> bool
         ensures { result ≡ has_slots transport self.now }
     {

@@ -115,7 +115,7 @@ pub(crate) fn pass_slot_of<A: Allocator>(
     renew(deadlines, all, transport, before);
 }
 
-// Passes the slot of the transaction at an id, and tells how many bytes it has where it is sent again.
+/// Passes the slot of the transaction at an id, and tells how many bytes it has where it is sent again.
 fn pass_slot<A: Allocator>(
     all: &mut Transactions<A>,
     deadlines: &mut DeadlineIndex<A>,
@@ -136,7 +136,7 @@ fn pass_slot<A: Allocator>(
     sent
 }
 
-// Lets the transaction at an id take its slot.
+/// Lets the transaction at an id take its slot.
 fn take_slot<A: Allocator>(
     all: &mut Transactions<A>,
     transport: TransportType,

@@ -20,6 +20,7 @@ use Rattle.stun_auth.specs.declared.client_answer.LongTermClientAuthErrorReason.
 use Rattle.stun_auth.specs.declared.client_answer.LongTermClientValidation.{LongTermClientValidation}
 use Rattle.stun_auth.specs.declared.client_answer.LongTermClientValidation.TheVariants.{ResendRequest, Validated}
 
+-- what a message is answered
 abbrev pub ClientAnswer : Type 0
 ClientAnswer = Result LongTermClientValidation LongTermClientAuthErrorReason
 
@@ -42,6 +43,7 @@ abbrev pub choose_by_list : List IntegrityAlgorithm → Bool → Option (List In
 choose_by_list supported asks (Some list) = or_unsupported (first_supported supported list)
 choose_by_list supported asks None = if asks then Err Refused.Unauthorized else Ok Sha1
 
+-- whether hashed names are asked for in any case
 abbrev pub is_required : Feature → Bool
 is_required Auto = false
 is_required Required = true
@@ -65,6 +67,7 @@ choose supported feature nonce list =
     unless (is_required feature && not (asks_for_userhash nonce)) (choose_by_list supported (asks_for_algorithms nonce) list)
     else choose_without_bits supported feature
 
+-- a user by name, or by the hash of it
 abbrev pub naming_of : Bool → List ℕ → List ℕ → Naming
 naming_of true username realm = hashed (userhash username realm)
 naming_of false username realm = plain username
@@ -103,6 +106,7 @@ taken_up s state (Some user) (Some realm) (Some nonce) list =
     if is_repeated state realm nonce then Err Refused.Unauthorized
     else kept_if s.feature user realm nonce list (choose s.supported s.feature nonce list)
 
+-- the reason of a refusal
 abbrev pub reason_of : Refusal → LongTermClientAuthErrorReason
 reason_of Refused.Unauthorized = Unauthorized
 reason_of Refused.UnsupportedFeature = UnsupportedFeature
@@ -145,10 +149,11 @@ after_stale state digest (Some realm) (Some nonce) = record { answer = Ok (Resen
 after_stale state digest None _ = after_digest state false digest
 after_stale state digest (Some realm) None = after_digest state false digest
 
--- the codes of a challenge and of a stale nonce (section 14.8)
+-- the code of a challenge (section 14.8)
 abbrev pub UNAUTHORIZED : ℕ
 UNAUTHORIZED = 401
 
+-- the code of a stale nonce (section 14.8)
 abbrev pub STALE_NONCE : ℕ
 STALE_NONCE = 438
 
@@ -178,6 +183,7 @@ ForReason IntegrityFailed P Q = P
 ForReason UnsupportedFeature P Q = P
 ForReason OutOfMemory P Q = Q
 
+-- the first fact holds, or the second where the answer is that an allocation failed
 abbrev pub OrMemory : {V : Type 0} → Result V LongTermClientAuthErrorReason → Type 0 → Type 0 → Type 0
 OrMemory (Ok value) P Q = P
 OrMemory (Err reason) P Q = ForReason reason P Q

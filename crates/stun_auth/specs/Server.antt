@@ -55,6 +55,7 @@ choice (Some list) (Some a) offered = if same_list list offered && has a offered
 choice (Some list) None offered = None
 choice None (Some a) offered = None
 
+-- the algorithm that both sides mean, by the message's nonce
 abbrev pub agreed : Reading → List ℕ → Option AlgorithmSet → Option IntegrityAlgorithm
 agreed r nonce offered = if asks_for_algorithms nonce then choice r.algorithms r.algorithm (offered_list offered) else Some Sha1
 
@@ -63,6 +64,7 @@ abbrev pub named_by : Option (List ℕ) → Option (List ℕ) → Registered →
 named_by (Some hash) username users feature = if is_possible feature then user_with_hash users hash else None
 named_by None username users feature = option_and_then (user_named users) username
 
+-- the same by what is read of a message
 abbrev pub named : Registered → Feature → Reading → Option NameAndPassword
 named users feature r = named_by r.userhash r.username users feature
 

@@ -55,6 +55,7 @@ signed_at response users None page = Ok page
 signed_at response users (Some p) page =
     after (added_all (attributes_for response users p.nonce p.client) page) (protected_for users p.client)
 
+-- the same by what one address can tell of the server
 abbrev pub server_signed : Sight → Bool → Page → Result Page StunWriteError
 server_signed s response page = signed_at response s.registered s.place page
 
@@ -72,6 +73,7 @@ abbrev pub additions_at : Bool → Registered → Option PlaceSeen → List Addi
 additions_at response users None = []
 additions_at response users (Some p) = attributes_for response users p.nonce p.client ++ digest_for users p.client
 
+-- the same by what one address can tell of the server
 abbrev pub server_additions : Sight → Bool → List Addition
 server_additions s response = additions_at response s.registered s.place
 
@@ -85,6 +87,7 @@ abbrev pub growth_at : Bool → Registered → Option PlaceSeen → ℕ
 growth_at response users None = 0
 growth_at response users (Some p) = growth (attributes_for response users p.nonce p.client) + protection_growth p.client
 
+-- the same by what one address can tell of the server
 abbrev pub server_growth : Sight → Bool → ℕ
 server_growth s response = growth_at response s.registered s.place
 

@@ -35,6 +35,7 @@ new_server realm = record { registered = new_registered realm; feature = Auto; e
 abbrev pub sight : ServerSeen → SocketAddr → Sight
 sight s a = record { registered = s.registered; feature = s.feature; expiry = s.expiry; place = map.get s.places a }
 
+-- what a message is answered
 abbrev pub Answer : Type 0
 Answer = Result LongTermServerValidation LongTermServerAuthErrorReason
 
@@ -42,9 +43,11 @@ Answer = Result LongTermServerValidation LongTermServerAuthErrorReason
 abbrev pub verified_for_client : Registered → Reading → ClientSeen → Option IntegrityAlgorithm
 verified_for_client users r c = option_and_then (verified_under r) (key_at users c.name c.algorithm)
 
+-- the same of the client of a place, if there is one
 abbrev pub client_verified : Registered → Reading → Option PlaceSeen → Option IntegrityAlgorithm
 client_verified users r place = option_and_then (verified_for_client users r) (option_and_then (λ (p : PlaceSeen). p.client) place)
 
+-- the algorithm, or that no digest verifies
 abbrev pub validated_or_failed : Option IntegrityAlgorithm → Answer
 validated_or_failed None = Err IntegrityFailed
 validated_or_failed (Some a) = Ok (Validated a)
@@ -61,6 +64,7 @@ is_malformed r = is_some r.integrity && not (is_complete r)
 abbrev pub needs_nonce : Reading → Bool
 needs_nonce r = not (is_response r.class || is_malformed r)
 
+-- a verdict as an answer
 abbrev pub answer_to : Result ClientSeen Refusal → Answer
 answer_to (Ok client) = Ok (Validated client.algorithm)
 answer_to (Err refusal) = Err (reason_of refusal)
@@ -96,6 +100,7 @@ pub record ChangesNothing (s : Sight) (now : ℕ) (words : List ℕ) (r : Readin
   pub no_nonce : draws s now r ≡ false
   pub same_place : place_after s now words r ≡ s.place
 
+-- the places with one at an address
 abbrev pub put_place : map.FinMap address_cmp PlaceSeen → SocketAddr → Option PlaceSeen → map.FinMap address_cmp PlaceSeen
 put_place places a None = places
 put_place places a (Some place) = map.insert places a place

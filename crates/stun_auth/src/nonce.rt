@@ -215,6 +215,8 @@ fn nonce_of_words<A: Allocator + Copy>(
     if !begins_with_cookie(text.as_bytes()) {
         return Ok(text);
     }
+    // By chance the letters begin with the cookie, which would read as security bits that nobody set. Another first letter ends
+    // that.
     let (_, others) = words.split_at(1);
     text.clear();
     text.push('p')?;

@@ -29,6 +29,7 @@ reason-written error fits =
     let short = fits.short in
     search rules
 
+-- an error that is written is read again
 pub error_of-written : (error : CodeAndReason) → IsError error
     → error_of (record { kind = ERROR_CODE; value = error_value error }) ≡ Some error
 error_of-written error fits = rw (code_in-written error fits, reason-written error fits) (search rules)

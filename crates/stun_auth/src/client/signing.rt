@@ -197,12 +197,14 @@ impl<A: Allocator> LongTermClientAuth<A> {
             → IsOk result }
         ensures stays { self.new ≡ self.old }
     {
+        // Laws do nothing when they run: this one is for the clause `succeeds`.
         sides_sign_what_is_signable();
         self.keeps_short_texts();
         self.signed(writer)
     }
 
-    /// The nonce and the realm that are kept are within their limits, as those of a message are.
+    /// The nonce and the realm that are kept are within their limits, as those of a message are. For the proof alone: it
+    /// brings in what the types of the fields promise.
     fn keeps_short_texts(&self)
         ensures { KeepsShortTexts self.now.state }
     {

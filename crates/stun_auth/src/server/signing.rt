@@ -83,6 +83,7 @@ impl<A: Allocator + Copy> LongTermServerAuth<A> {
             (class_of (type_field (W.bytes writer))))) }
         ensures refused { OnErr result (self.new ≡ self.old) }
     {
+        // Laws do nothing when they run: this one is for the clause `succeeds`.
         sides_sign_what_is_signable();
         let mut writer = writer;
         let is_response = is_response(&writer);

@@ -78,7 +78,7 @@ fn send<A: Allocator + Copy>(
     }
 }
 
-// The step of a message that wants no answer.
+/// The step of a message that wants no answer.
 fn sent<A: Allocator>(
     alloc: A,
     now: Instant,
@@ -91,7 +91,7 @@ fn sent<A: Allocator>(
     Ok(AgentStep::Sent { at: now, to, bytes })
 }
 
-// Sends a request. Where the request is refused, no allocation fails.
+/// Sends a request. Where the request is refused, no allocation fails.
 fn ask<A: Allocator + Copy>(
     alloc: A,
     agent: &mut StunAgent<A>,

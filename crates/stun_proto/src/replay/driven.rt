@@ -75,7 +75,7 @@ pub fn drive<A: Allocator + Copy>(
     Ok(log.steps)
 }
 
-// The turns before an event, the event, and the turn at its moment. After an error the event has not come.
+/// The turns before an event, the event, and the turn at its moment. After an error the event has not come.
 fn take_event<A: Allocator + Copy>(
     alloc: A,
     agent: &mut StunAgent<A>,
@@ -99,7 +99,7 @@ fn take_event<A: Allocator + Copy>(
     Ok(())
 }
 
-// The turns at the awaited moments from one on and below another, both in nanoseconds.
+/// The turns at the awaited moments from one on and below another, both in nanoseconds.
 fn turns<A: Allocator + Copy>(
     alloc: A,
     agent: &mut StunAgent<A>,

@@ -169,19 +169,19 @@ fn turn_at<'a>(
     }
 }
 
-/// A nonce is made of sixteen words.
+/// A nonce is made of sixteen words. For the proof alone: the type of the words says it, and contracts do not see types.
 fn words_are_sixteen(words: [u32; 16])
     ensures { length words ≡ 16 }
 {}
 
-/// The realm of a server is a text.
+/// The realm of a server is a text. For the proof alone: it brings in what a `&str` promises.
 fn realm_is_text<A: Allocator + Copy>(server: &LongTermServerAuth<A>)
     ensures { IsUtf8 server.now.registered.realm }
 {
     let _realm = server.realm();
 }
 
-/// The name of a client's user is a text.
+/// The name of a client's user is a text. For the proof alone, as above.
 fn name_is_text<A: Allocator>(client: &LongTermClientAuth<A>)
     ensures { IfSome client.now.settings.credentials (λ who. IsUtf8 who.username) }
 {

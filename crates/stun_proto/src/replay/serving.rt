@@ -51,6 +51,7 @@ pub fn serve<A: Allocator + Copy>(
     ensures stopped { IfErr result (λ e. (e.done ≤ length calls.now)
         × (server.new ≡ after_calls server.old (take e.done calls.now))) }
 {
+    // A law does nothing when it runs: this one is for the clause `accepted`.
     laws::accepted_messages_are_validated();
     let mut replies = Vec::new(alloc);
     for (done, call) in calls.iter().enumerate() {

@@ -34,7 +34,7 @@ pub(crate) fn turn<A: Allocator + Copy>(
     }
 }
 
-// The transmissions of a moment, until there are none.
+/// The transmissions of a moment, until there are none.
 fn send_all<A: Allocator + Copy>(
     alloc: A,
     agent: &mut StunAgent<A>,
@@ -50,7 +50,7 @@ fn send_all<A: Allocator + Copy>(
     }
 }
 
-// The ends of a moment, until there are none. The answer is the moment to wait until.
+/// The ends of a moment, until there are none. The answer is the moment to wait until.
 fn end_all<A: Allocator + Copy>(
     agent: &mut StunAgent<A>,
     now: Instant,
@@ -66,7 +66,7 @@ fn end_all<A: Allocator + Copy>(
     }
 }
 
-// One call of `poll_transmit`, and its step. The answer tells whether something was sent.
+/// One call of `poll_transmit`, and its step. The answer tells whether something was sent.
 fn send_one<A: Allocator + Copy>(
     alloc: A,
     agent: &mut StunAgent<A>,
@@ -83,7 +83,7 @@ fn send_one<A: Allocator + Copy>(
     true
 }
 
-// One call of `poll`, and its step. The answer is the moment to wait until, where nothing ended.
+/// One call of `poll`, and its step. The answer is the moment to wait until, where nothing ended.
 fn end_one<A: Allocator + Copy>(
     agent: &mut StunAgent<A>,
     now: Instant,

@@ -9,6 +9,7 @@ abbrev pub family_of : XoredOctets → ℕ
 family_of (V4 octets) = 1
 family_of (V6 octets) = 2
 
+-- the octets, of either family
 abbrev pub octets_of : XoredOctets → List ℕ
 octets_of (V4 octets) = octets
 octets_of (V6 octets) = octets

@@ -1,4 +1,4 @@
--- What is done to an agent, call by call. A call that is refused, for want of memory too, leaves the agent as it was.
+-- What is done to an agent, call by call. A call that is refused, or whose allocation fails, leaves the agent as it was.
 use Rattle.std.specs.Prelude.{ℕ, ◌+◌, Bool, false, ◌&&◌, max, if◌then◌else◌, List, [], ◌∷◌, Option}
 use Rattle.std.specs.Option.{option_map_or, is_some, is_none}
 use Rattle.std.specs.declared.net.socket_addr.SocketAddr.{SocketAddr}

@@ -14,7 +14,7 @@ use std::net::SocketAddr;
 use std::time::Duration;
 use stun_base::transport::TransportType;
 
-/// A builder of an agent, seen as the agent that it builds. No call takes memory.
+/// A builder of an agent, seen as the agent that it builds. No call allocates.
 #[derive(Drop)]
 #[derive_where(Debug)]
 pub struct StunAgentBuilder<A: Allocator = Global> {

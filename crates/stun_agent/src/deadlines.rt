@@ -105,7 +105,7 @@ impl<A: Allocator> DeadlineIndex<A> {
         }
     }
 
-    /// Puts a deadline at its place. Where memory is refused, nothing changes.
+    /// Puts a deadline at its place. Where an allocation fails, nothing changes.
     pub(crate) fn insert(&mut self, deadline: Deadline) -> Result<(), AllocError>
         requires { IsInOrder self.old }
         ensures ok { OnOk result (IsPlaced deadline self.old self.new) }

@@ -67,7 +67,7 @@ impl<A: Allocator + Copy> Outstanding<A> {
         self.requests.get(&id)
     }
 
-    /// Keeps a request at an id that has none. Nothing changes where memory is refused.
+    /// Keeps a request at an id that has none. Where an allocation fails, nothing changes.
     pub(crate) fn insert(
         &mut self,
         id: TransactionId,

@@ -20,8 +20,8 @@ impl<A: Allocator + Copy> StunAgent<A> {
         self.peers.contains(&addr)
     }
 
-    /// Names an address as one whose messages were taken. Where an allocation fails, the agent is as before; an
-    /// address that is there already takes none.
+    /// Names an address as one whose messages were taken. Where an allocation fails, the agent is as before. For an address
+    /// that is there already nothing is allocated.
     pub fn validated_peer(&mut self, addr: SocketAddr) -> Result<(), AllocError>
         ensures ok { OnOk result (self.new ≡ with_validated addr self.old) }
         ensures err { OnErr result (self.new ≡ self.old) }

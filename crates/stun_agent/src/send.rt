@@ -87,7 +87,7 @@ impl<A: Allocator + Copy> StunAgent<A> {
     /// The errors, in the order in which they are looked for: `ParseError` where the bytes do not begin with a
     /// header, `ProtocolViolation` for another class, `ProtocolViolation` where the agent is to speak to another
     /// address, `AlreadyInProgress` where a request of its transaction is outstanding, `OutOfMemory` where the bytes
-    /// can not be kept. After an error the agent is as before, and the message is dropped.
+    /// cannot be kept. After an error the agent is as before, and the message is dropped.
     pub fn send_request<T: OwnedBytes + Drop>(
         &mut self,
         msg: T,

@@ -11,7 +11,7 @@ use std::time::Duration;
 /// What an agent has counted since it was built, or since `reset`.
 ///
 /// Bytes are those of whole messages. No counter wraps: it stays at the greatest number of 64
-/// bits, and the sum of the round trips at the greatest number of 128 bits. No call takes memory.
+/// bits, and the sum of the round trips at the greatest number of 128 bits. No call allocates.
 #[derive(Clone, Debug, Default, Drop, PartialEq, Eq)]
 pub struct StunAgentStats {
     requests_sent: u64,

@@ -1,4 +1,4 @@
--- Why a server refuses a message, and answers that want of memory may take the place of (RFC 8489, section 9.2.4).
+-- Why a server refuses a message, and answers that a failed allocation may take the place of (RFC 8489, section 9.2.4).
 use Rattle.std.specs.declared.result.Result.{Result}
 use Rattle.std.specs.declared.result.Result.TheVariants.{Ok, Err}
 use Rattle.stun_auth.specs.declared.server_reason.Refusal.{Refusal}
@@ -16,7 +16,7 @@ reason_of Refused.Unauthorized = Unauthorized
 reason_of Refused.BadRequest = BadRequest
 reason_of Refused.StaleNonce = StaleNonce
 
--- the first fact holds, or the second where the reason is want of memory
+-- the first fact holds, or the second where the reason is a failed allocation
 abbrev pub ForReason : LongTermServerAuthErrorReason → Type 0 → Type 0 → Type 0
 ForReason Unauthorized P Q = P
 ForReason IntegrityFailed P Q = P

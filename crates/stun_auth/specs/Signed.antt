@@ -116,8 +116,8 @@ kinds_in [] = []
 kinds_in (attribute a ∷ others) = a.kind ∷ kinds_in others
 kinds_in (integrity algorithm key ∷ others) = kinds_in others
 
--- nothing but want of memory refuses additions to a message in a writer with so much room: it has no integrity attribute and
--- no FINGERPRINT, and none of the attributes that are added; texts are within their limits; and length field and writer have
+-- nothing but a failed allocation refuses additions to a message in a writer with so much room: it has no integrity attribute
+-- and no FINGERPRINT, and none of the attributes that are added; texts are within their limits; and length field and writer have
 -- room for all of them
 pub record IsSignable (a : Added) (message : List ℕ) (room : ℕ) : Type 0 where
   pub is_open : IsOpen message

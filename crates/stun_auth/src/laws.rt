@@ -195,7 +195,7 @@ pub fn nonces_ask_for_what_is_supported()
         → length (nonce_of set feature words) ≤ 13 + length words }
 {}
 
-/// Both sides sign what can be signed: nothing but want of memory refuses it.
+/// Both sides sign what can be signed: nothing but a failed allocation refuses it.
 pub fn sides_sign_what_is_signable()
     ensures client { (request : Bool) (state : ClientState) (message : List ℕ) (room : ℕ)
         → IsSignable (added_by_client request state) message room

@@ -185,7 +185,7 @@ impl<A: Allocator + Copy> Places<A> {
 
     /// Gives an address a nonce, which is new there or replaces the one before, and a client if there is one.
     ///
-    /// Only the first nonce of an address takes memory here.
+    /// Only the first nonce of an address allocates here.
     pub(crate) fn renew(
         &mut self,
         address: SocketAddr,

@@ -20,7 +20,7 @@ use stun_base::credentials::LongTermCredentials;
 use stun_base::key::{long_term_key, userhash};
 use stun_base::prepared_key::PreparedKey;
 
-/// A user with a key for each supported algorithm, prepared for its digests. The keys are inline.
+/// A user with a key for each supported algorithm, prepared for the digests that are verified under it. The keys are inline.
 #[derive(Drop)]
 pub(crate) struct User<A: Allocator> {
     password: String<A>,
@@ -265,6 +265,7 @@ fn make_keys<A: Allocator, B: Allocator + Copy>(
     ensures keys { AllHaveKeys realm.now supported users.new }
     ensures passwords { passwords_seen users.new.entries ≡ passwords_seen users.old.entries }
 {
+    // All stay: this only walks over the users with their names.
     users.retain(|name, user| {
         user.set_keys(name.as_str(), realm, supported);
         true

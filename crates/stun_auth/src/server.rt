@@ -209,7 +209,7 @@ impl<A: Allocator + Copy> LongTermServerAuth<A> {
     /// Forgets each address without a client whose nonce's end is before `now`: its nonce, the nonce's end and the algorithms
     /// that were offered to it are gone, and what was kept for them is freed. Other addresses stay as they are.
     ///
-    /// It does not allocate. It walks the records once, so call it now and then, as once in the time that a nonce is current,
+    /// It does not allocate. It walks the places once, so call it now and then, as once in the time that a nonce is current,
     /// and not at each message. A forgotten address is met as a new one: what comes with a nonce that was made before is
     /// refused, and its sender is challenged anew.
     pub fn forget_expired(&mut self, now: Instant)

@@ -93,7 +93,7 @@ impl LongTermServerAuthError {
     }
 }
 
-/// Why a server does not accept a message, want of memory aside.
+/// Why a server does not accept a message, a failed allocation aside.
 #[derive(Clone, Copy, Debug, PartialEq, Eq)]
 pub(crate) enum Refusal {
     Unauthorized,

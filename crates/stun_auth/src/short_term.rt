@@ -169,8 +169,8 @@ impl<A: Allocator> ShortTermAuth<A> {
 impl<A: Allocator + Copy> ShortTermAuth<A> {
     /// Sets the password and the algorithm to sign with.
     ///
-    /// The key is made first, so that where its allocation fails both stay as they were. A password of up to 32 bytes
-    /// allocates nothing.
+    /// The key is made first, so that where its allocation fails both stay as they were. For a password of up to 32 bytes
+    /// nothing is allocated.
     pub fn set_credentials(
         &mut self,
         credentials: ShortTermCredentials<A>,

@@ -105,8 +105,8 @@ impl<A: Allocator> fmt::Debug for IntegrityKey<A> {
     }
 }
 
-/// Puts a user's name, realm and password into an empty text, with colons between them, or answers
-/// false where they find no room. It is filled in place: to move it would wait for what was written.
+/// Puts a user's name, realm and password into an empty text, with colons between them, or answers false where they find no
+/// room. It is filled where it is: a text that is moved after it was filled is slower to hash.
 fn join(text: &mut ShortText, username: &[u8], realm: &[u8], password: &[u8]) -> bool
     requires { text.old ≡ [] }
     ensures { result ≡ true → text.new ≡ spec.with_colon

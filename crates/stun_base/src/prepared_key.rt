@@ -1,4 +1,4 @@
-//! A key whose digests are begun ahead, for who makes or verifies many of them (RFC 2104, section 4).
+//! A key whose digests are begun ahead, for whoever makes or verifies many of them (RFC 2104, section 4).
 
 ghost use Rattle.std.specs.Prelude.{◌≡◌, Some, codes, map};
 ghost use Rattle.std.specs.List.{concat};

@@ -1,5 +1,5 @@
 -- A message in the place of another that agrees with it up to its deciding integrity attribute (RFC 8489, sections 14.5 to 14.7):
--- whoever appends to a signed request changes nothing, but by a MESSAGE-INTEGRITY-SHA256 behind a MESSAGE-INTEGRITY.
+-- whoever appends to a signed request changes nothing, but by a MESSAGE-INTEGRITY-SHA256 after a MESSAGE-INTEGRITY.
 use Rattle.std.specs.Prelude.{◌≡◌, ℕ, List, ◌∷◌, ◌++◌, None}
 use Rattle.std.specs.declared.alloc.Global.{Global}
 use Rattle.std.specs.declared.net.socket_addr.SocketAddr.{SocketAddr}
@@ -32,7 +32,7 @@ abbrev pub AgreeingAreAnsweredAlike : Type 0
 AgreeingAreAnsweredAlike = (message other : Vec ℕ Global) → refusal message.items ≡ None → refusal other.items ≡ None
     → AgreeUpToIntegrity message.items other.items → AreAnsweredAlike message other
 
--- and where one goes on from the end of the other's deciding attribute in whatever way, if that shows no stronger one behind it
+-- and where one goes on from the end of the other's deciding attribute in whatever way, if that shows no stronger one after it
 abbrev pub ContinuedAreAnsweredAlike : Type 0
 ContinuedAreAnsweredAlike = (message other : Vec ℕ Global) (m : Member) → refusal message.items ≡ None
     → refusal other.items ≡ None → IsContinuedAnew message.items other.items m → AreAnsweredAlike message other

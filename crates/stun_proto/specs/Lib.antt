@@ -8,7 +8,7 @@ pub mod Replies
 pub mod Accepting
 -- sentence 1: whatever other addresses do
 pub mod Isolation
--- what is put behind the integrity attribute of a message (sections 14.5 to 14.7)
+-- what is put after the integrity attribute of a message (sections 14.5 to 14.7)
 pub mod Appending
 -- addresses that are dealt out to several servers
 pub mod Shards

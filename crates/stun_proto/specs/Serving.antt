@@ -94,11 +94,11 @@ feature_after f (Call.RemoveClient address) = f
 feature_after f (Call.SetExpiry expiry) = f
 feature_after f (Call.ForgetExpired now) = f
 
--- whether a nonce would stand for less than 30 seconds, which a server does not take
+-- whether a nonce would last for less than 30 seconds, which a server does not take
 abbrev pub is_too_short : Duration → Bool
 is_too_short expiry = nat_lt (as_nanos expiry) 30000000000
 
--- how long nonces stand
+-- how long nonces last
 abbrev pub expiry_after : ℕ → ServerCall → ℕ
 expiry_after e (Call.Validate from now message words) = e
 expiry_after e (Call.Sign to message) = e

@@ -23,7 +23,7 @@ pub record HasStopped (until done : ℕ) (a : Agent) (events : List (ℕ × Agen
   pub taken : Run (next_bound until left) 0 a complete lost b
 
 -- ---- going on
--- whoever drives the agent as it was left over the events that are left makes the later steps of the whole run, those behind the
+-- whoever drives the agent as it was left over the events that are left makes the later steps of the whole run, those after the
 -- lost ones, and comes to its agent
 abbrev pub StoppedRunsGoOn : Type 0
 StoppedRunsGoOn = (until done : ℕ) (a b c : Agent) (events : List (ℕ × AgentEvent)) (more : List Step) (stopped : HasStopped until done a events b)

@@ -104,7 +104,7 @@ pub fn best_is_strongest()
 /// Two messages with the same bytes up to the end of the integrity attribute that decides in both, but for the length in the
 /// header, get the same reply and leave the same server, with the same place of their address; and so does each run in which one
 /// of them is in the place of the other. So nobody changes what a server makes of a signed request by appending to it, unless a
-/// MESSAGE-INTEGRITY-SHA256 is put behind a MESSAGE-INTEGRITY: then its digest decides (RFC 8489, sections 14.5 to 14.7).
+/// MESSAGE-INTEGRITY-SHA256 is put after a MESSAGE-INTEGRITY: then its digest decides (RFC 8489, sections 14.5 to 14.7).
 pub fn appending_changes_no_reply()
     ensures agreeing { AgreeingAreAnsweredAlike }
     ensures appended { ContinuedAreAnsweredAlike }
@@ -197,14 +197,14 @@ pub fn is_same_event(one: &AgentEvent, other: &AgentEvent) -> bool
     one == other
 }
 
-/// Places where memory ended are equal as numbers.
+/// Stops of runs are equal where as many events or calls are complete.
 pub fn is_same_stop(one: Stopped, other: Stopped) -> bool
     ensures { IsTrue result ↔ (one ≡ other) }
 {
     one == other
 }
 
-/// Copies of outcomes, of errors and of places where memory ended are the same values.
+/// Copies of outcomes, of errors and of stops are the same values.
 pub fn copied_outcomes(
     outcome: &Outcome,
     error: &NegotiateError,

@@ -83,7 +83,7 @@ pub fn tail_does_not_count()
 {}
 
 /// What follows the deciding attribute is hidden, but for FINGERPRINT: two messages that agree up to it have the same type, id
-/// and other visible attributes, and the same verdict. Whatever is put behind it, they agree, unless it is a stronger one.
+/// and other visible attributes, and the same verdict. Whatever is put after it, they agree, unless it is a stronger one.
 pub fn what_follows_integrity_is_hidden()
     ensures header { (bytes others : List ℕ) → AgreeUpToIntegrity bytes others
         → (type_field bytes ≡ type_field others)

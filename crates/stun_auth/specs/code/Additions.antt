@@ -8,7 +8,7 @@ abbrev pub outcome_of : {V : Type 0} → Result V StunWriteError → Page → Re
 outcome_of (Ok value) page = Ok page
 outcome_of (Err reason) page = Err reason
 
--- a call answers what the additions come to on the page before it, and want of memory only where it is wanting for them
+-- a call answers what the additions come to on the page before it, and a failed allocation only where one is needed for them
 abbrev pub IsOutcome : List Addition → Page → ℕ → Result (Unit {0}) StunWriteError → Page → Type 0
 IsOutcome list page reserved result page_after = UnlessMemory result (outcome_of result page_after ≡ added_all list page) (WantsMemory list page reserved)
 

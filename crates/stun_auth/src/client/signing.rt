@@ -228,7 +228,7 @@ impl<A: Allocator> LongTermClientAuth<A> {
         Ok(writer)
     }
 
-    /// Signs a message of which the caller knows that nothing but want of memory refuses it: it has no integrity attribute,
+    /// Signs a message of which the caller knows that nothing but a failed allocation refuses it: it has no integrity attribute,
     /// no FINGERPRINT and none that signing adds, the user name is within its limit of 513 bytes, and writer and length field
     /// have room for what is added. The message is the one that `sign_outgoing_message` gives.
     pub fn sign_outgoing_message_unchecked<W: MessageWrite>(

@@ -95,7 +95,7 @@ impl<A: Allocator + Copy> LongTermServerAuth<A> {
         Ok(writer)
     }
 
-    /// Signs a message of which the caller knows that nothing but want of memory refuses it: it has no integrity attribute,
+    /// Signs a message of which the caller knows that nothing but a failed allocation refuses it: it has no integrity attribute,
     /// no FINGERPRINT and none that signing adds, the realm is within its limit of 763 bytes, writer and length field have room
     /// for what is added, and the client's user and key are still there. The message is the one that `sign_outgoing_message`
     /// gives.

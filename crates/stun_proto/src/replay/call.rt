@@ -53,7 +53,7 @@ pub enum ServerCall {
     SetAnonymous(Feature),
     /// The client of this address is forgotten.
     RemoveClient(SocketAddr),
-    /// How long nonces stand is set.
+    /// How long nonces last is set.
     SetExpiry(Duration),
     /// Each address without a client whose nonce ended before this moment is forgotten.
     ForgetExpired(Instant),
@@ -100,6 +100,6 @@ pub enum ServerReply<A: Allocator = Global> {
     SignRefused(StunWriteError),
     /// The call is done.
     Done,
-    /// Nonces are to stand for less than 30 seconds, which a server does not take. Nothing was called.
+    /// Nonces are to last for less than 30 seconds, which a server does not take. Nothing was called.
     TooShort,
 }

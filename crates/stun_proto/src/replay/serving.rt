@@ -147,7 +147,7 @@ fn validate<A: Allocator + Copy>(
     }
 }
 
-/// Sets how long nonces stand, where that is not too short.
+/// Sets how long nonces last, where that is not too short.
 fn set_expiry<A: Allocator + Copy>(
     server: &mut LongTermServerAuth<A>,
     expiry: Duration,

@@ -147,7 +147,7 @@ pub(crate) fn read<A: Allocator + Copy>(
     }
 }
 
-/// A refusal of the client, where it is not want of memory.
+/// A refusal of the client, where no allocation failed.
 fn client_refusal(
     reason: LongTermClientAuthErrorReason,
 ) -> Result<Result<LongTermClientValidation, LongTermClientAuthErrorReason>, AllocError>

@@ -9,7 +9,7 @@ fn of_reading(rt: HostRuntime) -> Result<(), Fail> {
     for (error, text) in [
         (StunParseError::Truncated, "the bytes end too early"),
         (StunParseError::NotStun, "the bytes are not a STUN message"),
-        (StunParseError::TooLarge, "bytes stand behind the message"),
+        (StunParseError::TooLarge, "bytes follow the message"),
         (
             StunParseError::MissingAttribute(AttributeType::MESSAGE_INTEGRITY),
             "attribute 0x0008 is missing",
@@ -21,6 +21,9 @@ fn of_reading(rt: HostRuntime) -> Result<(), Fail> {
     ] {
         assert_eq!(rt; format!(in alloc; "{error}")?.as_str(), text);
     }
+    // No option of the formatter changes the text of a type.
+    let kind = AttributeType::MESSAGE_INTEGRITY;
+    assert_eq!(rt; format!(in alloc; "{kind:#>12} {kind:#}")?.as_str(), "0x0008 0x0008");
     Ok(())
 }
 

@@ -27,7 +27,7 @@ fn of_errors(rt: HostRuntime) -> Result<(), Fail> {
     let stopped = Stopped { done: 3 };
     assert_eq!(rt;
         format!(in alloc; "{stopped}")?.as_str(),
-        "out of memory, 3 of them complete"
+        "out of memory after 3 complete events or calls"
     );
     let memory = NegotiateError::Memory;
     assert_eq!(rt; format!(in alloc; "{memory}")?.as_str(), "out of memory");

@@ -1,5 +1,5 @@
 //! Why an agent refuses a call.
-use std::alloc::{AllocError, AllocFailed};
+use std::alloc::AllocError;
 use stun_base::error::{StunParseError, StunWriteError};
 use thiserror::Error;
 

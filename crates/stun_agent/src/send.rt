@@ -13,7 +13,7 @@ use crate::error::StunError;
 use crate::integrity::integrity_of;
 use crate::transaction::Transaction;
 use crate::transmit::Transmit;
-use std::alloc::{AllocError, Allocator};
+use std::alloc::Allocator;
 use std::net::SocketAddr;
 use stun_base::data::OwnedBytes;
 use stun_base::header::MessageHeader;

@@ -15,7 +15,7 @@ pub enum StunParseError {
     #[error("the bytes are not a STUN message")]
     NotStun,
     /// Bytes follow the end of the message.
-    #[error("bytes stand behind the message")]
+    #[error("bytes follow the message")]
     TooLarge,
     /// The message has no visible attribute of this type.
     #[error("attribute {0} is missing")]

@@ -13,7 +13,6 @@ use md5::Md5;
 use sha2::Sha256;
 use smallvec::SmallVec;
 use std::alloc::{AllocError, Allocator, Global};
-use std::convert::AsSlice;
 use std::fmt;
 use std::marker::Model;
 

@@ -1,5 +1,5 @@
 //! Attributes as a message has them: type, value and padding.
-ghost use Rattle.std.specs.Prelude.{◌≡◌, ◌+◌, ◌-◌, ◌*◌, ◌^◌, ◌<◌, ◌≤◌, ◌++◌, ℕ, List, drop, length, min, true, false, OnSome, IfSome, IfNone, Some, refl, ⊤};
+ghost use Rattle.std.specs.Prelude.{◌≡◌, ◌+◌, ◌-◌, ◌^◌, ◌<◌, ◌≤◌, ◌++◌, ℕ, List, drop, length, min, true, false, OnSome, IfSome, IfNone, Some, refl, ⊤};
 ghost use Rattle.std.specs.Cmp.{partial_equiv_from_equiv};
 ghost use Rattle.stun_types.specs.Equality.{same_attribute, same_attribute_equivalence};
 ghost use Rattle.stun_types.specs.Attribute.{attribute_length, padded_length, has_attribute, first_attribute};

@@ -1,6 +1,6 @@
 //! Where messages are written to.
 
-ghost use Rattle.std.specs.Prelude.{◌≡◌, ◌≤◌, ◌<◌, ◌+◌, ◌-◌, ◌↔◌, ℕ, List, [], ◌++◌, length, IsErrOf, IsOk, OnOk, IsOkUnless};
+ghost use Rattle.std.specs.Prelude.{◌≡◌, ◌≤◌, ◌<◌, ◌+◌, ◌-◌, ◌↔◌, ℕ, List, ◌++◌, length, IsErrOf, IsOk, OnOk, IsOkUnless};
 ghost use Rattle.stun_types.specs.Message.{with_length};
 
 use stun_base::data::OwnedBytes;

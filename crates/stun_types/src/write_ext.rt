@@ -1,13 +1,12 @@
 //! What can be written to every writer.
 
-ghost use Rattle.std.specs.Prelude.{◌≡◌, ℕ, List, [], ◌∷◌, ◌≤◌, ◌+◌, ◌-◌, ◌^◌, ◌↔◌, ◌++◌, false, min, length, None, Some, IsTrue, IsOk, IsOkUnless, MatchOption, OnErr, OnOk};
+ghost use Rattle.std.specs.Prelude.{◌≡◌, ◌≤◌, ◌+◌, ◌-◌, ◌^◌, ◌↔◌, ◌++◌, false, min, length, None, IsTrue, IsOk, OnErr, OnOk};
 ghost use Rattle.stun_base.specs.Algorithm.{digest, digest_length};
 ghost use Rattle.stun_base.specs.Header.{BeginsWithHeader, header_of, type_field, transaction_id_field};
 ghost use Rattle.stun_base.specs.Keys.OfCredentials.{keys_of};
 ghost use Rattle.stun_base.specs.MessageType.{class_of, IsResponse};
-ghost use Rattle.stun_types.specs.Attribute.{TypedValue, attribute_length};
+ghost use Rattle.stun_types.specs.Attribute.{attribute_length};
 ghost use Rattle.stun_types.specs.Grammar.{spelled, spelled_attribute};
-ghost use Rattle.stun_types.specs.Integrity.{verified_by};
 ghost use Rattle.stun_types.specs.Limits.{max_length};
 ghost use Rattle.stun_types.specs.Visible.{has_kind};
 ghost use Rattle.stun_types.specs.Walk.{walk};

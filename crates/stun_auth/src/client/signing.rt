@@ -16,7 +16,6 @@ use crate::challenge::{KeptChallenge, UserNaming};
 use crate::client::{LongTermClientAuth, State};
 use crate::laws::sides_sign_what_is_signable;
 use std::alloc::{AllocError, Allocator};
-use std::convert::AsSlice;
 use stun_types::message::{IntegrityAlgorithm, MessageClass, StunWriteError};
 use stun_types::prelude::*;
 

@@ -111,7 +111,7 @@ pub enum AgentStep<A: Allocator = Global> {
 
 /// An allocation failed in a run.
 #[derive(Clone, Copy, PartialEq, Eq, Debug, Error)]
-#[error("out of memory, {done} of them complete")]
+#[error("out of memory after {done} complete events or calls")]
 pub struct Stopped {
     /// How many of the events or calls are complete. Whoever goes on begins at this index. The law
     /// `stopped_runs_go_on` says that of events this makes the rest of the run.

@@ -54,7 +54,6 @@ pub enum NegotiateError {
 }
 
 impl From<StunWriteError> for NegotiateError {
-    ghost use Rattle.stun_proto.specs.code.Meetings.{turn_of};
     ghost use Rattle.stun_proto.specs.Negotiating.{error_of};
 
     ghost from_gives = { λ reason error. error ≡ error_of reason };

@@ -18,7 +18,7 @@ pub struct WordSource {
 }
 
 impl Model for WordSource {
-    ghost use Rattle.std.specs.Prelude.{ℕ, List, drop, length, ◌≤◌};
+    ghost use Rattle.std.specs.Prelude.{ℕ, List, drop, ◌≤◌};
 
     ghost Value = { List ℕ };
 

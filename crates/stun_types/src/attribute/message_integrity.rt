@@ -2,7 +2,7 @@
 //!
 //! A program makes neither: the calls of a writer for integrity append them.
 
-ghost use Rattle.std.specs.Prelude.{◌≡◌, ◌%◌, length, ⊤};
+ghost use Rattle.std.specs.Prelude.{◌≡◌, length, ⊤};
 ghost use Rattle.std.specs.Cmp.{partial_equiv_from_equiv};
 ghost use Rattle.stun_base.specs.Credentials.{same_text, same_text_equivalence};
 ghost use Rattle.stun_base.specs.Attributes.{MESSAGE_INTEGRITY, MESSAGE_INTEGRITY_SHA256};

@@ -20,7 +20,7 @@ pub struct MessageWriteVec<A: Allocator = Global> {
 }
 
 impl<A: Allocator> Model for MessageWriteVec<A> {
-    ghost use Rattle.std.specs.Prelude.{◌+◌, ◌≤◌, vec_len, vec_capacity};
+    ghost use Rattle.std.specs.Prelude.{vec_len, vec_capacity};
     ghost use Rattle.stun_types.specs.WriteVec.{Written};
     ghost use Rattle.stun_types.specs.code.WriteVec.{FitsCapacity};
 
@@ -45,7 +45,7 @@ impl<A: Allocator> MessageWriteVec<A> {
 }
 
 impl<A: Allocator> MessageWrite for MessageWriteVec<A> {
-    ghost use Rattle.std.specs.Prelude.{◌-◌, ◌≤◌, length};
+    ghost use Rattle.std.specs.Prelude.{◌-◌, length};
     ghost use Rattle.stun_types.specs.Limits.{LENGTH_LIMIT};
 
     type Output = Vec<u8, A>;

@@ -22,7 +22,6 @@ use stun_auth::auth::{
 use stun_base::algorithm::IntegrityAlgorithm;
 use stun_base::instant::Instant;
 use stun_base::transaction_id::TransactionId;
-use stun_types::message::Message;
 use stun_types::prelude::*;
 
 /// A request: its id, the moment at which the server reads it, the random words of a nonce, and the server's calls just before

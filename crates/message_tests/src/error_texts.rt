@@ -23,7 +23,10 @@ fn of_reading(rt: HostRuntime) -> Result<(), Fail> {
     }
     // No option of the formatter changes the text of a type.
     let kind = AttributeType::MESSAGE_INTEGRITY;
-    assert_eq!(rt; format!(in alloc; "{kind:#>12} {kind:#}")?.as_str(), "0x0008 0x0008");
+    assert_eq!(rt;
+        format!(in alloc; "{kind:#>12} {kind:#}")?.as_str(),
+        "0x0008 0x0008"
+    );
     Ok(())
 }
 

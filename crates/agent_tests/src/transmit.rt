@@ -1,6 +1,6 @@
 //! What is to be sent, and the texts of it and of the agent's errors.
 use std::test::Fail;
-use stun_agent::agent::{StunAgent, StunError, Transmit};
+use stun_agent::agent::{NoRoom, StunAgent, StunError, Transmit};
 use stun_base::data::{Data, OwnedBytes};
 use stun_base::error::{StunParseError, StunWriteError};
 use stun_base::transport::TransportType;
@@ -66,6 +66,39 @@ fn what_is_lent_next_is_told_before(rt: HostRuntime) -> Result<(), Fail> {
 }
 
 #[test]
+fn what_does_not_fit_is_not_lost(rt: HostRuntime) -> Result<(), Fail> {
+    let mut agent = StunAgent::builder(rt.alloc(), TransportType::Udp, local()).build();
+    for number in [1, 2] {
+        let _sent = agent.send_request(message(REQUEST, number), peer(), at(0))?;
+    }
+    // A message of no attributes has 20 bytes.
+    assert!(rt; agent.poll_transmit_within(at(499), 0)?.is_none());
+    assert_eq!(rt; agent.poll_transmit_within(at(500), 19).err(), Some(NoRoom));
+    let first = agent.poll_transmit_within(at(500), 20)?;
+    assert_eq!(rt;
+        first.ok_or("the first is due")?.data,
+        message(REQUEST, 1).as_slice()
+    );
+    // The first is silent at its next slot, and the second is measured all the same.
+    agent
+        .mut_request_transaction(id(1)?)
+        .ok_or("it is outstanding")?
+        .cancel_retransmissions();
+    assert!(rt; agent.poll_transmit_within(at(500), 20)?.is_some());
+    assert_eq!(rt;
+        agent.poll_transmit_within(at(1500), 19).err(),
+        Some(NoRoom)
+    );
+    let second = agent.poll_transmit_within(at(1500), 20)?;
+    assert_eq!(rt;
+        second.ok_or("the second is due")?.data,
+        message(REQUEST, 2).as_slice()
+    );
+    assert!(rt; agent.poll_transmit_within(at(1500), 0)?.is_none());
+    Ok(())
+}
+
+#[test]
 fn texts(rt: HostRuntime) -> Result<(), Fail> {
     let alloc = rt.alloc();
     let sent = Transmit::new(
@@ -96,6 +129,11 @@ fn texts(rt: HostRuntime) -> Result<(), Fail> {
     ] {
         assert_eq!(rt; format!(in alloc; "{error}")?.as_str(), text);
     }
+    let refused = NoRoom;
+    assert_eq!(rt;
+        format!(in alloc; "{refused}")?.as_str(),
+        "No room for what is to be sent"
+    );
     let parse = StunError::from(inner);
     let write = StunError::from(written);
     assert_eq!(rt;

@@ -65,7 +65,7 @@ fn a_first_nonce_is_made_or_not(rt: HostRuntime) -> Result<(), Fail> {
     heap.each_refusal(|nth| first_request(&rt, &heap, bytes.as_slice(), nth))
 }
 
-/// A signed request: its client is kept, or there is none.
+/// A signed request: its client is kept, which takes one allocation, or there is none.
 fn accepted_request(
     rt: &impl Abort,
     (alloc, heap): (Global, &Heap),
@@ -84,6 +84,7 @@ fn accepted_request(
     }
     expect_nonce(rt, &server, Some(FULL_NONCE));
     expect_sizes(rt, &server, (44, 92));
+    assert_eq!(rt; is_last, nth == 2);
     Ok(is_last)
 }
 

@@ -8,7 +8,7 @@ ghost use Rattle.stun_agent.specs.Timing.{settings_of, default_settings};
 ghost use Rattle.stun_agent.specs.Peers.{Peers, is_peer, with_peer};
 
 use crate::agent::StunAgentPollRet;
-use crate::error::StunError;
+use crate::error::{NoRoom, StunError};
 use crate::request::StunRequest;
 use crate::rto::RequestRto;
 use crate::stats::StunAgentStats;
@@ -135,6 +135,13 @@ pub fn is_same_poll(one: StunAgentPollRet, other: StunAgentPollRet) -> bool
 
 /// An agent's errors are equal as values.
 pub fn is_same_error(one: StunError, other: StunError) -> bool
+    ensures { IsTrue result ↔ (one ≡ other) }
+{
+    one == other
+}
+
+/// A want of room is always the same.
+pub fn is_same_want_of_room(one: NoRoom, other: NoRoom) -> bool
     ensures { IsTrue result ↔ (one ≡ other) }
 {
     one == other

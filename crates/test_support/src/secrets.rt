@@ -3,7 +3,7 @@ use std::alloc::{AllocError, Global};
 use std::fmt::{self, Debug, Write};
 use std::test::Fail;
 
-/// A writer that keeps what it is given, and fails once it was called so often.
+/// A writer that keeps all that it is given, and fails once it was called so often.
 #[derive(Drop)]
 pub struct FailingWriter {
     text: String,
@@ -12,18 +12,18 @@ pub struct FailingWriter {
 
 impl Write for FailingWriter {
     fn write_str(&mut self, text: &str) -> fmt::Result {
+        if let Err(AllocError) = self.text.push_str(text) {
+            return Err(fmt::Error);
+        }
         if self.calls == 0 {
             return Err(fmt::Error);
         }
         self.calls -= 1;
-        match self.text.push_str(text) {
-            Ok(()) => Ok(()),
-            Err(AllocError) => Err(fmt::Error),
-        }
+        Ok(())
     }
 }
 
-/// What is written of a value up to the writer's failure, after so many calls.
+/// What is handed to a writer that fails after so many calls, what comes after the failure too.
 fn cut<T: Debug>(alloc: Global, value: &T, calls: u32) -> String {
     let mut writer = FailingWriter {
         text: String::new(alloc),

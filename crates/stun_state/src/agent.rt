@@ -1,15 +1,15 @@
 //! What the exports do with an agent (RFC 8489, section 6.2).
 
-ghost use Rattle.std.specs.Prelude.{◌≡◌, ◌≤◌, ◌++◌, ◌||◌, not, ⊤, IsTrue, length, drop, Some, None, Ok, Err, IfOk, IfErr, IfNone, IfSome, OnErr, OnOk};
+ghost use Rattle.std.specs.Prelude.{◌≡◌, ◌≤◌, ◌++◌, ⊤, IsTrue, length, drop, Some, None, IfOk, IfErr, IfSome, OnErr, OnOk};
 ghost use Rattle.std.specs.Duration.{as_nanos};
 ghost use Rattle.std.specs.Option.{option_map};
 ghost use Rattle.byteorder.specs.Endian.{big_bytes};
-ghost use Rattle.stun_agent.specs.Agent.{after_message, after_poll, after_poll_transmit, after_send, after_send_request, poll_answer, sent_by_poll, takes_message};
-ghost use Rattle.stun_agent.specs.Peers.{is_peer};
+ghost use Rattle.stun_agent.specs.Agent.{after_message, after_poll, after_poll_transmit, after_send, after_send_request, poll_answer, sent_by_poll};
 ghost use Rattle.stun_agent.specs.Transactions.{cancelled, configured, silenced};
 ghost use Rattle.stun_state.specs.Addresses.{socket_address};
 ghost use Rattle.stun_state.specs.Agent.{bytes_told, found, handled, id_in, id_told, kept_after_naming, known, made, made_with, moment_told, nanoseconds, peer_found, polled, refusal_of_agent, requested, sent, sent_again, sent_to, settings_of, told, told_of, transport_numbered, with_changed};
 ghost use Rattle.stun_state.specs.Answers.{OrMemory, at_address, done_if_given};
+ghost use Rattle.stun_state.specs.Memory.{message_adds_none};
 
 use crate::address::Address;
 use crate::codes::Refusal;
@@ -256,10 +256,10 @@ pub fn handle(
         (λ from. agent.new ≡ after_message (Some now) message.now from agent.old)) }
     ensures err { OnErr result (agent.new ≡ agent.old) }
 
-    // A message that is not taken, or comes from an address that is kept already, wants no memory.
-    ensures no_memory { IfSome (socket_address from.now) (λ from.
-        IsTrue (is_peer from agent.old.peers || not (takes_message message.now from agent.old)) →
-        result ≡ handled agent.old message.now from) }
+    // Where no address is added to those that are kept, no memory is wanted.
+    ensures no_memory { IsTrue (message_adds_none agent.old message.now
+        (socket_address from.now)) →
+        result ≡ at_address (socket_address from.now) (handled agent.old message.now) }
 {
     let from = from.socket()?;
     let message = Message::from_bytes(message)?;

@@ -1,0 +1,11 @@
+-- Where a call keeps nothing more, so that it takes no memory and none can be wanting: its answer is the one of its definition.
+use Rattle.std.specs.Prelude.{◌||◌, not, is_some, Bool, true, ℕ, List, Option, Some, None}
+use Rattle.std.specs.declared.net.socket_addr.SocketAddr.{SocketAddr}
+use Rattle.stun_agent.specs.Agent.{Agent, takes_message}
+use Rattle.stun_agent.specs.Peers.{is_peer}
+use Rattle.stun_types.specs.Message.{refusal}
+
+-- whether bytes add no address to those that an agent keeps: they come from none, are no message, come from one that is kept already, or are not taken
+abbrev pub message_adds_none : Agent → List ℕ → Option SocketAddr → Bool
+message_adds_none a bytes None = true
+message_adds_none a bytes (Some from) = is_some (refusal bytes) || (is_peer from a.peers || not (takes_message bytes from a))

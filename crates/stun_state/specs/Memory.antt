@@ -5,7 +5,12 @@ use Rattle.stun_agent.specs.Agent.{Agent, takes_message}
 use Rattle.stun_agent.specs.Peers.{is_peer}
 use Rattle.stun_types.specs.Message.{refusal}
 
--- whether bytes add no address to those that an agent keeps: they come from none, are no message, come from one that is kept already, or are not taken
+-- whether naming an address adds none to those that an agent keeps: it is none, or is kept already
+abbrev pub naming_adds_none : Agent → Option SocketAddr → Bool
+naming_adds_none a None = true
+naming_adds_none a (Some peer) = is_peer peer a.peers
+
+-- whether bytes add none: they come from none, are no message, come from one that is kept already, or are not taken
 abbrev pub message_adds_none : Agent → List ℕ → Option SocketAddr → Bool
 message_adds_none a bytes None = true
 message_adds_none a bytes (Some from) = is_some (refusal bytes) || (is_peer from a.peers || not (takes_message bytes from a))

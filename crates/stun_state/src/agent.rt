@@ -9,7 +9,7 @@ ghost use Rattle.stun_agent.specs.Transactions.{cancelled, configured, silenced}
 ghost use Rattle.stun_state.specs.Addresses.{socket_address};
 ghost use Rattle.stun_state.specs.Agent.{bytes_told, found, handled, id_in, id_told, kept_after_naming, known, made, made_with, moment_told, nanoseconds, peer_found, polled, refusal_of_agent, requested, sent, sent_again, sent_to, settings_of, told, told_of, transport_numbered, with_changed};
 ghost use Rattle.stun_state.specs.Answers.{OrMemory, at_address, done_if_given};
-ghost use Rattle.stun_state.specs.Memory.{message_adds_none};
+ghost use Rattle.stun_state.specs.Memory.{message_adds_none, naming_adds_none};
 
 use crate::address::Address;
 use crate::codes::Refusal;
@@ -272,6 +272,10 @@ pub fn validated_peer(agent: &mut StunAgent<Global>, peer: &Address) -> Result<(
     ensures answer { OrMemory result (result ≡ done_if_given (socket_address peer.now)) ⊤ }
     ensures ok { OnOk result (agent.new ≡ kept_after_naming agent.old peer.now) }
     ensures err { OnErr result (agent.new ≡ agent.old) }
+
+    // An address that is kept already wants no memory.
+    ensures there { IsTrue (naming_adds_none agent.old (socket_address peer.now)) →
+        result ≡ done_if_given (socket_address peer.now) }
 {
     agent.validated_peer(peer.socket()?)?;
     Ok(())

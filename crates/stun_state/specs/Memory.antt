@@ -1,9 +1,14 @@
 -- Where a call keeps nothing more, so that it takes no memory and none can be wanting: its answer is the one of its definition.
-use Rattle.std.specs.Prelude.{◌||◌, not, is_some, Bool, true, ℕ, List, Option, Some, None}
+use Rattle.std.specs.Prelude.{◌≡◌, ⊤, ◌||◌, not, is_some, Bool, true, ℕ, List, Option, Some, None, MatchOption}
 use Rattle.std.specs.declared.net.socket_addr.SocketAddr.{SocketAddr}
 use Rattle.stun_agent.specs.Agent.{Agent, takes_message}
 use Rattle.stun_agent.specs.Peers.{is_peer}
 use Rattle.stun_types.specs.Message.{refusal}
+use Rattle.stun_auth.specs.Client.{ClientSide}
+use Rattle.stun_auth.specs.ClientStep.{IsResend}
+use Rattle.stun_auth.specs.Reading.{reading_of}
+use Rattle.stun_auth.specs.Validation.{ChangesNothing, ServerSeen, sight}
+use Rattle.stun_state.specs.Client.{step}
 
 -- whether naming an address adds none to those that an agent keeps: it is none, or is kept already
 abbrev pub naming_adds_none : Agent → Option SocketAddr → Bool
@@ -14,3 +19,13 @@ naming_adds_none a (Some peer) = is_peer peer a.peers
 abbrev pub message_adds_none : Agent → List ℕ → Option SocketAddr → Bool
 message_adds_none a bytes None = true
 message_adds_none a bytes (Some from) = is_some (refusal bytes) || (is_peer from a.peers || not (takes_message bytes from a))
+
+-- bytes change nothing of a server: they come from no address, are no message, or change nothing at their address
+abbrev pub LeavesServer : ServerSeen → List ℕ → ℕ → List ℕ → Option SocketAddr → Type 0
+LeavesServer s bytes now words None = ⊤
+LeavesServer s bytes now words (Some from) =
+    MatchOption (refusal bytes) (ChangesNothing (sight s from) now words (reading_of bytes)) (λ _. ⊤)
+
+-- bytes are a message that asks a client for another request
+abbrev pub AsksAgain : ClientSide → List ℕ → Type 0
+AsksAgain c bytes = (refusal bytes ≡ None) × IsResend (step c bytes).answer

@@ -1,12 +1,12 @@
 //! What the exports do with a client's authenticator (RFC 8489, sections 9.2.3 and 9.2.5).
 
-ghost use Rattle.std.specs.Prelude.{◌≡◌, ◌≤◌, ⊤, ◌<◌, ◌+◌, ◌-◌, ◌^◌, min, length, take, None, Some, Ok, Err, IfErr, IfOk, OnErr, OnOk};
-ghost use Rattle.stun_types.specs.Message.{refusal};
+ghost use Rattle.std.specs.Prelude.{◌≡◌, ⊤, length, None, Some, Ok, Err, IfErr, IfOk, OnErr, OnOk};
 ghost use Rattle.stun_auth.specs.Client.{new_client};
 ghost use Rattle.stun_auth.specs.ClientStep.{IsResend};
 ghost use Rattle.stun_state.specs.Answers.{ForRefusal, OrMemory, done_if_given, texts_refusal};
 ghost use Rattle.stun_state.specs.Client.{after_validating, step, validated, validation_answer, with_algorithms, with_credentials, with_feature};
 ghost use Rattle.stun_state.specs.Codes.{algorithms_numbered, feature_numbered};
+ghost use Rattle.stun_state.specs.Memory.{AsksAgain};
 ghost use Rattle.stun_state.specs.Signing.{buffer_after, client_signs, length_of, signed_by_client};
 
 use crate::codes::{Refusal, feature_numbered};
@@ -125,7 +125,7 @@ pub fn validate(
     message: &[u8],
 ) -> Result<LongTermClientValidation, Refusal>
     ensures answer { OrMemory result (result ≡ validated client.old message.now)
-        ((refusal message.now ≡ None) × IsResend (step client.old message.now).answer) }
+        (AsksAgain client.old message.now) }
     ensures state { OrMemory result (client.new ≡ after_validating client.old message.now)
         (client.new ≡ client.old) }
     ensures refused { OnErr result (client.new ≡ client.old) }

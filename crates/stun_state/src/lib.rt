@@ -4,7 +4,7 @@
 //! leaves in the words of those crates: `kept` is what the handle kept, and `handle.new` what it keeps.
 #![tactic(auto)]
 
-ghost use Rattle.std.specs.Prelude.{◌≡◌, ⊤, length, pos, MatchOption, MatchResult, Some, None, Ok, Err, IfNone, IfSome, IsSomeAnd};
+ghost use Rattle.std.specs.Prelude.{◌≡◌, ◌⊎◌, length, pos, MatchOption, MatchResult, Some, None, Ok, IfNone, IfSome, IsTrue};
 ghost use Rattle.stun_agent.specs.Agent.{after_poll, after_poll_transmit, after_send, poll_answer, sent_by_poll};
 ghost use Rattle.stun_agent.specs.Transactions.{cancelled, configured, silenced};
 ghost use Rattle.stun_auth.specs.Forgetting.{after_forgetting};
@@ -17,6 +17,7 @@ ghost use Rattle.stun_auth.specs.Validation.{new_server};
 ghost use Rattle.stun_state.specs.Client as on_client;
 ghost use Rattle.stun_state.specs.Client.{after_validating, validated, with_credentials};
 ghost use Rattle.stun_state.specs.Codes.{algorithms_numbered, code_of, feature_numbered};
+ghost use Rattle.stun_state.specs.Memory.{AsksAgain, LeavesServer, message_adds_none, naming_adds_none};
 ghost use Rattle.stun_state.specs.Numbers.{IsOrOutOfMemory, OrOutOfMemory, client_answer, done_answer, left_by, length_answer, length_told, number_answer, reading_answer};
 ghost use Rattle.stun_state.specs.Server as on_server;
 ghost use Rattle.stun_state.specs.Server.{client_at, client_found, kept_after_validating, name_written, validation_number, with_expiry, without_client, without_named};
@@ -238,6 +239,12 @@ pub extern "C" fn stun_agent_handle(
       agent = left_by result kept.agent
           (kept_after_message kept.agent message.now from.now now);
     })) }
+
+    // Where no address is added to those that are kept, no allocation fails.
+    ensures no_memory { IfSome handle.old.agent (λ kept.
+        IsTrue (message_adds_none kept.agent message.now (socket_address from.now)) →
+        result ≡ number_answer
+        (at_address (socket_address from.now) (handled kept.agent message.now))) }
 {
     let Some(mut kept) = handle.take(alloc) else {
         return Refusal::EmptyHandle.code();
@@ -261,6 +268,11 @@ pub extern "C" fn stun_agent_validated_peer(
     ensures state { IfSome handle.old.agent (λ kept. handle.new.agent ≡ Some (record {
       agent = left_by result kept.agent (kept_after_naming kept.agent peer.now);
     })) }
+
+    // Nor where the address is kept already.
+    ensures there { IfSome handle.old.agent (λ kept.
+        IsTrue (naming_adds_none kept.agent (socket_address peer.now)) →
+        result ≡ done_answer (done_if_given (socket_address peer.now))) }
 {
     let Some(mut kept) = handle.take(alloc) else {
         return Refusal::EmptyHandle.code();
@@ -654,6 +666,11 @@ pub extern "C" fn stun_server_validate(
         (Some (record {
           server = kept_after_validating kept.server message.now from.now now words.now;
         }))) }
+
+    // Where nothing of the server changes, as where the same client is accepted again, no allocation fails.
+    ensures unchanged { IfSome handle.old.server (λ kept.
+        LeavesServer kept.server message.now now words.now (socket_address from.now) →
+        result ≡ validation_number kept.server message.now from.now now words.now) }
 {
     let Some(mut kept) = handle.take(alloc) else {
         return Refusal::EmptyHandle.code();
@@ -830,6 +847,11 @@ pub extern "C" fn stun_client_validate(
         handle.old.client handle.new.client
         (reading_answer (validated kept.client message.now))
         (Some (record { client = after_validating kept.client message.now }))) }
+
+    // An allocation fails only where another request is asked for.
+    ensures resend { IfSome handle.old.client (λ kept.
+        (result ≡ reading_answer (validated kept.client message.now))
+        ⊎ AsksAgain kept.client message.now) }
 {
     let Some(mut kept) = handle.take(alloc) else {
         return Refusal::EmptyHandle.code();

@@ -1,8 +1,6 @@
 //! What the exports do with a server's authenticator (RFC 8489, section 9.2.4).
 
-ghost use Rattle.std.specs.Prelude.{◌≡◌, ◌≤◌, ◌<◌, ◌+◌, ◌-◌, ◌^◌, ⊤, nat_lt, true, false, length, take, max, min, Some, None, Ok, Err, IfOk, IfErr, IfNone, IfSome, OnErr, OnOk, option_and_then, option_copied};
-ghost use Rattle.std.specs.FinMap as map;
-ghost use Rattle.std.specs.declared.net.socket_addr.SocketAddr.{SocketAddr as TheAddress};
+ghost use Rattle.std.specs.Prelude.{◌≡◌, ◌≤◌, ◌<◌, ◌+◌, ◌^◌, ⊤, nat_lt, true, false, length, take, Some, None, Ok, Err, IfOk, IfErr, OnErr, OnOk};
 ghost use Rattle.stun_auth.specs.Forgetting.{after_forgetting};
 ghost use Rattle.stun_auth.specs.Reading.{class_in, is_response, reading_of};
 ghost use Rattle.stun_auth.specs.Registered.{with_user};
@@ -11,6 +9,7 @@ ghost use Rattle.stun_auth.specs.Validation.{ChangesNothing, after_message, answ
 ghost use Rattle.stun_state.specs.Addresses.{socket_address};
 ghost use Rattle.stun_state.specs.Answers.{ForRefusal, OrMemory, after_address, at_address, done_if_given, text_refusal, texts_refusal};
 ghost use Rattle.stun_state.specs.Codes.{algorithms_numbered, feature_numbered};
+ghost use Rattle.stun_state.specs.Memory.{LeavesServer};
 ghost use Rattle.stun_state.specs.Signing.{buffer_after, is_too_long, length_of, server_signs, signed_by_server};
 ghost use Rattle.stun_state.specs.Server.{after_validating, client_at, client_told, name_written, validated, validation_answer, with_algorithms, with_expiry, with_feature, without_client, without_named};
 
@@ -264,11 +263,11 @@ pub fn validate(
         (after_validating server.old message.now now words.now))
         (server.new ≡ server.old) }
 
-    // Where the message changes nothing, nothing is allocated.
-    ensures unchanged { IfSome (socket_address from.now) (λ from.
-        ChangesNothing (sight server.old from) now words.now (reading_of message.now) →
-        result ≡ validated server.old message.now now words.now from) }
-    ensures no_address { IfNone (socket_address from.now) (result ≡ Err Refusal.BadArgument) }
+    // Where nothing of the server changes, no memory is wanted.
+    ensures unchanged { LeavesServer server.old message.now now words.now
+        (socket_address from.now) →
+        result ≡ at_address (socket_address from.now)
+        (validated server.old message.now now words.now) }
 {
     let from = from.socket()?;
     let message = Message::from_bytes(message)?;

@@ -17,7 +17,7 @@ use Rattle.stun_base.specs.declared.transport.TransportType.{TransportType}
 use Rattle.stun_base.specs.declared.transport.TransportType.TheVariants.{Udp, Tcp}
 use Rattle.stun_types.specs.Message.{refusal}
 use Rattle.stun_state.specs.Addresses.{address_of, socket_address}
-use Rattle.stun_state.specs.Answers.{after_address, at_address, message_refusal, unless_refused}
+use Rattle.stun_state.specs.Answers.{after_address, message_refusal, unless_refused}
 use Rattle.stun_state.specs.Codes.{refusal_of_parse}
 use Rattle.stun_state.specs.declared.address.Address.{Address}
 use Rattle.stun_state.specs.declared.agent.Statistics.{Statistics}

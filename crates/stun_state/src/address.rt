@@ -1,6 +1,6 @@
 //! The addresses that callers give and get.
 
-ghost use Rattle.std.specs.Prelude.{◌≡◌, ◌++◌, take, replicate, IfOk, IfErr, Some, None};
+ghost use Rattle.std.specs.Prelude.{◌≡◌, take, IfOk, IfErr, Some, None};
 ghost use Rattle.stun_state.specs.Addresses.{address_of, ipv4, ipv6, socket_address};
 
 use crate::codes::Refusal;

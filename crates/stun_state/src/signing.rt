@@ -1,9 +1,7 @@
 //! A message in a caller's buffer that is to be signed.
 
-ghost use Rattle.std.specs.Prelude.{◌≡◌, ◌≤◌, ◌++◌, ◌+◌, ◌-◌, ◌^◌, ◌<◌, length, take, drop, find, min, None, Some, Ok, IfErr, IfOk, OnOk, is_some};
+ghost use Rattle.std.specs.Prelude.{◌≡◌, ◌≤◌, ◌++◌, length, take, drop, None, Some, Ok, IfErr, IfOk, OnOk};
 ghost use Rattle.stun_base.specs.Header.{BeginsWithHeader};
-ghost use Rattle.stun_types.specs.Message.{IsMessage};
-ghost use Rattle.stun_types.specs.Visible.{visible};
 ghost use Rattle.stun_types.specs.Writing.{is_set_apart};
 ghost use Rattle.stun_auth.specs.Reading.{class_in, is_response};
 ghost use Rattle.stun_state.specs.Signing.{base_refusal, buffer_after, fitted, is_closed, is_too_long, length_of};

@@ -5,7 +5,7 @@
 
 enum { MANY = 20, MOST_TRIES = 1000, LATE = 3602, MOST_PEERS = 256 };
 
-struct world { stun_agent agent; stun_server server; stun_client client; struct message message; };
+struct world { stun_agent agent, second_agent; stun_server server; stun_client client; struct message message; };
 
 /* One call of the library on a world. A message that it writes is the world's message afterwards. */
 typedef int64_t call(struct world *world, uint32_t number);
@@ -15,6 +15,12 @@ static const uint32_t other_words[16] = {1, 2, 3, 4};
 static int64_t makes_agent(struct world *world, uint32_t number) {
     stun_address local = address_of(number);
     return stun_agent_new(&world->agent, STUN_UDP, &local);
+}
+
+static int64_t makes_agent_with(struct world *world, uint32_t number) {
+    stun_address local = address_of(number), remote = address_of(number + 1);
+    stun_timeouts timeouts = STUN_DEFAULT_TIMEOUTS;
+    return stun_agent_new_with(&world->second_agent, STUN_UDP, &local, &remote, &timeouts);
 }
 
 static int64_t makes_server(struct world *world, uint32_t number) {
@@ -152,6 +158,7 @@ static const struct step {
     bool may_allocate;
 } steps[] = {
     {"makes an agent", makes_agent, 1, 1, 0, true},
+    {"makes an agent with time-outs and a remote address", makes_agent_with, 1, 1, 0, true},
     {"makes a server", makes_server, 0, 0, 0, true},
     {"makes a client", makes_client, 0, 0, 0, true},
     {"sets algorithms", sets_algorithms, 3, 3, 0, false},
@@ -190,9 +197,9 @@ static const struct step {
 
 /* What a world answers that leaves it as it is. Bytes that no answer covers are zero. */
 struct answers {
-    stun_statistics counts;
+    stun_statistics counts, second_counts;
     stun_address peers[MANY];
-    int64_t outstanding[MANY], clients[MANY], signs[MANY], client_signs, is_peer[MOST_PEERS];
+    int64_t outstanding[MANY], clients[MANY], signs[MANY], client_signs, second_answer, is_peer[MOST_PEERS];
     uint8_t names[MANY][16];
     struct message signed_answers[MANY], signed_request;
     uint64_t until;
@@ -203,6 +210,7 @@ static void look(struct world *world, struct answers *seen) {
     size_t length;
     memset(seen, 0, sizeof *seen);
     stun_agent_statistics(&world->agent, &seen->counts);
+    seen->second_answer = stun_agent_statistics(&world->second_agent, &seen->second_counts);
     if (!has_ended) stun_agent_poll(&world->agent, 0, &seen->until, id, sizeof id);
     for (uint32_t i = 0; i < MANY; i++) {
         struct message request = message_of(STUN_REQUEST, i);
@@ -252,7 +260,8 @@ static void make(const struct step *step, uint32_t number, struct world *tried, 
         refused++;
         want("allocates only where it may", step->may_allocate, true);
         want("it ends", n < MOST_TRIES, true);
-        if (step->call == makes_agent || step->call == makes_server || step->call == makes_client)
+        if (step->call == makes_agent || step->call == makes_agent_with || step->call == makes_server
+            || step->call == makes_client)
             want("nothing is kept of what was not made", (int64_t)heap_blocks(), (int64_t)blocks);
         compare(step->name, tried, other, place_of(step, number));
     }
@@ -268,9 +277,11 @@ int main(void) {
     want("many were refused", refused > 30, true);
 
     stun_agent_free(&tried.agent);
+    stun_agent_free(&tried.second_agent);
     stun_server_free(&tried.server);
     stun_client_free(&tried.client);
     stun_agent_free(&other.agent);
+    stun_agent_free(&other.second_agent);
     stun_server_free(&other.server);
     stun_client_free(&other.client);
     want_no_blocks("the end");

@@ -349,6 +349,7 @@ fn reads(rt: &impl Abort, heap: &RefusingAllocator<Global>, nth: u64) -> Result<
         Ok(bytes) => assert_eq!(rt; bytes.as_slice(), SAMPLE_REQUEST.as_bytes()),
         Err(Failure) => assert!(rt; !met_none),
     }
+    assert!(rt; nth > 1 || !met_none);
     Ok(met_none)
 }
 

@@ -128,6 +128,7 @@ fn each_allocation_refused(rt: HostRuntime) -> Result<(), Fail> {
             assert_eq!(rt; status, Status::Answered);
             assert_eq!(rt; writer.as_slice(), BOTH_LINE);
         }
+        assert!(rt; nth > 1 || !met_none);
         Ok(met_none)
     })
 }

@@ -195,6 +195,7 @@ fn each_allocation_refused(rt: HostRuntime) -> Result<(), Fail> {
         let met_none = heap.met_none();
         assert!(rt; answer.is_ok() || !met_none);
         expect_beginning(&rt, answer, writer.as_slice(), DEFAULT_LINES);
+        assert!(rt; nth > 1 || !met_none);
         Ok(met_none)
     })
 }

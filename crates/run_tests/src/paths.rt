@@ -28,11 +28,13 @@ use stun_proto::types::data::{Data, OwnedBytes};
 use stun_proto::types::message::{
     BINDING, IntegrityAlgorithm, IntegrityKey, LongTermCredentials, LongTermKeyCredentials,
     Message, MessageAttributesIter, MessageClass, MessageHeader, MessageIntegrityCredentials,
-    MessageType, MessageWriteMutSlice, MessageWriteVec, Method, ShortTermCredentials,
+    MessageType, MessageWriteMutSlice, MessageWriteVec, Method, PreparedKey, ShortTermCredentials,
     StunParseError, StunWriteError, TransactionId, ValidateError, hmac_sha1, hmac_sha256,
+    long_term_key,
 };
 use stun_proto::types::prelude::*;
 use stun_proto::{Instant, laws};
+use test_support::parts::MD5_KEY;
 
 /// A Binding request with id 1 and USERNAME `a`.
 const REQUEST: [u8; 28] = [
@@ -114,6 +116,13 @@ fn credentials(rt: HostRuntime) -> Result<(), Fail> {
     let message = Message::from_bytes(&REQUEST)?;
     let missing = ValidateError::Parse(StunParseError::MissingAttribute(AttributeType::new(8)));
     assert_eq!(rt; message.validate_integrity(&credentials), Err(missing));
+    let algorithm = IntegrityAlgorithm::Sha1;
+    let key: IntegrityKey = long_term_key(alloc, algorithm, "user", "realm", "pass");
+    assert_eq!(rt; key.as_bytes(), MD5_KEY.as_slice());
+    let prepared: PreparedKey = PreparedKey::new(key, algorithm);
+    assert_eq!(rt; prepared.key().as_bytes(), MD5_KEY.as_slice());
+    // An empty text under this key, by Python's module `hmac`.
+    assert_eq!(rt; &prepared.hmac_sha1(&[])[..2], [0x87, 0xbf].as_slice());
     // An empty text under an empty key.
     assert_eq!(rt; &hmac_sha1(&[], &[])[..2], [0xfb, 0xdb].as_slice());
     assert_eq!(rt; &hmac_sha256(&[], &[])[..2], [0xb6, 0x13].as_slice());

@@ -7,7 +7,8 @@ use std::test::Fail;
 use stun_auth::auth::{Feature, LongTermClientAuth};
 use stun_types::attribute::PasswordAlgorithmValue;
 use stun_types::message::{
-    IntegrityAlgorithm, MessageClass, MessageWriteMutSlice, MessageWriteVec, StunWriteError,
+    IntegrityAlgorithm, LongTermCredentials, MessageClass, MessageWriteMutSlice, MessageWriteVec,
+    StunWriteError,
 };
 use stun_types::prelude::*;
 use test_support::client::{
@@ -228,5 +229,36 @@ fn a_slice_takes_no_memory(rt: HostRuntime) -> Result<(), Fail> {
     let signed = signed_by(&mut client, writer)?;
     assert_eq!(rt; signed.data().len(), 100);
     assert!(rt; heap.is_waiting());
+    Ok(())
+}
+
+/// A copy of a user and the user at a realm have each text at the heap where the user has it, and give it back there.
+#[test]
+fn each_text_stays_at_its_heap(rt: HostRuntime) -> Result<(), Fail> {
+    let names = RefusingAllocator::new(rt.alloc());
+    let passwords = RefusingAllocator::new(rt.alloc());
+    let realms = RefusingAllocator::new(rt.alloc());
+    let name = String::from_str(&names, "user")?;
+    let user = LongTermCredentials::new(name, String::from_str(&passwords, "pass")?);
+    assert_eq!(rt; (names.live(), passwords.live()), (1, 1));
+    let copy = user.clone()?;
+    assert_eq!(rt; (names.live(), passwords.live()), (2, 2));
+    let at_realm = user.to_key(String::from_str(&realms, "realm")?)?;
+    assert_eq!(rt; (names.live(), passwords.live(), realms.live()), (3, 3, 1));
+    drop(user);
+    assert_eq!(rt; (names.live(), passwords.live(), realms.live()), (2, 2, 1));
+    let key = at_realm.make_key(IntegrityAlgorithm::Sha1);
+    assert_eq!(rt; key.as_bytes(), MD5_KEY.as_slice());
+    drop(at_realm);
+    assert_eq!(rt; (names.live(), passwords.live(), realms.live()), (1, 1, 0));
+    // A password that cannot be copied takes the copy of the name with it.
+    passwords.refuse(1);
+    assert!(rt; copy.clone().is_err());
+    assert!(rt; !passwords.is_waiting());
+    assert_eq!(rt; (names.live(), passwords.live()), (1, 1));
+    drop(copy);
+    assert_eq!(rt; (names.live(), passwords.live(), realms.live()), (0, 0, 0));
+    assert_eq!(rt; (names.allocations(), passwords.allocations()), (4, 3));
+    assert_eq!(rt; realms.allocations(), 1);
     Ok(())
 }

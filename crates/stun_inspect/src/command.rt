@@ -82,9 +82,6 @@ fn userhash_of(words: &[String]) -> Option<Command<'_>> {
     Some(Command::Userhash(user_of(name, realm)))
 }
 
-fn user_of<'a>(name: &'a String, realm: &'a String) -> User<'a> {
-    User {
-        name: name.as_str(),
-        realm: realm.as_str(),
-    }
+fn user_of<'a>(name: &'a str, realm: &'a str) -> User<'a> {
+    User { name, realm }
 }

@@ -1,7 +1,6 @@
 //! A writer of the tests' own, over an array.
 ghost use Rattle.std.specs.Prelude.{◌≡◌, ◌≤◌, []};
 
-use std::marker::Model;
 use stun_types::data::OwnedBytes;
 use stun_types::message::StunWriteError;
 use stun_types::prelude::*;

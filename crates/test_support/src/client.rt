@@ -1,7 +1,6 @@
 //! What the tests of the client share. None of these functions has a contract, so that a test knows nothing of their inside.
-ghost use Rattle.std.specs.Prelude.{◌≡◌, []};
 
-use crate::parts::{begin, message};
+use crate::parts::begin;
 use crate::server::user;
 use std::alloc::{AllocError, Allocator, Global};
 use stun_auth::auth::{

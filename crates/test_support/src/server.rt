@@ -1,5 +1,4 @@
 //! What the tests of the server share. None of these functions has a contract, so that a test knows nothing of their inside.
-ghost use Rattle.std.specs.Prelude.{◌≡◌, []};
 
 use crate::parts::{
     BOTH, FULL_NONCE, MD5_KEY, PLAIN_NONCE, Part, SHA256_KEY, begin, message, with_parts,

@@ -240,7 +240,7 @@ pub extern "C" fn stun_agent_handle(
           (kept_after_message kept.agent message.now from.now now);
     })) }
 
-    // Where no address is added to those that are kept, no allocation fails.
+    // Where no address is added to those that are kept, no failed allocation is answered.
     ensures no_memory { IfSome handle.old.agent (λ kept.
         IsTrue (message_adds_none kept.agent message.now (socket_address from.now)) →
         result ≡ number_answer
@@ -269,7 +269,7 @@ pub extern "C" fn stun_agent_validated_peer(
       agent = left_by result kept.agent (kept_after_naming kept.agent peer.now);
     })) }
 
-    // Nor where the address is kept already.
+    // For an address that is kept already no failed allocation is answered.
     ensures there { IfSome handle.old.agent (λ kept.
         IsTrue (naming_adds_none kept.agent (socket_address peer.now)) →
         result ≡ done_answer (done_if_given (socket_address peer.now))) }
@@ -667,7 +667,7 @@ pub extern "C" fn stun_server_validate(
           server = kept_after_validating kept.server message.now from.now now words.now;
         }))) }
 
-    // Where nothing of the server changes, as where the same client is accepted again, no allocation fails.
+    // Where nothing of the server changes, as where the same client is accepted again, no failed allocation is answered.
     ensures unchanged { IfSome handle.old.server (λ kept.
         LeavesServer kept.server message.now now words.now (socket_address from.now) →
         result ≡ validation_number kept.server message.now from.now now words.now) }
@@ -848,7 +848,7 @@ pub extern "C" fn stun_client_validate(
         (reading_answer (validated kept.client message.now))
         (Some (record { client = after_validating kept.client message.now }))) }
 
-    // An allocation fails only where another request is asked for.
+    // A failed allocation is answered only where another request is asked for.
     ensures resend { IfSome handle.old.client (λ kept.
         (result ≡ reading_answer (validated kept.client message.now))
         ⊎ AsksAgain kept.client message.now) }

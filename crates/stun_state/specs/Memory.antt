@@ -1,4 +1,4 @@
--- Where a call keeps nothing more, so that it takes no memory and none can be wanting: its answer is the one of its definition.
+-- Where a call keeps nothing more, and its answer is the one of its definition: no allocation that failed is told.
 use Rattle.std.specs.Prelude.{◌≡◌, ⊤, ◌||◌, not, is_some, Bool, true, ℕ, List, Option, Some, None, MatchOption}
 use Rattle.std.specs.declared.net.socket_addr.SocketAddr.{SocketAddr}
 use Rattle.stun_agent.specs.Agent.{Agent, takes_message}

@@ -256,7 +256,7 @@ pub fn handle(
         (λ from. agent.new ≡ after_message (Some now) message.now from agent.old)) }
     ensures err { OnErr result (agent.new ≡ agent.old) }
 
-    // Where no address is added to those that are kept, no memory is wanted.
+    // Where no address is added to those that are kept, no failed allocation is answered.
     ensures no_memory { IsTrue (message_adds_none agent.old message.now
         (socket_address from.now)) →
         result ≡ at_address (socket_address from.now) (handled agent.old message.now) }
@@ -273,7 +273,7 @@ pub fn validated_peer(agent: &mut StunAgent<Global>, peer: &Address) -> Result<(
     ensures ok { OnOk result (agent.new ≡ kept_after_naming agent.old peer.now) }
     ensures err { OnErr result (agent.new ≡ agent.old) }
 
-    // An address that is kept already wants no memory.
+    // For an address that is kept already no failed allocation is answered.
     ensures there { IsTrue (naming_adds_none agent.old (socket_address peer.now)) →
         result ≡ done_if_given (socket_address peer.now) }
 {

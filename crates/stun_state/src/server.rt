@@ -263,7 +263,7 @@ pub fn validate(
         (after_validating server.old message.now now words.now))
         (server.new ≡ server.old) }
 
-    // Where nothing of the server changes, no memory is wanted.
+    // Where nothing of the server changes, no failed allocation is answered.
     ensures unchanged { LeavesServer server.old message.now now words.now
         (socket_address from.now) →
         result ≡ at_address (socket_address from.now)

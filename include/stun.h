@@ -19,7 +19,8 @@
  *         int seen = 0;
  *         for (int64_t at = 0; (at = stun_next(request, length, (size_t)at, &type, &value_length)) > 0;) {
  *             if (++seen > 64) return 0;                                          // no honest request has as many
- *             if (type >= 0x8000 || type == STUN_USERNAME || type == STUN_MESSAGE_INTEGRITY
+ *             if (type >= 0x8000 || type == STUN_USERNAME || type == STUN_USERHASH || type == STUN_REALM || type == STUN_NONCE
+ *                 || type == STUN_PASSWORD_ALGORITHM || type == STUN_MESSAGE_INTEGRITY
  *                 || type == STUN_MESSAGE_INTEGRITY_SHA256) continue;             // the value: request + at + 4
  *             unknown[unknown_length++] = (uint8_t)(type >> 8);
  *             unknown[unknown_length++] = (uint8_t)type;
@@ -40,9 +41,10 @@
  *     }
  *
  * Lengths are in bytes. A message, key or text is read from its first byte up to its length, and no byte outside is
- * read. No pointer is null, not even with a length of 0; no length is above PTRDIFF_MAX; and what a call writes to
- * overlaps nothing else that is passed. Texts are UTF-8 and taken as they are: to prepare them by OpaqueString (RFC 8265)
- * is the caller's part. Numbers are in the processor's own order.
+ * read. No pointer is null, not even with a length of 0: where that of something empty may be null, as in C++ of a
+ * std::string_view or std::vector, pass any other. No length is above PTRDIFF_MAX, and what a call writes to overlaps
+ * nothing else that is passed. Texts are UTF-8 and taken as they are: to prepare them by OpaqueString (RFC 8265) is the
+ * caller's part. Numbers are in the processor's own order.
  *
  * A call does not allocate, keeps nothing that is passed, and writes nowhere but to its output, so every call may run in
  * many threads at once, each with its own output. None is made in constant time.
@@ -73,7 +75,8 @@ enum {
 /* The method of section 18.2. A method is a number below 4096. */
 enum { STUN_BINDING = 1 };
 
-/* Types of attributes (sections 14 and 18.3). A type is a number below 65536; one below 32768 must be understood. */
+/* Types of attributes (sections 14 and 18.3). A type is a number below 65536; one below 32768 must be understood. No call
+ * writes or checks FINGERPRINT (section 14.7): examples/c/request.c does both, over stun_next. */
 enum {
     STUN_USERNAME = 0x0006,
     STUN_MESSAGE_INTEGRITY = 0x0008,
@@ -216,7 +219,9 @@ int64_t stun_next(const uint8_t *message, size_t length, size_t place, uint16_t 
 int64_t stun_error_code(const uint8_t *message, size_t length);
 
 /* The address that a message reports in its first visible XOR-MAPPED-ADDRESS (section 14.2), 4 bytes (IPv4) or 16 (IPv6)
- * in network order, at the front of `out`, and its port. 16 bytes have room for either.
+ * in network order, at the front of `out`, and its port. 16 bytes have room for either. To read such a value of another
+ * type (XOR-PEER-ADDRESS, XOR-RELAYED-ADDRESS), write it by stun_add as STUN_XOR_MAPPED_ADDRESS to a message of the same
+ * id, and ask that.
  *
  * Answers 4 or 16, or refuses as stun_parse does, and then: STUN_MISSING_ATTRIBUTE, STUN_MALFORMED_ATTRIBUTE,
  * STUN_BUFFER_TOO_SMALL. */
@@ -244,7 +249,9 @@ int64_t stun_begin(uint32_t message_class, uint32_t method, const uint8_t *id, s
 int64_t stun_add(uint8_t *buffer, size_t room, size_t length, uint32_t type, const uint8_t *value, size_t value_length);
 
 /* XOR-MAPPED-ADDRESS, of an address of 4 bytes (IPv4) or 16 (IPv6), in network order, and a port, hidden under the id of
- * the message (section 14.2).
+ * the message (section 14.2). An attribute of another type with such a value (XOR-PEER-ADDRESS, XOR-RELAYED-ADDRESS) is
+ * had by writing this one to a message of the same id in another buffer, and passing its value, from byte 24 on, to
+ * stun_add.
  *
  * Refuses first STUN_BAD_ARGUMENT where the port is not below 65536 or the address of another length. */
 int64_t stun_add_xor_mapped_address(uint8_t *buffer, size_t room, size_t length, const uint8_t *address,

@@ -62,18 +62,21 @@
  *
  * Threads. One thread at a time uses a handle, and it is the thread that filled it: whether a handle may move to another
  * thread is not proved. Handles share nothing. No call may be made from a signal handler, nor in the forked child of a process
- * with threads; after any other fork only one of the two processes may go on with a handle.
+ * with threads. After any other fork each of the two processes may go on with its copy of a handle, and frees it; where they
+ * share the memory of the handle, or what rattle_alloc gave, only one of them may.
  *
- * Time and chance. No call reads a clock, a socket or a source of random bytes: moments are nanoseconds from a start that
- * the caller chooses once for a handle, and random words are arguments.
+ * Time and chance. No call reads a clock, a socket or a source of random bytes: moments are nanoseconds from a start that the
+ * caller chooses once for a handle, by a clock that does not go back (CLOCK_MONOTONIC), and random words are arguments.
  *
  * What is passed is read during the call and not kept: messages and texts are copied. No pointer is null, not even with a
- * length of 0; no length is above PTRDIFF_MAX; and what a call writes to overlaps nothing else that is passed. Texts are
- * UTF-8 and taken as they are.
+ * length of 0: where that of something empty may be null, as in C++ of a std::string_view or std::vector, pass any other. No
+ * length is above PTRDIFF_MAX, and what a call writes to overlaps nothing else that is passed. Texts are UTF-8 and taken as
+ * they are.
  *
  * A call answers 0 or more, or refuses by a number below zero (stun.h), by the first reason in the order that its comment
  * gives. STUN_EMPTY_HANDLE, or STUN_FULL_HANDLE of a `_new` call, comes before all others, also where a comment does not name
- * it. A refusal leaves the handle and every output as they were, but where a comment says otherwise.
+ * it. A refusal leaves the handle and every output as they were, but where a comment says otherwise. An answer leaves each
+ * output that its comment does not say is written, such as `*until` where a request ended.
  */
 #ifndef STUN_STATE_H
 #define STUN_STATE_H
@@ -94,6 +97,9 @@ extern "C" {
  * `kept` is at most `length`, which may be more or less than before. rattle_dealloc takes a block back. No length is 0 or above
  * PTRDIFF_MAX, and no pointer that is passed is null.
  *
+ * Blocks hold passwords and keys, and the archive does not overwrite them before it gives them back or has them moved: an
+ * allocator that keeps the length of each block, as heap.c does, can.
+ *
  * To refuse, answer is_ok false: `at` is not read then, and the old block of rattle_realloc stays as it is. They must return,
  * so no longjmp and no exception leaves them, and they make no call on a handle. Each thread that has a handle calls them, also
  * while another one does. */
@@ -102,13 +108,15 @@ rattle_allocation rattle_alloc(size_t length, size_t alignment);
 rattle_allocation rattle_realloc(void *at, size_t kept, size_t length, size_t alignment);
 void rattle_dealloc(void *at);
 
-typedef struct { bool is_full; void *state; } stun_agent;
-typedef struct { bool is_full; void *state; } stun_server;
-typedef struct { bool is_full; void *state; } stun_client;
+typedef struct stun_agent { bool is_full; void *state; } stun_agent;
+typedef struct stun_server { bool is_full; void *state; } stun_server;
+typedef struct stun_client { bool is_full; void *state; } stun_client;
 
 /* An address: 4 octets (IPv4) or 16 (IPv6) in network order at the front, and a port in the processor's order. A call that
- * takes one refuses STUN_BAD_ARGUMENT where `length` is neither, right after the refusal for the handle. An IPv4 address
- * and the same address mapped into IPv6 are two. */
+ * takes one refuses STUN_BAD_ARGUMENT where `length` is neither, right after the refusal for the handle. Of an IPv4 address the
+ * other 12 octets are not read, and are written as 0. An IPv4 address and the same address mapped into IPv6 are two. The scope
+ * of an IPv6 address is not kept: a link-local address is the same one on each interface, and you give its scope to the socket
+ * again. */
 typedef struct {
     uint8_t octets[16];
     uint16_t port;
@@ -147,7 +155,9 @@ typedef struct {
 /* Those of section 6.2.1, as in `stun_timeouts timeouts = STUN_DEFAULT_TIMEOUTS;`: 500 ms, no bound, 8 s, 7 transmissions. */
 #define STUN_DEFAULT_TIMEOUTS {500000000, UINT64_MAX, 8000000000, 7}
 
-/* What an agent counts. Round trips are in nanoseconds, and 0 where none was measured. */
+/* What an agent counts. A request counts once as sent, and its bytes with each transmission. Received is what
+ * stun_agent_handle answered 1 to. A round trip is measured where the response came before the first time-out of its request
+ * had passed; round trips are in nanoseconds, and 0 where none was measured. A count stays at UINT64_MAX once it is there. */
 typedef struct {
     uint64_t requests_sent, requests_received;
     uint64_t responses_sent, responses_received;
@@ -232,8 +242,8 @@ int64_t stun_agent_is_outstanding(stun_agent *agent, const uint8_t *id, size_t i
 
 /* Cancels the request of an id: stun_agent_poll then answers STUN_CANCELLED for it, one call for each request that is over. Or
  * only ends its retransmissions: a response is waited for as long as before, and without one it ends as STUN_CANCELLED. Or gives
- * it time-outs of its own. Each answers 1, or 0 where none is outstanding, or refuses
- * STUN_EMPTY_HANDLE and STUN_BAD_ARGUMENT. */
+ * it time-outs of its own: it goes on from its last transmission as if it had had them from the first. Each answers 1, or 0
+ * where none is outstanding, or refuses STUN_EMPTY_HANDLE and STUN_BAD_ARGUMENT. */
 int64_t stun_agent_cancel(stun_agent *agent, const uint8_t *id, size_t id_length);
 int64_t stun_agent_cancel_retransmissions(stun_agent *agent, const uint8_t *id, size_t id_length);
 int64_t stun_agent_configure(stun_agent *agent, const uint8_t *id, size_t id_length, const stun_timeouts *timeouts);
@@ -245,12 +255,14 @@ void stun_agent_free(stun_agent *agent);
 
 /* ---- The long-term authenticator of a server (section 9.2.4). */
 
-/* Fills a handle with a server of a realm, which supports HMAC-SHA1 and has no users. Nonces last an hour.
+/* Fills a handle with a server of a realm, which supports HMAC-SHA1 and has no users. Nonces last an hour. A realm of more than
+ * 763 bytes is taken, but no response can then be signed: stun_server_sign refuses STUN_TEXT_TOO_LONG.
  *
  * Answers 0, or refuses: STUN_FULL_HANDLE, STUN_NOT_TEXT, STUN_OUT_OF_MEMORY. */
 int64_t stun_server_new(stun_server *server, const uint8_t *realm, size_t realm_length);
 
-/* Which algorithms the server supports: STUN_SHA1, STUN_SHA256, or STUN_SHA1 | STUN_SHA256.
+/* Which algorithms the server supports: STUN_SHA1, STUN_SHA256, or STUN_SHA1 | STUN_SHA256. Set them before the first message:
+ * what goes to a client whose algorithm is supported no more cannot be signed, until you call stun_server_remove_client.
  *
  * Answers 0, or refuses: STUN_EMPTY_HANDLE, STUN_BAD_ARGUMENT for another number. */
 int64_t stun_server_set_algorithms(stun_server *server, uint32_t algorithms);
@@ -264,13 +276,17 @@ int64_t stun_server_set_anonymous_username(stun_server *server, uint32_t feature
  * refuses STUN_EMPTY_HANDLE. */
 int64_t stun_server_set_nonce_expiry(stun_server *server, uint64_t nanoseconds);
 
-/* Registers a user, in the place of one of the same name. Answers 0, or refuses: STUN_EMPTY_HANDLE, STUN_NOT_TEXT,
- * STUN_OUT_OF_MEMORY. */
+/* Registers a user, in the place of one of the same name. The password itself is wanted: a stored long-term key does not do in
+ * its place. A name of more than 513 bytes is taken, and only a USERHASH can mean it.
+ *
+ * Answers 0, or refuses: STUN_EMPTY_HANDLE, STUN_NOT_TEXT, STUN_OUT_OF_MEMORY. */
 int64_t stun_server_add_user(stun_server *server, const uint8_t *name, size_t name_length, const uint8_t *password,
                              size_t password_length);
 
-/* Removes a user, where there is one: messages in that name are refused from then on. Answers 0, or refuses:
- * STUN_EMPTY_HANDLE, STUN_NOT_TEXT. */
+/* Removes a user, where there is one: messages in that name are refused from then on. Call stun_server_remove_client for each
+ * address where this user was validated, which you must know: until then what goes there cannot be signed.
+ *
+ * Answers 0, or refuses: STUN_EMPTY_HANDLE, STUN_NOT_TEXT. */
 int64_t stun_server_remove_user(stun_server *server, const uint8_t *name, size_t name_length);
 
 /* Forgets who was validated at an address. Its nonce stays. Answers 0, or refuses: STUN_EMPTY_HANDLE, STUN_BAD_ARGUMENT. */
@@ -280,39 +296,50 @@ int64_t stun_server_remove_client(stun_server *server, const stun_address *at);
  * grows with the number of addresses. Answers 0, or refuses STUN_EMPTY_HANDLE. */
 int64_t stun_server_forget_expired(stun_server *server, uint64_t now);
 
-/* Who was validated at an address: answers STUN_SHA1 or STUN_SHA256, and writes the user's name to the front of `name` and
- * its length; or answers 0 where nobody was. Refuses STUN_EMPTY_HANDLE, STUN_BAD_ARGUMENT, STUN_BUFFER_TOO_SMALL. */
+/* Who was validated last at an address: answers STUN_SHA1 or STUN_SHA256, and writes the user's name to the front of `name` and
+ * its length; or answers 0 where nobody was. 513 bytes have room for each name that a USERNAME can hold; one that was hidden by
+ * USERHASH is as long as it was registered.
+ *
+ * Refuses STUN_EMPTY_HANDLE, STUN_BAD_ARGUMENT, STUN_BUFFER_TOO_SMALL. */
 int64_t stun_server_client(stun_server *server, const stun_address *at, uint8_t *name, size_t room, size_t *name_length);
 
-/* Who signed a message that came from an address. `words` are 16 random numbers, read where a nonce is made.
+/* Who signed a message that came from an address. `words` are 16 random numbers of a source that nobody can foretell (getrandom),
+ * new for each call; they are read where a nonce is made.
  *
  * A nonce may be kept for each address that a request or an indication comes from, also where it is refused, so who can send
  * from many addresses makes the server grow: call stun_server_remove_client for a client whose session ended, and
  * stun_server_forget_expired now and then, and bound the number of addresses.
  *
+ * Of a type that a message has twice the last visible attribute is judged, where stun_next meets the first one first. So who
+ * was validated is what stun_server_client answers right after an answer above zero, and never a USERNAME that you read.
+ *
  * Answers STUN_SHA1 or STUN_SHA256 where the message is validated: of a request or an indication the algorithm of the key, of a
- * response that of the digest that verifies. Refuses
- * STUN_EMPTY_HANDLE, STUN_BAD_ARGUMENT, STUN_TRUNCATED, STUN_NOT_STUN, STUN_TOO_LARGE. Then, of a response,
- * STUN_INTEGRITY_FAILED where it is not rightly signed. Of a request or an indication, in this order: STUN_UNAUTHORIZED
- * (answer 401) without an integrity attribute; STUN_BAD_REQUEST (400) where REALM, NONCE, a name or algorithms that agree
- * with the offer are missing; where the nonce is not the current one STUN_UNAUTHORIZED if its security bits were changed,
- * else STUN_STALE_NONCE (438); STUN_UNAUTHORIZED for an unknown user or a digest that does not verify. STUN_OUT_OF_MEMORY may
- * come in place of each of these where a nonce must be made or a client kept. A refusal other than STUN_OUT_OF_MEMORY may
- * make a nonce for the address, which stun_server_sign then sends. */
+ * response that of the digest that verifies.
+ *
+ * Refuses STUN_EMPTY_HANDLE, STUN_BAD_ARGUMENT, STUN_TRUNCATED, STUN_NOT_STUN, STUN_TOO_LARGE. Then, of a response,
+ * STUN_INTEGRITY_FAILED where it is not rightly signed. Of a request or an indication, in this order: STUN_UNAUTHORIZED (answer
+ * 401) without an integrity attribute; STUN_BAD_REQUEST (400) where REALM, NONCE or a name is missing, or the algorithms are not
+ * those that were offered (neither list nor choice means HMAC-SHA1); where the nonce is not the current one STUN_UNAUTHORIZED if
+ * its security bits were changed, else STUN_STALE_NONCE (438); STUN_UNAUTHORIZED for an unknown user, an algorithm that the
+ * server does not support, or a digest that does not verify. STUN_OUT_OF_MEMORY may come in place of each of these where a nonce
+ * must be made or a client kept. A refusal other than STUN_OUT_OF_MEMORY may make a nonce for the address, which
+ * stun_server_sign then sends. */
 int64_t stun_server_validate(stun_server *server, const uint8_t *message, size_t length, const stun_address *from,
                              uint64_t now, const uint32_t words[16]);
 
 /* Signs the message in the first `length` bytes of a buffer of `room` bytes, which goes to an address: NONCE and REALM in a
- * response, and, for an address without a client, the offered algorithms; for a client of SHA-256 PASSWORD-ALGORITHM, and for each
- * client the integrity attribute. Sign successes, 401 and 438; a
- * 400 goes out as it is (section 9.2.4). Before any nonce was made for the address the message stays as it is.
+ * response, and, for an address without a client, the offered algorithms; for a client of SHA-256 PASSWORD-ALGORITHM, and for
+ * each client the integrity attribute. At most 848 bytes are added. Sign successes, 401 and 438; a 400 goes out as it is
+ * (section 9.2.4). Before any nonce was made for the address the message stays as it is.
+ *
+ * The algorithms that a response offers are those that requests from the address must repeat from then on: send what you sign.
  *
  * Answers the message's new length, or refuses: STUN_EMPTY_HANDLE, STUN_BAD_ARGUMENT (address, or `length` above `room`),
  * STUN_TRUNCATED, STUN_NOT_STUN, STUN_TOO_LARGE; STUN_CLOSED where it has an integrity attribute or FINGERPRINT, also where
  * nothing would be added; STUN_BUFFER_TOO_SMALL; then, attribute by attribute, STUN_TEXT_TOO_LONG (STUN_MESSAGE_TOO_LONG where
  * the message would be too long with all that is added), STUN_ATTRIBUTE_EXISTS where the message has one that signing adds,
- * STUN_MESSAGE_TOO_LONG; and STUN_INTEGRITY_FAILED where the client's user was removed. STUN_OUT_OF_MEMORY may come in place
- * of each of these after STUN_BUFFER_TOO_SMALL. */
+ * STUN_MESSAGE_TOO_LONG; and STUN_INTEGRITY_FAILED where the client's user was removed, or the client's algorithm is supported
+ * no more: call stun_server_remove_client. STUN_OUT_OF_MEMORY may come in place of each of these after STUN_BUFFER_TOO_SMALL. */
 int64_t stun_server_sign(stun_server *server, uint8_t *buffer, size_t room, size_t length, const stun_address *to);
 
 void stun_server_free(stun_server *server);
@@ -327,14 +354,18 @@ int64_t stun_client_new(stun_client *client);
 /* Whose name and password are used.
  *
  * This and the next two are read where a 401 is taken up. A challenge that was taken up keeps its name, key and algorithm, also
- * where a 438 renews its nonce, and after a success no 401 is taken up: another user then wants a new handle.
+ * where a 438 renews its nonce, and after a success no 401 is taken up: another user then wants a new handle. A name of more
+ * than 513 bytes is taken, but where it is not hidden stun_client_sign refuses a request as STUN_TEXT_TOO_LONG.
  *
  * Answers 0, or refuses: STUN_EMPTY_HANDLE, STUN_NOT_TEXT, STUN_OUT_OF_MEMORY. */
 int64_t stun_client_set_credentials(stun_client *client, const uint8_t *name, size_t name_length,
                                     const uint8_t *password, size_t password_length);
 
-/* As stun_server_set_algorithms. Where a server has no list of algorithms, and its nonce has security bits that ask for none,
- * STUN_SHA1 is taken whatever is set. */
+/* Which algorithms the client supports: STUN_SHA1, STUN_SHA256, or STUN_SHA1 | STUN_SHA256. Of a server's list the first one
+ * that is set here is taken. Where the server has no list, and its nonce has security bits that ask for none, STUN_SHA1 is taken
+ * whatever is set; where the nonce has no security bits, only STUN_SHA1 can be taken.
+ *
+ * Answers 0, or refuses: STUN_EMPTY_HANDLE, STUN_BAD_ARGUMENT for another number. */
 int64_t stun_client_set_algorithms(stun_client *client, uint32_t algorithms);
 
 /* STUN_AUTO, STUN_REQUIRED or STUN_DISABLED.
@@ -342,8 +373,10 @@ int64_t stun_client_set_algorithms(stun_client *client, uint32_t algorithms);
  * Answers 0, or refuses: STUN_EMPTY_HANDLE, STUN_BAD_ARGUMENT for another number. */
 int64_t stun_client_set_anonymous_username(stun_client *client, uint32_t feature);
 
-/* Signs the message in the first `length` bytes of a buffer of `room` bytes, as the challenge that was taken up asks.
- * Before one was, the message stays as it is.
+/* Signs the message in the first `length` bytes of a buffer of `room` bytes, as the challenge that was taken up asks: a request
+ * gets NONCE, REALM and USERNAME or USERHASH, and each message PASSWORD-ALGORITHMS and PASSWORD-ALGORITHM where the server listed
+ * algorithms, and the integrity attribute. At most 2104 bytes are added, and 4 for each algorithm that the server listed. Before
+ * a challenge was taken up the message stays as it is, but the refusals up to STUN_CLOSED hold.
  *
  * Answers the message's new length, or refuses: STUN_EMPTY_HANDLE, STUN_BAD_ARGUMENT (`length` above `room`), STUN_TRUNCATED,
  * STUN_NOT_STUN, STUN_TOO_LARGE, STUN_CLOSED; then, attribute by attribute, STUN_TEXT_TOO_LONG (STUN_MESSAGE_TOO_LONG where the
@@ -356,8 +389,9 @@ int64_t stun_client_sign(stun_client *client, uint8_t *buffer, size_t room, size
  * Answers STUN_SHA1 or STUN_SHA256 where the digest verifies. Where another request is asked for it answers STUN_RESEND_SHA1 or
  * STUN_RESEND_SHA256 if the 401 or 438 itself verifies under the key that was kept before it, and else STUN_RESEND, as for a
  * first 401. A 401 is taken up only before the first success; a 438 with REALM and NONCE at any time, also one that nobody
- * signed. So whoever can send from the server's address can have requests sent without end: count how often you ask, and give
- * up.
+ * signed; before a first 401 was taken up it changes nothing. So whoever can send from the server's address can have requests
+ * sent without end: count how often you ask, and give up. Of an error response the last visible ERROR-CODE, REALM and NONCE are
+ * judged, where stun_error_code reads the first.
  *
  * Refuses STUN_EMPTY_HANDLE, STUN_TRUNCATED, STUN_NOT_STUN, STUN_TOO_LARGE. Then, of a 401 before any success:
  * STUN_UNAUTHORIZED (no credentials, no REALM or NONCE, a list of algorithms that is missing, or the challenge that was answered

@@ -256,7 +256,7 @@ void stun_agent_free(stun_agent *agent);
 /* ---- The long-term authenticator of a server (section 9.2.4). */
 
 /* Fills a handle with a server of a realm, which supports HMAC-SHA1 and has no users. Nonces last an hour. A realm of more than
- * 763 bytes is taken, but no response can then be signed: stun_server_sign refuses STUN_TEXT_TOO_LONG.
+ * 763 bytes is taken, but no response can then be signed, since its REALM is too long.
  *
  * Answers 0, or refuses: STUN_FULL_HANDLE, STUN_NOT_TEXT, STUN_OUT_OF_MEMORY. */
 int64_t stun_server_new(stun_server *server, const uint8_t *realm, size_t realm_length);

@@ -3,6 +3,6 @@
 set -eu
 cd "$(dirname "$0")"
 . ./common.sh
-tried 'the driver' "$CC" -O1 -g -Wall -Wextra -Werror -fsanitize=address,undefined -I../include hostile.c \
-    "$archive" -o out/hostile
+tried 'the driver' "$CC" -O1 -g -Wall -Wextra -Werror -fsanitize=address,undefined -fno-sanitize-recover=all \
+    -I../include hostile.c "$archive" -o out/hostile
 out/hostile

@@ -51,7 +51,7 @@ done
 
 # Each call on messages, as C99 and C++17, and what strangers may send, with sanitizers where the compiler has them.
 expect 'messages: passed' c/out/messages
-sanitized='-fsanitize=address,undefined'
+sanitized='-fsanitize=address,undefined -fno-sanitize-recover=all'
 echo 'int main(void) { return 0; }' >"$scratch/empty.c"
 "${CC:-cc}" $sanitized "$scratch/empty.c" -o "$scratch/empty" 2>/dev/null || sanitized=''
 plus_sanitized=$sanitized
@@ -129,7 +129,8 @@ c/out/build 2 evtj:h6vY "$password" >"$scratch/sha256"
 expect 'valid MESSAGE-INTEGRITY-SHA256' c/out/verify "$password" <"$scratch/sha256"
 checked='C'
 
-if rustc --version >/dev/null 2>&1; then
+# The example for Rust is of edition 2024.
+if echo 'fn main() {}' | rustc --edition 2024 --emit metadata -o "$scratch/probe" - >/dev/null 2>&1; then
     rustc --edition 2024 -O rust/main.rs -L ../crates/stun_c/out -o "$scratch/main"
     expect 'Ok(1)
 Ok(2)' "$scratch/main"

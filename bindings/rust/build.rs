@@ -9,6 +9,8 @@ fn main() {
     for name in ["stun_c", "stun_state"] {
         let built = || here.join("../../crates").join(name).join("out");
         let folder = named.clone().unwrap_or_else(built);
+        // rustc may run in another folder than this.
+        let folder = folder.canonicalize().unwrap_or(folder);
         let archive = folder.join(format!("lib{name}.a"));
         println!("cargo:rerun-if-changed={}", archive.display());
         if !archive.exists() {

@@ -22,7 +22,7 @@ pub enum Feature {
     Disabled,
 }
 
-/// What signing adds at most in nearly every case.
+/// What signing adds at most, but where a server lists hundreds of algorithms.
 const USUAL_ROOM: usize = 4096;
 
 /// The bytes of the longest message.
@@ -280,6 +280,9 @@ impl LongTermClientAuth {
     }
 
     /// What a response says. Show it only responses to an outstanding request, from the address that was asked.
+    ///
+    /// A 401 is taken up only before the first success; a 438 with REALM and NONCE at any time, also one that nobody signed. So
+    /// whoever can send from the server's address can have requests sent without end: count how often you ask, and give up.
     pub fn validate_incoming_message(
         &mut self,
         msg: &Message<'_>,
@@ -326,7 +329,7 @@ impl fmt::Display for LongTermServerAuthErrorReason {
             LongTermServerAuthErrorReason::IntegrityFailed => "The message failed integrity checks",
             LongTermServerAuthErrorReason::UnsupportedFeature => "A required feature is not supported",
             LongTermServerAuthErrorReason::BadRequest => "The request message is not well-formed",
-            LongTermServerAuthErrorReason::StaleNonce => "The nonce of the request is not the current one",
+            LongTermServerAuthErrorReason::StaleNonce => "The request presented with an out of date nonce.",
             LongTermServerAuthErrorReason::OutOfMemory => "Out of memory",
         })
     }
@@ -383,7 +386,8 @@ impl fmt::Debug for LongTermServerAuth {
 }
 
 impl LongTermServerAuth {
-    /// A server without users, which supports HMAC-SHA1 and whose nonces last an hour. Or `OutOfMemory`.
+    /// A server without users, which supports HMAC-SHA1 and whose nonces last an hour. Or `OutOfMemory`. A realm of more than
+    /// 763 bytes is taken, but no response can then be signed, since its REALM is too long.
     pub fn new(realm: String) -> Result<LongTermServerAuth, Refusal> {
         let handle = archive::Server::new(&realm).map_err(|answer| Refusal::of(answer).unwrap_err())?;
         Ok(LongTermServerAuth { handle, realm, supported: &[Sha1], anonymous_username: Feature::Auto })
@@ -398,7 +402,8 @@ impl LongTermServerAuth {
         Refusal::of(self.handle.add_user(credentials.username(), credentials.password())).map(drop)
     }
 
-    /// Messages in that name are refused from then on. `remove_client` forgets where the user was validated.
+    /// Messages in that name are refused from then on. Call `remove_client` for each address where this user was validated,
+    /// which you must know: until then what goes there cannot be signed.
     pub fn remove_user(&mut self, user: &str) {
         Refusal::of(self.handle.remove_user(user)).expect("a text");
     }
@@ -412,6 +417,7 @@ impl LongTermServerAuth {
         self.support(if self.supported.contains(&integrity) { self.supported } else { &[Sha256, Sha1] });
     }
 
+    /// What goes to a client whose algorithm is supported no more cannot be signed, until you call `remove_client`.
     pub fn set_supported_integrity(&mut self, integrity: IntegrityAlgorithm) {
         self.support(only(integrity));
     }
@@ -436,7 +442,7 @@ impl LongTermServerAuth {
         Refusal::of(self.handle.set_nonce_expiry(nanos_of(expiry_duration))).expect("any duration is taken");
     }
 
-    /// Who was validated at an address, and by which algorithm. Or `OutOfMemory`.
+    /// Who was validated last at an address, and by which algorithm. Or `OutOfMemory`.
     pub fn client(&self, client: SocketAddr) -> Result<Option<(String, IntegrityAlgorithm)>, Refusal> {
         let (mut name, mut length) = (Vec::new(), 0);
         let found = loop {
@@ -472,8 +478,14 @@ impl LongTermServerAuth {
         signed(msg, |buffer, length| self.handle.sign(buffer, length, to.into()))
     }
 
-    /// Who signed a message that came from an address. The words are random; a nonce is made of them where one is made,
-    /// which a refusal may do too.
+    /// Who signed a message that came from an address. The words are random, of a source that nobody can foretell, and new for
+    /// each call; a nonce is made of them where one is made, which a refusal may do too.
+    ///
+    /// Of a type that a message has twice the last visible attribute is judged, where `Message::attribute` reads the first: ask
+    /// `client` who was validated.
+    ///
+    /// A nonce is kept for each address that a request or an indication comes from: call `forget_expired` now and then,
+    /// `remove_client` when a session ends, and bound the number of addresses.
     pub fn validate_incoming_message(
         &mut self,
         msg: &Message<'_>,

@@ -90,7 +90,7 @@ impl Refusal {
     pub(crate) fn of(answer: i64) -> Result<usize, Refusal> {
         match usize::try_from(answer) {
             Ok(number) => Ok(number),
-            Err(_) => Err(ALL[answer.unsigned_abs() as usize - 1]),
+            Err(_) => Err(*ALL.get(answer.unsigned_abs() as usize - 1).expect("archives of the release of this crate")),
         }
     }
 }

@@ -297,8 +297,9 @@ fn settings_are_told() {
         server.set_anonymous_username(feature);
         assert_eq!((client.anonymous_username(), server.anonymous_username()), (feature, feature));
     }
-    let errors = [LongTermServerAuthErrorReason::BadRequest, LongTermServerAuthErrorReason::StaleNonce];
-    assert!(errors.iter().all(|reason| !reason.to_string().is_empty()));
+    let reasons = [LongTermServerAuthErrorReason::BadRequest, LongTermServerAuthErrorReason::StaleNonce];
+    let texts = ["The request message is not well-formed", "The request presented with an out of date nonce."];
+    assert_eq!(reasons.map(|reason| reason.to_string()), texts);
 }
 
 #[test]

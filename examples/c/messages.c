@@ -126,6 +126,29 @@ static void writes_responses(void) {
     CHECK(stun_add_error(large, sizeof large, 20, 300, reason, 764), STUN_NOT_TEXT);
 }
 
+/* An attribute of another type with the value of an XOR-MAPPED-ADDRESS, by way of a message of the same id. */
+static void hides_peers(void) {
+    enum { XOR_PEER_ADDRESS = 0x0012, SEND = 6 };
+    static const uint8_t peer[16] = {0x20, 0x01, 0x0d, 0xb8, 0x12, 0x34, 0x56, 0x78, 0, 0x11, 0x22, 0x33, 0x44, 0x55, 0x66, 0x77};
+    const uint8_t *id = (const uint8_t *)ipv6_response + 8;
+    uint8_t out[64], other[64], address[16];
+    uint16_t port = 0, type = 0;
+    size_t length = 0;
+    CHECK(stun_begin(STUN_SUCCESS, STUN_BINDING, id, 12, other, sizeof other), 20);
+    CHECK(stun_add_xor_mapped_address(other, sizeof other, 20, peer, sizeof peer, 32853), 44);
+    CHECK(stun_begin(STUN_INDICATION, SEND, id, 12, out, sizeof out), 20);
+    CHECK(stun_add(out, sizeof out, 20, XOR_PEER_ADDRESS, other + 24, 44 - 24), 44);
+    CHECK(memcmp(out + 24, ipv6_response + 40, 20), 0);
+
+    CHECK(stun_next(out, 44, 0, &type, &length), 20);
+    CHECK(type, XOR_PEER_ADDRESS);
+    CHECK(stun_begin(STUN_SUCCESS, STUN_BINDING, id, 12, other, sizeof other), 20);
+    CHECK(stun_add(other, sizeof other, 20, STUN_XOR_MAPPED_ADDRESS, out + 24, length), 44);
+    CHECK(stun_xor_mapped_address(other, 44, address, sizeof address, &port), 16);
+    CHECK(memcmp(address, peer, 16), 0);
+    CHECK(port, 32853);
+}
+
 static void refuses(void) {
     static uint8_t out[STUN_LONGEST_MESSAGE + 4];
     const uint8_t *id = (const uint8_t *)ipv4_response + 8;
@@ -221,6 +244,7 @@ int main(void) {
     walks();
     writes_request();
     writes_responses();
+    hides_peers();
     refuses();
     writes_keys();
     builds();

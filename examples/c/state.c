@@ -525,6 +525,106 @@ static void refuse_signing(void) {
     want_no_blocks("refuse_signing");
 }
 
+/* A server that supports the algorithm of its client no more. */
+static void drop_algorithm(void) {
+    struct pair pair = pair_of(STUN_SHA1 | STUN_SHA256);
+    stun_address from = address_of(7);
+    struct message answer = message_of(STUN_SUCCESS, 3);
+    challenge(&pair, &from, 0);
+    validate(&pair, &from, 0, STUN_SHA256);
+    want("SHA-1 alone", stun_server_set_algorithms(&pair.server, STUN_SHA1), 0);
+    int64_t length = stun_server_sign(&pair.server, answer.bytes, sizeof answer.bytes, answer.length, &from);
+    want("signing by another algorithm", length, STUN_INTEGRITY_FAILED);
+    want("remove_client", stun_server_remove_client(&pair.server, &from), 0);
+    answer = answer_of(&pair, 3, 401, &from);
+    want("a challenge", answer.length > 28, 1);
+    free_pair(&pair);
+    want_no_blocks("drop_algorithm");
+}
+
+/* The verdict on a request with two user names, which `name` signed. */
+static int64_t name_twice(struct pair *pair, const struct message *challenged, const char *first, const char *second) {
+    stun_address from = address_of(7);
+    struct message request = message_of(STUN_REQUEST, 2);
+    uint8_t key[STUN_SHA1_KEY_LENGTH];
+    uint16_t type = 0;
+    size_t count = 0;
+    int64_t place = 0, length = (int64_t)request.length;
+    while (type != STUN_NONCE) {
+        place = stun_next(challenged->bytes, challenged->length, (size_t)place, &type, &count);
+        want("a nonce", place > 0, 1);
+    }
+    length = stun_add(request.bytes, sizeof request.bytes, (size_t)length, STUN_NONCE, challenged->bytes + place + 4, count);
+    length = stun_add(request.bytes, sizeof request.bytes, (size_t)length, STUN_REALM, text("realm"), 5);
+    length = stun_add(request.bytes, sizeof request.bytes, (size_t)length, STUN_USERNAME, text(first), 4);
+    memcpy(request.bytes + length, "\0\6\0\4", 4);
+    memcpy(request.bytes + length + 4, second, 4);
+    request.bytes[3] = (uint8_t)(request.bytes[3] + 8);
+    want("a key", stun_long_term_key(STUN_SHA1, text("name"), 4, text("realm"), 5, text("password"), 8, key, sizeof key), 16);
+    length = stun_sign(request.bytes, sizeof request.bytes, (size_t)length + 8, STUN_SHA1, key, sizeof key);
+    want("a request", length > 0, 1);
+    return stun_server_validate(&pair->server, request.bytes, (size_t)length, &from, 0, some_words);
+}
+
+static void two_names(void) {
+    struct pair pair = pair_of(STUN_SHA1);
+    stun_address from = address_of(7);
+    uint8_t name[513];
+    size_t length = 0;
+    want("another user", stun_server_add_user(&pair.server, text("root"), 4, text("secret"), 6), 0);
+    challenge(&pair, &from, 0);
+    struct message challenged = answer_of(&pair, 1, 401, &from);
+    want("the last is not who signed", name_twice(&pair, &challenged, "name", "root"), STUN_UNAUTHORIZED);
+    want("the last is", name_twice(&pair, &challenged, "root", "name"), STUN_SHA1);
+    want("who it was", stun_server_client(&pair.server, &from, name, sizeof name, &length), STUN_SHA1);
+    want("its length", (int64_t)length, 4);
+    want_same("its name", name, "name", 4);
+    free_pair(&pair);
+    want_no_blocks("two_names");
+}
+
+/* No signing adds more than with the longest realm, name and nonce, and both algorithms. */
+static void most_room(void) {
+    enum { CHALLENGE = 816, BY_SERVER = 848, BY_CLIENT = 2104, EACH_ALGORITHM = 4, ERROR_LENGTH = 28 };
+    static uint8_t realm[763], name[513], bytes[4096];
+    static char nonce[763] = "obMatJos2gAAA"; /* which asks for algorithms, and not for hidden names */
+    struct pair pair = {{0}, {0}};
+    stun_address from = address_of(7);
+    memset(realm, 'r', sizeof realm);
+    memset(name, 'n', sizeof name);
+    memset(nonce + strlen(nonce), 'o', sizeof nonce - 13);
+    want("a server", stun_server_new(&pair.server, realm, sizeof realm), 0);
+    want("algorithms", stun_server_set_algorithms(&pair.server, STUN_SHA1 | STUN_SHA256), 0);
+    want("a user", stun_server_add_user(&pair.server, name, sizeof name, text("password"), 8), 0);
+    want("a client", stun_client_new(&pair.client), 0);
+    want("algorithms", stun_client_set_algorithms(&pair.client, STUN_SHA1 | STUN_SHA256), 0);
+    want("no hidden names", stun_client_set_anonymous_username(&pair.client, STUN_DISABLED), 0);
+    want("credentials", stun_client_set_credentials(&pair.client, name, sizeof name, text("password"), 8), 0);
+    challenge(&pair, &from, 0);
+    want("a challenge", (int64_t)answer_of(&pair, 1, 401, &from).length, ERROR_LENGTH + CHALLENGE);
+    validate(&pair, &from, 0, STUN_SHA256);
+    want("a signed answer", (int64_t)answer_of(&pair, 2, 0, &from).length, STUN_HEADER_LENGTH + BY_SERVER);
+    stun_client_free(&pair.client);
+
+    const uint8_t listed[] = {0, 2, 0, 0, 0, 1, 0, 0};
+    struct message answer = message_of(STUN_ERROR, 2), request = message_of(STUN_REQUEST, 3);
+    const size_t room = sizeof answer.bytes;
+    add_error(&answer, 401);
+    answer.length = (size_t)stun_add(answer.bytes, room, answer.length, STUN_REALM, realm, sizeof realm);
+    answer.length = (size_t)stun_add(answer.bytes, room, answer.length, STUN_NONCE, (const uint8_t *)nonce, sizeof nonce);
+    answer.length = (size_t)stun_add(answer.bytes, room, answer.length, STUN_PASSWORD_ALGORITHMS, listed, sizeof listed);
+    want("a client", stun_client_new(&pair.client), 0);
+    want("algorithms", stun_client_set_algorithms(&pair.client, STUN_SHA256), 0);
+    want("credentials", stun_client_set_credentials(&pair.client, name, sizeof name, text("password"), 8), 0);
+    want("a 401", stun_client_validate(&pair.client, answer.bytes, answer.length), STUN_RESEND);
+    memcpy(bytes, request.bytes, request.length);
+    const int64_t wanted = STUN_HEADER_LENGTH + BY_CLIENT + 2 * EACH_ALGORITHM;
+    want("too little room", stun_client_sign(&pair.client, bytes, (size_t)wanted - 1, request.length), STUN_BUFFER_TOO_SMALL);
+    want("a signed request", stun_client_sign(&pair.client, bytes, (size_t)wanted, request.length), wanted);
+    free_pair(&pair);
+    want_no_blocks("most_room");
+}
+
 /* ---- The client */
 
 static void clients(void) {
@@ -632,6 +732,9 @@ int main(void) {
     challenges(STUN_SHA1 | STUN_SHA256, STUN_SHA256);
     refuse_requests();
     refuse_signing();
+    drop_algorithm();
+    two_names();
+    most_room();
     clients();
     no_list();
     late_settings();

@@ -1,6 +1,8 @@
 /* STUN (RFC 8489) for programs in C, C++ and Rust: messages read, checked, written and signed, and the keys of users.
  *
- * Link crates/stun_c/out/libstun_c.a, which `rt lib` in crates/stun_c proves and builds.
+ * Link crates/stun_c/out/libstun_c.a, which `rt lib` in crates/stun_c proves and builds. This archive, and the one of
+ * stun_state.h, are of ELF objects for Linux on x86-64-v2 processors. They are position independent, so a shared library
+ * may have them.
  *
  * A server that tells each client its address, and refuses what it does not understand, reads and writes like this, with
  * `from` of 4 or 16 bytes and a port in the processor's own order:

@@ -233,17 +233,18 @@ fn a_slice_takes_no_memory(rt: HostRuntime) -> Result<(), Fail> {
 }
 
 /// A copy of a user and the user at a realm have each text at the heap where the user has it, and give it back there.
-#[test]
-fn each_text_stays_at_its_heap(rt: HostRuntime) -> Result<(), Fail> {
-    let names = RefusingAllocator::new(rt.alloc());
-    let passwords = RefusingAllocator::new(rt.alloc());
-    let realms = RefusingAllocator::new(rt.alloc());
-    let name = String::from_str(&names, "user")?;
-    let user = LongTermCredentials::new(name, String::from_str(&passwords, "pass")?);
+fn copies_texts(
+    rt: &impl Abort,
+    names: &Heap,
+    passwords: &Heap,
+    realms: &Heap,
+) -> Result<(), Fail> {
+    let name = String::from_str(names, "user")?;
+    let user = LongTermCredentials::new(name, String::from_str(passwords, "pass")?);
     assert_eq!(rt; (names.live(), passwords.live()), (1, 1));
     let copy = user.clone()?;
     assert_eq!(rt; (names.live(), passwords.live()), (2, 2));
-    let at_realm = user.to_key(String::from_str(&realms, "realm")?)?;
+    let at_realm = user.to_key(String::from_str(realms, "realm")?)?;
     assert_eq!(rt; (names.live(), passwords.live(), realms.live()), (3, 3, 1));
     drop(user);
     assert_eq!(rt; (names.live(), passwords.live(), realms.live()), (2, 2, 1));
@@ -256,7 +257,15 @@ fn each_text_stays_at_its_heap(rt: HostRuntime) -> Result<(), Fail> {
     assert!(rt; copy.clone().is_err());
     assert!(rt; !passwords.is_waiting());
     assert_eq!(rt; (names.live(), passwords.live()), (1, 1));
-    drop(copy);
+    Ok(())
+}
+
+#[test]
+fn each_text_stays_at_its_heap(rt: HostRuntime) -> Result<(), Fail> {
+    let names = RefusingAllocator::new(rt.alloc());
+    let passwords = RefusingAllocator::new(rt.alloc());
+    let realms = RefusingAllocator::new(rt.alloc());
+    copies_texts(&rt, &names, &passwords, &realms)?;
     assert_eq!(rt; (names.live(), passwords.live(), realms.live()), (0, 0, 0));
     assert_eq!(rt; (names.allocations(), passwords.allocations()), (4, 3));
     assert_eq!(rt; realms.allocations(), 1);

@@ -1,8 +1,8 @@
 /* STUN (RFC 8489) for programs in C, C++ and Rust: messages read, checked, written and signed, and the keys of users.
  *
- * Link crates/stun_c/out/libstun_c.a, which `rt lib` in crates/stun_c proves and builds. This archive, and the one of
- * stun_state.h, are of ELF objects for Linux on x86-64-v2 processors. They are position independent, so a shared library
- * may have them.
+ * Link crates/stun_c/out/libstun_c.a, which `rt lib` in crates/stun_c proves and builds. This archive and that of
+ * stun_state.h hold ELF objects for Linux on x86-64-v2 processors. They are position independent, so they may be linked
+ * into a shared library.
  *
  * A server that tells each client its address, and refuses what it does not understand, reads and writes like this, with
  * `from` of 4 or 16 bytes and a port in the processor's own order:
@@ -167,6 +167,7 @@ static inline const char *stun_strerror(int64_t answer) {
     return answer >= STUN_UNSUPPORTED_FEATURE ? texts[-answer] : "unknown refusal";
 }
 
+/* Numbers of bytes. */
 enum {
     STUN_ID_LENGTH = 12,             /* the bytes of a transaction id */
     STUN_HEADER_LENGTH = 20,         /* the bytes of a message without attributes */
@@ -252,8 +253,8 @@ int64_t stun_add(uint8_t *buffer, size_t room, size_t length, uint32_t type, con
 
 /* XOR-MAPPED-ADDRESS, of an address of 4 bytes (IPv4) or 16 (IPv6), in network order, and a port, hidden under the id of
  * the message (section 14.2). An attribute of another type with such a value (XOR-PEER-ADDRESS, XOR-RELAYED-ADDRESS) is
- * had by writing this one to a message of the same id in another buffer, and passing its value, from byte 24 on, to
- * stun_add.
+ * had by writing this one first to a message of the same id in another buffer, as stun_begin makes it, and passing its
+ * value, the 8 or 20 bytes from byte 24 on, to stun_add.
  *
  * Refuses first STUN_BAD_ARGUMENT where the port is not below 65536 or the address of another length. */
 int64_t stun_add_xor_mapped_address(uint8_t *buffer, size_t room, size_t length, const uint8_t *address,

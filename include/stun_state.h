@@ -75,8 +75,8 @@
  *
  * A call answers 0 or more, or refuses by a number below zero (stun.h), by the first reason in the order that its comment
  * gives. STUN_EMPTY_HANDLE, or STUN_FULL_HANDLE of a `_new` call, comes before all others, also where a comment does not name
- * it. A refusal leaves the handle and every output as they were, but where a comment says otherwise. An answer leaves each
- * output that its comment does not say is written, such as `*until` where a request ended.
+ * it. A refusal leaves the handle and every output as they were, but where a comment says otherwise. An answer leaves as it was
+ * each output that its comment does not say is written, such as `*until` where a request ended.
  */
 #ifndef STUN_STATE_H
 #define STUN_STATE_H
@@ -156,8 +156,9 @@ typedef struct {
 #define STUN_DEFAULT_TIMEOUTS {500000000, UINT64_MAX, 8000000000, 7}
 
 /* What an agent counts. A request counts once as sent, and its bytes with each transmission. Received is what
- * stun_agent_handle answered 1 to. A round trip is measured where the response came before the first time-out of its request
- * had passed; round trips are in nanoseconds, and 0 where none was measured. A count stays at UINT64_MAX once it is there. */
+ * stun_agent_handle answered 1 to. A round trip is measured, however late the response comes, where no call of
+ * stun_agent_poll_transmit had sent the request again by then, or would have but for stun_agent_cancel_retransmissions. Round
+ * trips are in nanoseconds, and 0 where none was measured. A count stays at UINT64_MAX once it is there. */
 typedef struct {
     uint64_t requests_sent, requests_received;
     uint64_t responses_sent, responses_received;
@@ -218,8 +219,8 @@ int64_t stun_agent_poll_transmit(stun_agent *agent, uint64_t now, uint8_t *out, 
 /* Takes a message that came from an address. Answers 1 where it is a response that ended the request of its id to this
  * address, or is no response, and 0 where it is a response to nothing that is outstanding: the message is to be dropped.
  *
- * Refuses as stun_agent_send_request does up to STUN_TOO_LARGE, and STUN_OUT_OF_MEMORY. It checks no digest: show a
- * response to stun_client_validate first.
+ * Refuses as stun_agent_send_request does up to STUN_TOO_LARGE, and STUN_OUT_OF_MEMORY, which comes only where the message is
+ * taken and its address is not kept already. It checks no digest: show a response to stun_client_validate first.
  *
  * The agent keeps each address from which it took a request, an indication or a response, until it is freed. Whoever gives
  * it requests and indications of strangers must bound how many, or free the agent from time to time. */
@@ -229,7 +230,7 @@ int64_t stun_agent_handle(stun_agent *agent, const uint8_t *message, size_t leng
 /* Names an address as one from which a message was taken: it is kept until the agent is freed. One that is kept already
  * changes nothing.
  *
- * Answers 0, or refuses: STUN_EMPTY_HANDLE, STUN_BAD_ARGUMENT, STUN_OUT_OF_MEMORY. */
+ * Answers 0, or refuses: STUN_EMPTY_HANDLE, STUN_BAD_ARGUMENT; and STUN_OUT_OF_MEMORY for an address that is not kept yet. */
 int64_t stun_agent_validated_peer(stun_agent *agent, const stun_address *peer);
 
 /* Whether stun_agent_handle took a message from an address, or stun_agent_validated_peer named it: 1, or 0. Refuses
@@ -310,8 +311,8 @@ int64_t stun_server_client(stun_server *server, const stun_address *at, uint8_t 
  * from many addresses makes the server grow: call stun_server_remove_client for a client whose session ended, and
  * stun_server_forget_expired now and then, and bound the number of addresses.
  *
- * Of a type that a message has twice the last visible attribute is judged, where stun_next meets the first one first. So who
- * was validated is what stun_server_client answers right after an answer above zero, and never a USERNAME that you read.
+ * Where a message has two attributes of one type, the last visible one is judged, while stun_next finds the first one first.
+ * So who was validated is what stun_server_client answers right after an answer above zero, and never a USERNAME that you read.
  *
  * Answers STUN_SHA1 or STUN_SHA256 where the message is validated: of a request or an indication the algorithm of the key, of a
  * response that of the digest that verifies.
@@ -391,7 +392,7 @@ int64_t stun_client_sign(stun_client *client, uint8_t *buffer, size_t room, size
  * first 401. A 401 is taken up only before the first success; a 438 with REALM and NONCE at any time, also one that nobody
  * signed; before a first 401 was taken up it changes nothing. So whoever can send from the server's address can have requests
  * sent without end: count how often you ask, and give up. Of an error response the last visible ERROR-CODE, REALM and NONCE are
- * judged, where stun_error_code reads the first.
+ * judged, while stun_error_code reads the first.
  *
  * Refuses STUN_EMPTY_HANDLE, STUN_TRUNCATED, STUN_NOT_STUN, STUN_TOO_LARGE. Then, of a 401 before any success:
  * STUN_UNAUTHORIZED (no credentials, no REALM or NONCE, a list of algorithms that is missing, or the challenge that was answered

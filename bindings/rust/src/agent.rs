@@ -338,7 +338,7 @@ impl StunAgent {
         Some(StunRequestMut { agent: self, transaction_id, peer_address, integrity })
     }
 
-    /// What is to be done at a moment. Where nothing is awaited it waits an hour. Does not allocate.
+    /// What is to be done at a moment. It waits an hour at most, whatever is awaited. Does not allocate.
     pub fn poll(&mut self, now: Instant) -> StunAgentPollRet {
         let (mut until, mut id) = (0, [0; 12]);
         let answer = self.handle.poll(now.as_nanos(), &mut until, &mut id);

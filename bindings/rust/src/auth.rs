@@ -25,10 +25,10 @@ pub enum Feature {
 /// What signing adds at most, but where a server lists hundreds of algorithms.
 const USUAL_ROOM: usize = 4096;
 
-/// The bytes of the longest message.
+/// The number of bytes of the longest message.
 const LONGEST_MESSAGE: usize = 65552;
 
-/// The bytes of a user name that are tried first: a message that hides the name may mean a longer one.
+/// How much room a user's name is given at first. A longer one is asked for again with more.
 const USUAL_NAME: usize = 256;
 
 /// Signs in the message's own buffer, with more room where the usual one does not do.
@@ -225,7 +225,8 @@ impl LongTermClientAuth {
         Ok(LongTermClientAuth { handle, credentials: None, supported: &[Sha1], anonymous_username })
     }
 
-    /// Whose name and password are used. Or `OutOfMemory`.
+    /// Whose name and password are used, from the next 401 on that is taken up. Or `OutOfMemory`. A name of more than 513 bytes is
+    /// taken, but where it is not hidden no request can be signed: `TextTooLong`.
     pub fn set_credentials(&mut self, credentials: LongTermCredentials) -> Result<(), Refusal> {
         Refusal::of(self.handle.set_credentials(credentials.username(), credentials.password()))?;
         self.credentials = Some(credentials);
@@ -473,7 +474,8 @@ impl LongTermServerAuth {
     }
 
     /// Signs a message to an address: NONCE and REALM in a response, and the offered algorithms or the digest under the
-    /// key of the address's client. Sign successes, 401 and 438; a 400 goes out as it is.
+    /// key of the address's client. Sign successes, 401 and 438; a 400 goes out as it is. The algorithms that a response offers
+    /// are those that requests from the address must repeat from then on: send what you sign.
     pub fn sign_outgoing_message<W: MessageWrite>(&mut self, msg: W, to: SocketAddr) -> Result<W, Refusal> {
         signed(msg, |buffer, length| self.handle.sign(buffer, length, to.into()))
     }
@@ -481,11 +483,11 @@ impl LongTermServerAuth {
     /// Who signed a message that came from an address. The words are random, of a source that nobody can foretell, and new for
     /// each call; a nonce is made of them where one is made, which a refusal may do too.
     ///
-    /// Of a type that a message has twice the last visible attribute is judged, where `Message::attribute` reads the first: ask
-    /// `client` who was validated.
+    /// Where a message has two attributes of one type, the last visible one is judged, while `Message::attribute` reads the
+    /// first: ask `client` who was validated.
     ///
-    /// A nonce is kept for each address that a request or an indication comes from: call `forget_expired` now and then,
-    /// `remove_client` when a session ends, and bound the number of addresses.
+    /// A nonce may be kept for each address that a request or an indication comes from, also where it is refused: call
+    /// `forget_expired` now and then, `remove_client` when a session ends, and bound the number of addresses.
     pub fn validate_incoming_message(
         &mut self,
         msg: &Message<'_>,

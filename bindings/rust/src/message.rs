@@ -106,7 +106,7 @@ struct Passed {
 }
 
 impl Passed {
-    /// Whether an attribute of this type is visible behind those (sections 14.5 to 14.7).
+    /// Whether an attribute of this type is visible after those (sections 14.5 to 14.7).
     fn shows(&self, kind: AttributeType) -> bool {
         let is_fingerprint = kind == AttributeType::FINGERPRINT;
         let is_integrity_sha256 = kind == AttributeType::MESSAGE_INTEGRITY_SHA256;

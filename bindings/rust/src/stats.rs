@@ -84,7 +84,8 @@ impl StunAgentStats {
         self.bytes_received
     }
 
-    /// The number of measured round trips: of requests that were sent once.
+    /// The number of measured round trips: of responses to requests that `poll_transmit` had not sent again by then, nor would
+    /// have but for `cancel_retransmissions`.
     pub fn rtt_count(&self) -> u64 {
         self.rtt_count
     }

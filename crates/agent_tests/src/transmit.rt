@@ -79,7 +79,7 @@ fn what_does_not_fit_is_not_lost(rt: HostRuntime) -> Result<(), Fail> {
         first.ok_or("the first is due")?.data,
         message(REQUEST, 1).as_slice()
     );
-    // The first is silent at its next slot, and the second is measured all the same.
+    // At its next slot the first is not sent, and the room has to do for the second all the same.
     agent
         .mut_request_transaction(id(1)?)
         .ok_or("it is outstanding")?

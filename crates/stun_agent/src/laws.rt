@@ -140,7 +140,7 @@ pub fn is_same_error(one: StunError, other: StunError) -> bool
     one == other
 }
 
-/// A want of room is always the same.
+/// All values of `NoRoom` are equal.
 pub fn is_same_want_of_room(one: NoRoom, other: NoRoom) -> bool
     ensures { IsTrue result ↔ (one ≡ other) }
 {

@@ -56,7 +56,8 @@ impl<A: Allocator + Copy> StunAgent<A> {
         self.receive(msg, from, None)
     }
 
-    /// As `handle_stun_message`, at a moment: a response to a request of which no timeout has passed counts a round trip.
+    /// As `handle_stun_message`, at a moment: a response counts a round trip where `poll_transmit` has passed no timeout of its
+    /// request, which over TCP it never does.
     pub fn handle_stun_message_with_time(
         &mut self,
         msg: &Message<'_>,

@@ -116,7 +116,7 @@ impl StunAgentStats {
         self.bytes_received
     }
 
-    /// Round trips measured: of responses that came with a moment, to requests of which no timeout had passed.
+    /// Round trips measured: of responses that came with a moment, to requests of which `poll_transmit` had passed no timeout.
     pub fn rtt_count(&self) -> u64
         ensures { result ≡ self.now.rtt_count }
     {

@@ -47,15 +47,15 @@ standing s now words = standing_of s.place (nonce_of s.registered.algorithms s.f
 
 -- ---- what a message says
 
--- the algorithm that both sides mean: HMAC-SHA1 where the message's nonce asks for no choice or the message has neither the
--- list nor the choice, and else the choice, where the list is the one that was offered and the choice is in it
+-- what is meant where the nonce asks for a choice: HMAC-SHA1 where the message has neither the list nor the choice, and else the
+-- choice, where the list is the one that was offered and the choice is in it
 abbrev pub choice : Option (List IntegrityAlgorithm) → Option IntegrityAlgorithm → List IntegrityAlgorithm → Option IntegrityAlgorithm
 choice None None offered = Some Sha1
 choice (Some list) (Some a) offered = if same_list list offered && has a offered then Some a else None
 choice (Some list) None offered = None
 choice None (Some a) offered = None
 
--- the algorithm that both sides mean, by the message's nonce
+-- the algorithm that both sides mean: by that choice, and HMAC-SHA1 where the message's nonce asks for none
 abbrev pub agreed : Reading → List ℕ → Option AlgorithmSet → Option IntegrityAlgorithm
 agreed r nonce offered = if asks_for_algorithms nonce then choice r.algorithms r.algorithm (offered_list offered) else Some Sha1
 

@@ -106,12 +106,13 @@ kept_after_naming a peer = after_address (socket_address peer) a (λ peer. agent
 
 -- ---- time
 
--- the number of what a poll answers, for an id's buffer of so many bytes
+-- the number of what a poll answers
 abbrev pub poll_number : StunAgentPollRet → ℕ
 poll_number (WaitUntil moment) = 0
 poll_number (TransactionTimedOut id) = 1
 poll_number (TransactionCancelled id) = 2
 
+-- the same, for an id's buffer of so many bytes
 abbrev pub polled : ℕ → StunAgentPollRet → Result ℕ Refusal
 polled room answer = if nat_lt room 12 then Err BufferTooSmall else Ok (poll_number answer)
 

@@ -12,7 +12,7 @@ use Rattle.stun_state.specs.Answers.{kept_if_refused, message_refusal, unless_re
 use Rattle.stun_state.specs.Codes.{refusal_of_client}
 use Rattle.stun_state.specs.declared.codes.Refusal.{Refusal}
 
--- the algorithms of a set, the strongest first
+-- the client that supports the algorithms of a set, the strongest first
 abbrev pub with_algorithms : Option AlgorithmSet → ClientSide → ClientSide
 with_algorithms None c = c
 with_algorithms (Some set) c = record c { settings = record c.settings { supported = listed set } }

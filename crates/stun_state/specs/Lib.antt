@@ -16,7 +16,7 @@ pub mod Server
 pub mod Signing
 -- what the calls on a client answer and leave
 pub mod Client
--- where a call keeps nothing more, and tells of no allocation that failed
+-- which calls keep nothing more, and so answer no failed allocation
 pub mod Memory
 -- what no clause of a public call says: what private functions alone cite
 pub mod code

@@ -1,4 +1,4 @@
--- Where a call keeps nothing more, and its answer is the one of its definition: no allocation that failed is told.
+-- Which calls keep nothing more, so that no failed allocation is answered; of a client, which calls may keep something.
 use Rattle.std.specs.Prelude.{◌≡◌, ⊤, ◌||◌, not, is_some, Bool, true, ℕ, List, Option, Some, None, MatchOption}
 use Rattle.std.specs.declared.net.socket_addr.SocketAddr.{SocketAddr}
 use Rattle.stun_agent.specs.Agent.{Agent, takes_message}
@@ -15,7 +15,7 @@ abbrev pub naming_adds_none : Agent → Option SocketAddr → Bool
 naming_adds_none a None = true
 naming_adds_none a (Some peer) = is_peer peer a.peers
 
--- whether bytes add none: they come from none, are no message, come from one that is kept already, or are not taken
+-- whether bytes add no address to them: they come from none, are no message, come from one that is kept, or are not taken
 abbrev pub message_adds_none : Agent → List ℕ → Option SocketAddr → Bool
 message_adds_none a bytes None = true
 message_adds_none a bytes (Some from) = is_some (refusal bytes) || (is_peer from a.peers || not (takes_message bytes from a))

@@ -617,7 +617,7 @@ pub extern "C" fn stun_server_forget_expired(
     0
 }
 
-/// Who was validated at an address.
+/// Who was validated last at an address.
 #[unsafe(no_mangle)]
 pub extern "C" fn stun_server_client(
     alloc: Global,

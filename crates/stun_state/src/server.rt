@@ -31,7 +31,7 @@ use stun_types::prelude::*;
 /// The shortest time that a nonce lasts, in nanoseconds.
 const SHORTEST_EXPIRY: u64 = 30_000_000_000;
 
-/// Who was validated at an address: how long the user's name is, and the algorithm of the key.
+/// Who was validated last at an address: how long the user's name is, and the algorithm of the key.
 #[derive(Debug, Clone, Copy, PartialEq, Eq)]
 pub struct Validated {
     /// How many bytes the name has.
@@ -143,7 +143,7 @@ pub fn forget_expired(server: &mut LongTermServerAuth<Global>, now: u64)
     server.forget_expired(Instant::from_nanos(now));
 }
 
-/// Who was validated at an address, and the user's name at the front of the buffer.
+/// Who was validated last at an address, and the user's name at the front of the buffer.
 pub fn client(
     server: &LongTermServerAuth<Global>,
     at: &Address,

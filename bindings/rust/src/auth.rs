@@ -249,6 +249,8 @@ impl LongTermClientAuth {
         });
     }
 
+    /// Read where a 401 is taken up. Where the server has no list, and its nonce has security bits that ask for none, HMAC-SHA1 is
+    /// taken all the same: `Validated` names it.
     pub fn set_supported_integrity(&mut self, integrity: IntegrityAlgorithm) {
         self.support(only(integrity));
     }

@@ -54,6 +54,7 @@ fn answer(
     let writer = MessageWriteVec::new(alloc);
     let code = match auth.validate_incoming_message(request, from, now, rng) {
         Ok(LongTermServerValidation::Validated(_)) => {
+            // who it is: `auth.client(from)`, and not the message's USERNAME
             let mut success = Message::builder_success(request, writer)?;
             success.add_attribute(&XorMappedAddress::new(from, request.transaction_id()))?;
             return Ok(Some(auth.sign_outgoing_message(success, from)?.finish()));

@@ -10,7 +10,8 @@ use Rattle.stun_base.specs.declared.message_type.MessageClass.{MessageClass}
 use Rattle.stun_base.specs.declared.message_type.MessageClass.TheVariants.{Request, Indication, Success, Error}
 use Rattle.stun_agent.specs.declared.error.StunError.{StunError}
 use Rattle.stun_agent.specs.declared.error.StunError.TheVariants.{ProtocolViolation, ParseError}
-use Rattle.stun_agent.specs.Agent.{Agent, tallied, with_validated, with_transactions, tally_of_end, tally_of_sent, class_of_bytes, is_request, sending_tally, address_refusal, class_refusal, sending_refusal, after_send, request_refusal, request_of, after_send_request, answered, after_class, after_response, ended_by_poll, sent_by_poll, after_poll}
+use Rattle.stun_base.specs.MessageType.{class_in, is_request}
+use Rattle.stun_agent.specs.Agent.{Agent, tallied, with_validated, with_transactions, tally_of_end, tally_of_sent, sending_tally, address_refusal, class_refusal, sending_refusal, after_send, request_refusal, request_of, after_send_request, answered, after_class, after_response, ended_by_poll, sent_by_poll, after_poll}
 use Rattle.stun_agent.specs.Statistics.{Statistics, Tally, counted, LeavesOutstanding, IsNotFull, request_sent, request_sent_again, request_received, indication_received, response_received}
 use Rattle.stun_agent.specs.Steps.{Step, send, send_request, receive, validate, poll, poll_transmit, cancel_retransmissions, cancel, configure, after_step}
 use Rattle.stun_agent.specs.Transactions.{Transaction, repeats, is_over, without, changed, silenced, cancelled, configured, slot_passed, after_slots, round_trip}
@@ -48,17 +49,17 @@ first_none : {X : Type 0} (o p : Option X) → option_or o p ≡ None → o ≡ 
 first_none None p h = refl
 first_none (Some x) p h = cc
 
-sent_is_other : (bytes : List ℕ) → class_refusal bytes ≡ None → is_request (class_of_bytes bytes) ≡ false
+sent_is_other : (bytes : List ℕ) → class_refusal bytes ≡ None → is_request (class_in bytes) ≡ false
 sent_is_other bytes h = by (header_refusal bytes) h
   where
     by_class : (b : Bool) → cond b (Some ProtocolViolation) None ≡ None → b ≡ false
     by_class true h = cc
     by_class false h = refl
 
-    by : (refused : Option StunParseError) → option_map_or (λ error. Some (ParseError error)) refused (cond (is_request (class_of_bytes bytes)) (Some ProtocolViolation) None) ≡ None
-        → is_request (class_of_bytes bytes) ≡ false
+    by : (refused : Option StunParseError) → option_map_or (λ error. Some (ParseError error)) refused (cond (is_request (class_in bytes)) (Some ProtocolViolation) None) ≡ None
+        → is_request (class_in bytes) ≡ false
     by (Some error) h = cc
-    by None h = by_class (is_request (class_of_bytes bytes)) h
+    by None h = by_class (is_request (class_in bytes)) h
 
 tells_send : (bytes : List ℕ) (to : SocketAddr) (a : Agent) → Tells a.statistics (length a.transactions)
     → StillTells (cond (is_some (sending_refusal a bytes to)) a (after_send bytes a)).statistics (length (cond (is_some (sending_refusal a bytes to)) a (after_send bytes a)).transactions)
@@ -67,7 +68,7 @@ tells_send bytes to a h = by (sending_refusal a bytes to) refl
     by : (r : Option StunError) → sending_refusal a bytes to ≡ r
         → StillTells (cond (is_some r) a (after_send bytes a)).statistics (length (cond (is_some r) a (after_send bytes a)).transactions)
     by (Some error) is = untouched_tells a.statistics _ _ refl h
-    by None is = sent_class (class_of_bytes bytes) (length bytes) a.statistics (length a.transactions) (sent_is_other bytes (first_none (class_refusal bytes) (address_refusal a to) is)) h
+    by None is = sent_class (class_in bytes) (length bytes) a.statistics (length a.transactions) (sent_is_other bytes (first_none (class_refusal bytes) (address_refusal a to) is)) h
 
 one_more : (n m : ℕ) → m ≡ n + 1 → n + 1 ≡ m + (0 + 0 + 0)
 one_more n m h = omega (arith, h)
@@ -135,7 +136,7 @@ tells_changed f id a h = untouched_tells a.statistics _ _ (length-changed f id a
 pub still_tells : (step : Step) (a : Agent) → Tells a.statistics (length a.transactions) → StillTells (after_step step a).statistics (length (after_step step a).transactions)
 still_tells (send bytes to) a h = tells_send bytes to a h
 still_tells (send_request bytes to now) a h = tells_request bytes to now a h
-still_tells (receive moment bytes from) a h = tells_class (class_of_bytes bytes) moment bytes from a h
+still_tells (receive moment bytes from) a h = tells_class (class_in bytes) moment bytes from a h
 still_tells (validate address) a h = untouched_tells a.statistics _ _ refl h
 still_tells (poll now) a h = tells_poll now a h
 still_tells (poll_transmit now) a h = tells_transmit now a (sent_by_poll now a) h

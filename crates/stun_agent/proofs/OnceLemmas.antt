@@ -13,7 +13,8 @@ use Rattle.stun_base.specs.declared.message_type.MessageClass.{MessageClass}
 use Rattle.stun_base.specs.declared.message_type.MessageClass.TheVariants.{Request, Indication, Success, Error}
 use Rattle.stun_agent.specs.declared.error.StunError.{StunError}
 use Rattle.stun_agent.specs.declared.error.StunError.TheVariants.{AlreadyInProgress, ProtocolViolation, ParseError}
-use Rattle.stun_agent.specs.Agent.{Agent, tallied, with_validated, with_transactions, tally_of_end, tally_of_sent, class_of_bytes, is_request, is_elsewhere, sending_refusal, after_send, request_refusal, request_of, after_send_request, answered, after_class, after_response, ended_by_poll, sent_by_poll, after_poll}
+use Rattle.stun_base.specs.MessageType.{class_in, is_request}
+use Rattle.stun_agent.specs.Agent.{Agent, tallied, with_validated, with_transactions, tally_of_end, tally_of_sent, is_elsewhere, sending_refusal, after_send, request_refusal, request_of, after_send_request, answered, after_class, after_response, ended_by_poll, sent_by_poll, after_poll}
 use Rattle.stun_agent.specs.Statistics.{response_received}
 use Rattle.stun_agent.specs.Steps.{Step, send, send_request, receive, validate, poll, poll_transmit, cancel_retransmissions, cancel, configure, after_step, after_steps, is_id, is_outstanding, begins, ends, takes_request, once, count}
 use Rattle.stun_agent.specs.Transactions.{Transaction, Transactions, IsAscending, at, with, without, changed, silenced, cancelled, configured, is_over, slot_passed, after_slots, round_trip}
@@ -70,7 +71,7 @@ pub ascending_step : (step : Step) (a : Agent) → IsAscending a.transactions �
 ascending_step (send bytes to) a s = ascending_if (is_some (sending_refusal a bytes to)) a (after_send bytes a) s s
 ascending_step (send_request bytes to now) a s =
     ascending_if (is_some (request_refusal a bytes to)) a (after_send_request a bytes to now) s (IsAscending-insert a.transactions (transaction_id_field bytes) (request_of a bytes to now) s)
-ascending_step (receive moment bytes from) a s = ascending_class (class_of_bytes bytes) moment bytes from a s
+ascending_step (receive moment bytes from) a s = ascending_class (class_in bytes) moment bytes from a s
 ascending_step (validate address) a s = s
 ascending_step (poll now) a s = ascending_poll now a s
 ascending_step (poll_transmit now) a s = ascending_slots now a (sent_by_poll now a) s
@@ -104,11 +105,11 @@ not_refused_is_new a bytes to h = by_header (header_refusal bytes) h
 
     by_header : (refused : Option StunParseError)
         → option_map_or (λ error. Some (ParseError error)) refused
-        (cond (is_request (class_of_bytes bytes)) (cond (is_elsewhere a to) (Some ProtocolViolation) (cond (is_some (at (transaction_id_field bytes) a.transactions)) (Some AlreadyInProgress) None)) (Some ProtocolViolation))
+        (cond (is_request (class_in bytes)) (cond (is_elsewhere a to) (Some ProtocolViolation) (cond (is_some (at (transaction_id_field bytes) a.transactions)) (Some AlreadyInProgress) None)) (Some ProtocolViolation))
         ≡ None
         → at (transaction_id_field bytes) a.transactions ≡ None
     by_header (Some error) h = cc
-    by_header None h = by_class (is_request (class_of_bytes bytes)) h
+    by_header None h = by_class (is_request (class_in bytes)) h
 
 -- what a call balances
 abbrev IsBalanced : ℕ → Bool → Bool → Transactions → Transactions → Type 0
@@ -210,7 +211,7 @@ pub balanced_step : (id : ℕ) (step : Step) (a : Agent) → IsAscending a.trans
     → IsBalanced id (begins id step a) (ends id step a) a.transactions (after_step step a).transactions
 balanced_step id (send bytes to) a s = balanced_send (is_some (sending_refusal a bytes to)) id bytes a
 balanced_step id (send_request bytes to now) a s = balanced_request id a bytes to now
-balanced_step id (receive moment bytes from) a s = balanced_class (class_of_bytes bytes) id moment bytes from a s
+balanced_step id (receive moment bytes from) a s = balanced_class (class_in bytes) id moment bytes from a s
 balanced_step id (validate address) a s = refl
 balanced_step id (poll now) a s = balanced_poll id now a s
 balanced_step id (poll_transmit now) a s = balanced_slots id now a (sent_by_poll now a)

@@ -10,7 +10,8 @@ use Rattle.stun_base.specs.declared.message_type.MessageClass.TheVariants.{Reque
 use Rattle.stun_base.specs.declared.transport.TransportType.{TransportType}
 use Rattle.stun_base.specs.declared.transport.TransportType.TheVariants.{Udp, Tcp}
 use Rattle.stun_agent.specs.declared.error.StunError.{StunError}
-use Rattle.stun_agent.specs.Agent.{Agent, tallied, with_validated, with_transactions, tally_of_end, tally_of_sent, class_of_bytes, sending_refusal, after_send, request_refusal, request_of, after_send_request, answered, after_class, after_response, ended_by_poll, sent_by_poll, after_poll}
+use Rattle.stun_base.specs.MessageType.{class_in}
+use Rattle.stun_agent.specs.Agent.{Agent, tallied, with_validated, with_transactions, tally_of_end, tally_of_sent, sending_refusal, after_send, request_refusal, request_of, after_send_request, answered, after_class, after_response, ended_by_poll, sent_by_poll, after_poll}
 use Rattle.stun_agent.specs.Statistics.{response_received}
 use Rattle.stun_agent.specs.Steps.{Step, send, send_request, receive, validate, poll, poll_transmit, cancel_retransmissions, cancel, configure, after_step, after_steps, is_id, repeats_request, once, allowed, repetitions_until_end, most_allowed}
 use Rattle.stun_agent.specs.Timing.{slots}
@@ -55,7 +56,7 @@ transport_sent a (Some e) = refl
 pub transport_step : (step : Step) (a : Agent) → (after_step step a).transport ≡ a.transport
 transport_step (send bytes to) a = transport_if (is_some (sending_refusal a bytes to)) a (after_send bytes a) a.transport refl refl
 transport_step (send_request bytes to now) a = transport_if (is_some (request_refusal a bytes to)) a (after_send_request a bytes to now) a.transport refl refl
-transport_step (receive moment bytes from) a = transport_class (class_of_bytes bytes) moment bytes from a
+transport_step (receive moment bytes from) a = transport_class (class_in bytes) moment bytes from a
 transport_step (validate address) a = refl
 transport_step (poll now) a = transport_poll a (ended_by_poll now a)
 transport_step (poll_transmit now) a =
@@ -181,7 +182,7 @@ slot_step : (id : ℕ) (step : Step) (a : Agent) (t : Transaction) → IsAscendi
     → TakesSlot a.transport t (repeats_request id step a) (at id (after_step step a).transactions)
 slot_step id (send bytes to) a t s there = slot_send (is_some (sending_refusal a bytes to)) id bytes a t there
 slot_step id (send_request bytes to now) a t s there = slot_request id a bytes to now t there
-slot_step id (receive moment bytes from) a t s there = slot_class (class_of_bytes bytes) id moment bytes from a t s there
+slot_step id (receive moment bytes from) a t s there = slot_class (class_in bytes) id moment bytes from a t s there
 slot_step id (validate address) a t s there = stays a.transport t t _ there refl
 slot_step id (poll now) a t s there = slot_poll id now a t s there
 slot_step id (poll_transmit now) a t s there = slot_transmit id now a t s there

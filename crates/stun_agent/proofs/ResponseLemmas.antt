@@ -1,5 +1,5 @@
 -- A response to no request, and the ends of plans.
-use Rattle.std.proofs.Common.{ℕ, ◌≡◌, ◌+◌, ◌-◌, ◌^◌, List, length, ap, refl, arith, false, min}
+use Rattle.std.proofs.Common.{ℕ, ◌≡◌, ◌+◌, ◌-◌, ◌^◌, List, length, ap, refl, arith, false, true, min}
 use Rattle.std.specs.Prelude.{Option, Some, None}
 use Rattle.std.specs.Duration.{max_nanos}
 use Rattle.std.specs.Option.{is_some, option_map_or}
@@ -29,8 +29,8 @@ ignored moment bytes from agent none = (ap is_some none, by (answered bytes from
 
 pub unanswering_ignored : (class : MessageClass) (moment : Option ℕ) (bytes : List ℕ) (from : SocketAddr) (agent : Agent) → IsResponse class
     → answered bytes from agent ≡ None → (takes class bytes from agent ≡ false) × (after_class class moment bytes from agent ≡ agent)
-unanswering_ignored Request moment bytes from agent response none = absurd response
-unanswering_ignored Indication moment bytes from agent response none = absurd response
+unanswering_ignored Request moment bytes from agent response none = absurd (let clash : false ≡ true = response in cc)
+unanswering_ignored Indication moment bytes from agent response none = absurd (let clash : false ≡ true = response in cc)
 unanswering_ignored Success moment bytes from agent response none = ignored moment bytes from agent none
 unanswering_ignored Error moment bytes from agent response none = ignored moment bytes from agent none
 

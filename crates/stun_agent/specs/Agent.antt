@@ -6,8 +6,8 @@ use Rattle.stun_base.specs.declared.message_type.MessageClass.{MessageClass}
 use Rattle.stun_base.specs.declared.message_type.MessageClass.TheVariants.{Request, Indication, Success, Error}
 use Rattle.stun_base.specs.declared.transport.TransportType.{TransportType}
 use Rattle.stun_base.specs.Address.{same_address}
-use Rattle.stun_base.specs.Header.{type_field, transaction_id_field, header_refusal}
-use Rattle.stun_base.specs.MessageType.{class_of}
+use Rattle.stun_base.specs.Header.{transaction_id_field, header_refusal}
+use Rattle.stun_base.specs.MessageType.{class_in, is_request}
 use Rattle.stun_agent.specs.declared.agent.StunAgentPollRet.{StunAgentPollRet}
 use Rattle.stun_agent.specs.declared.agent.StunAgentPollRet.TheVariants.{TransactionTimedOut, TransactionCancelled, WaitUntil}
 use Rattle.stun_agent.specs.declared.error.StunError.{StunError}
@@ -58,17 +58,6 @@ abbrev pub tallied : Tally → Agent → Agent
 tallied tally agent = record agent { statistics = option_map (counted tally) agent.statistics }
 
 -- ---- messages
--- the class that the header of bytes names
-abbrev pub class_of_bytes : List ℕ → MessageClass
-class_of_bytes bytes = class_of (type_field bytes)
-
--- whether a class is that of requests
-abbrev pub is_request : MessageClass → Bool
-is_request Request = true
-is_request Indication = false
-is_request Success = false
-is_request Error = false
-
 -- what sending a message of a class counts
 abbrev pub sending_tally : MessageClass → ℕ → Tally
 sending_tally Request count = request_sent count
@@ -89,7 +78,7 @@ address_refusal agent to = if is_elsewhere agent to then Some ProtocolViolation 
 abbrev pub class_refusal : List ℕ → Option StunError
 class_refusal bytes =
     option_map_or (λ error. Some (ParseError error)) (header_refusal bytes)
-    (if is_request (class_of_bytes bytes) then Some ProtocolViolation else None)
+    (if is_request (class_in bytes) then Some ProtocolViolation else None)
 
 -- why bytes are not sent as such a message, the first reason that holds
 abbrev pub sending_refusal : Agent → List ℕ → SocketAddr → Option StunError
@@ -97,13 +86,13 @@ sending_refusal agent bytes to = option_or (class_refusal bytes) (address_refusa
 
 -- the agent after it has sent a message that wants no answer
 abbrev pub after_send : List ℕ → Agent → Agent
-after_send bytes agent = tallied (sending_tally (class_of_bytes bytes) (length bytes)) agent
+after_send bytes agent = tallied (sending_tally (class_in bytes) (length bytes)) agent
 
 -- why bytes are not sent as a request, the first reason that holds
 abbrev pub request_refusal : Agent → List ℕ → SocketAddr → Option StunError
 request_refusal agent bytes to =
     option_map_or (λ error. Some (ParseError error)) (header_refusal bytes)
-    (if is_request (class_of_bytes bytes) then
+    (if is_request (class_in bytes) then
     (if is_elsewhere agent to then Some ProtocolViolation else
     (if is_some (at (transaction_id_field bytes) agent.transactions) then Some AlreadyInProgress else None))
     else Some ProtocolViolation)
@@ -157,11 +146,11 @@ after_class Error moment bytes from agent = after_response moment bytes from age
 
 -- whether a message is taken
 abbrev pub takes_message : List ℕ → SocketAddr → Agent → Bool
-takes_message bytes from agent = takes (class_of_bytes bytes) bytes from agent
+takes_message bytes from agent = takes (class_in bytes) bytes from agent
 
 -- the agent after a message
 abbrev pub after_message : Option ℕ → List ℕ → SocketAddr → Agent → Agent
-after_message moment bytes from agent = after_class (class_of_bytes bytes) moment bytes from agent
+after_message moment bytes from agent = after_class (class_in bytes) moment bytes from agent
 
 -- ---- ends
 -- how a transaction ends that no response took: cancelled where its user has stopped its retransmissions or itself

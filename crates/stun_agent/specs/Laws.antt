@@ -2,11 +2,11 @@
 use Rattle.std.specs.Prelude.{◌≡◌, ◌≢◌, ◌≤◌, ◌<◌, ◌+◌, ℕ, false, max, List, [], Option, Some, None, IfSome, length}
 use Rattle.std.specs.declared.net.socket_addr.SocketAddr.{SocketAddr}
 use Rattle.stun_base.specs.Header.{transaction_id_field}
-use Rattle.stun_base.specs.MessageType.{IsResponse}
+use Rattle.stun_base.specs.MessageType.{IsResponse, class_in}
 use Rattle.stun_base.specs.Moments.{moment_after}
 use Rattle.stun_base.specs.declared.transport.TransportType.TheVariants.{Udp, Tcp}
 use Rattle.stun_agent.specs.declared.agent.StunAgentPollRet.TheVariants.{WaitUntil}
-use Rattle.stun_agent.specs.Agent.{Agent, class_of_bytes, takes_message, after_message, poll_answer, after_poll, ended_by_poll, sent_by_poll, request_refusal, after_send_request}
+use Rattle.stun_agent.specs.Agent.{Agent, takes_message, after_message, poll_answer, after_poll, ended_by_poll, sent_by_poll, request_refusal, after_send_request}
 use Rattle.stun_agent.specs.Statistics.{LeavesOutstanding, IsNotFull}
 use Rattle.stun_agent.specs.Steps.{Step, after_step, after_steps, is_outstanding, begins, ends, once, count, repetitions_until_end, most_allowed}
 use Rattle.stun_agent.specs.Timing.{Settings, timeout, planned_end}
@@ -39,14 +39,14 @@ WaitsAsTold =
 abbrev pub IgnoresUnknown : Type 0
 IgnoresUnknown =
     (moment : Option ℕ) (bytes : List ℕ) (from : SocketAddr) (agent : Agent)
-    → IsResponse (class_of_bytes bytes) → at (transaction_id_field bytes) agent.transactions ≡ None
+    → IsResponse (class_in bytes) → at (transaction_id_field bytes) agent.transactions ≡ None
     → (takes_message bytes from agent ≡ false) × (after_message moment bytes from agent ≡ agent)
 
 -- a response from another address than its request went to is not taken, and changes nothing
 abbrev pub IgnoresElsewhere : Type 0
 IgnoresElsewhere =
     (moment : Option ℕ) (bytes : List ℕ) (from : SocketAddr) (agent : Agent) (t : Transaction)
-    → IsResponse (class_of_bytes bytes) → at (transaction_id_field bytes) agent.transactions ≡ Some t → from ≢ t.to
+    → IsResponse (class_in bytes) → at (transaction_id_field bytes) agent.transactions ≡ Some t → from ≢ t.to
     → (takes_message bytes from agent ≡ false) × (after_message moment bytes from agent ≡ agent)
 
 -- a request ends over UDP and over TCP at the same moment

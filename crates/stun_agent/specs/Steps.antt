@@ -7,7 +7,8 @@ use Rattle.std.specs.BTreeMap.{is_at}
 use Rattle.stun_base.specs.Header.{transaction_id_field}
 use Rattle.stun_base.specs.declared.message_type.MessageClass.{MessageClass}
 use Rattle.stun_base.specs.declared.message_type.MessageClass.TheVariants.{Request, Indication, Success, Error}
-use Rattle.stun_agent.specs.Agent.{Agent, with_transactions, with_validated, class_of_bytes, sending_refusal, after_send, request_refusal, after_send_request, answered, after_message, ended_by_poll, after_poll, sent_by_poll, after_poll_transmit}
+use Rattle.stun_base.specs.MessageType.{class_in}
+use Rattle.stun_agent.specs.Agent.{Agent, with_transactions, with_validated, sending_refusal, after_send, request_refusal, after_send_request, answered, after_message, ended_by_poll, after_poll, sent_by_poll, after_poll_transmit}
 use Rattle.stun_agent.specs.Timing.{Settings}
 use Rattle.stun_agent.specs.Transactions.{at, changed, silenced, cancelled, configured}
 
@@ -71,7 +72,7 @@ takes_request Error id bytes from agent = is_id id (transaction_id_field bytes) 
 
 -- a call ends the transaction: by a response that comes, or by a poll, as timed out or cancelled
 abbrev pub ends : ℕ → Step → Agent → Bool
-ends id (receive moment bytes from) agent = takes_request (class_of_bytes bytes) id bytes from agent
+ends id (receive moment bytes from) agent = takes_request (class_in bytes) id bytes from agent
 ends id (poll now) agent = option_map_or (λ e. is_id id e.0) (ended_by_poll now agent) false
 ends id (send bytes to) agent = false
 ends id (send_request bytes to now) agent = false

@@ -79,7 +79,7 @@ awaited transport t = moment_after t.last (if has_slots transport t then timeout
 abbrev pub is_due : TransportType → ℕ → Transaction → Bool
 is_due transport now t = not (is_cancelled t.sending) && (has_slots transport t && nat_le (awaited transport t) now)
 
--- it has ended
+-- it is over: it ends at the next poll that comes to it
 abbrev pub is_over : TransportType → ℕ → Transaction → Bool
 is_over transport now t = is_cancelled t.sending || (not (has_slots transport t) && nat_le (awaited transport t) now)
 

@@ -39,7 +39,7 @@ pub fn a_request_ends_once()
 {}
 
 /// A response to no outstanding request is not taken, and leaves requests, peers and statistics as they were
-/// (RFC 8489, section 6.3.3).
+/// (RFC 8489, section 6.3).
 pub fn a_response_to_no_request_changes_nothing()
     ensures { IgnoresUnknown }
 {}

@@ -42,6 +42,8 @@ impl<A: Allocator + Copy> StunAgent<A> {
     ///
     /// Where an allocation fails to note the address, the agent is as before, and a response's request is still
     /// outstanding. An address that is noted already, and a message that is not taken, do not allocate.
+    ///
+    /// No call forgets a noted address: bound from how many addresses you hand in messages.
     pub fn handle_stun_message(
         &mut self,
         msg: &Message<'_>,

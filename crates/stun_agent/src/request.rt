@@ -1,4 +1,4 @@
-//! Outstanding requests, looked at and changed.
+//! The handles by which a user looks at a request, cancels it or gives it other timeouts.
 ghost use Rattle.std.specs.Prelude.{◌≡◌, IfSome, Ok};
 ghost use Rattle.std.specs.Borrow.{sem};
 ghost use Rattle.std.specs.Duration.{as_nanos, max_nanos};

@@ -2,7 +2,8 @@
 ghost use Rattle.std.specs.Prelude.{◌≡◌, Some, None, Ok, Err, IsOk, IfOk, IfErr, OnOk, OnErr, IsErrOf, IsOkUnless, MatchOption};
 ghost use Rattle.std.specs.Borrow.{sem};
 ghost use Rattle.stun_base.specs.Header.{transaction_id_field};
-ghost use Rattle.stun_agent.specs.Agent.{class_of_bytes, address_refusal, class_refusal, sending_refusal, after_send, request_refusal, request_of, after_send_request};
+ghost use Rattle.stun_base.specs.MessageType.{class_in};
+ghost use Rattle.stun_agent.specs.Agent.{address_refusal, class_refusal, sending_refusal, after_send, request_refusal, request_of, after_send_request};
 ghost use Rattle.stun_agent.specs.Datagrams.{parts, lent_datagram};
 ghost use Rattle.stun_agent.specs.Transactions.{IsRequestOf, at};
 
@@ -62,6 +63,7 @@ impl<A: Allocator + Copy> StunAgent<A> {
     /// The errors, in the order in which they are looked for: `ParseError` where the bytes do not begin with a
     /// header, `ProtocolViolation` for a request, `ProtocolViolation` where the agent is to speak to another
     /// address. After an error the agent is as before, and the message is dropped. Does not allocate.
+    /// The moment is not used: the Rust crate's call has it.
     pub fn send<T: OwnedBytes + Drop>(
         &mut self,
         msg: T,
@@ -139,7 +141,7 @@ impl<A: Allocator + Copy> StunAgent<A> {
     /// The class of a message that may be sent and wants no answer.
     fn class_to_send(&self, bytes: &[u8], to: SocketAddr) -> Result<MessageClass, StunError>
         ensures accepted { OnOk result (sending_refusal self.now bytes.now to ≡ None) }
-        ensures class { IfOk result (λ class. class ≡ class_of_bytes bytes.now) }
+        ensures class { IfOk result (λ class. class ≡ class_in bytes.now) }
         ensures refused { IfErr result (λ error. sending_refusal self.now bytes.now to
             ≡ Some error) }
     {
@@ -170,7 +172,7 @@ impl<A: Allocator + Copy> StunAgent<A> {
 
 /// The class of a message that wants no answer.
 fn class_of_answerless(bytes: &[u8]) -> Result<MessageClass, StunError>
-    ensures { MatchOption (class_refusal bytes.now) (result ≡ Ok (class_of_bytes bytes.now))
+    ensures { MatchOption (class_refusal bytes.now) (result ≡ Ok (class_in bytes.now))
         (λ error. result ≡ Err error) }
 {
     let class = MessageHeader::from_bytes(bytes)?.get_type().class();

@@ -1,4 +1,4 @@
-//! A request that waits for its response.
+//! One request that waits: its bytes, its timeouts, and what it awaits.
 ghost use Rattle.std.specs.Prelude.{◌≡◌, IsTrue};
 ghost use Rattle.stun_base.specs.Address.{same_address};
 ghost use Rattle.stun_agent.specs.code.Deadlines.{deadline_of};

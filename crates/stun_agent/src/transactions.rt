@@ -1,4 +1,4 @@
-//! What becomes of the outstanding requests, and of their deadlines.
+//! Steps over the map of requests and the index of deadlines.
 ghost use Rattle.std.specs.Prelude.{◌≡◌, length, Some, None, IfSome, IsTrue, MatchOption};
 ghost use Rattle.std.specs.Ordering.{nat_cmp};
 ghost use Rattle.std.specs.BTreeMap.{get};

@@ -16,7 +16,8 @@ use Rattle.stun_auth.specs.declared.server_reason.Refusal.TheVariants as Refused
 use Rattle.stun_auth.specs.declared.server_reason.LongTermServerAuthErrorReason.TheVariants.{BadRequest}
 use Rattle.stun_auth.specs.declared.server_reason.LongTermServerValidation.TheVariants.{Validated}
 use Rattle.stun_auth.specs.Algorithms.{contains}
-use Rattle.stun_auth.specs.Reading.{Reading, is_response, verified_under}
+use Rattle.stun_base.specs.MessageType.{is_response}
+use Rattle.stun_auth.specs.Reading.{Reading, verified_under}
 use Rattle.stun_auth.specs.Registered.{Registered, key_at, key_if, key_of, user_named}
 use Rattle.stun_auth.specs.Seen.{ClientSeen}
 use Rattle.stun_auth.specs.Server.{Sight, IsAccepted, agreed, nonce_refusal, standing, verdict}

@@ -1,8 +1,7 @@
 -- What the nonces of a server ask for.
 use Rattle.std.proofs.Common.{◌≡◌, ℕ, zero, suc, ◌+◌, ◌<◌, List, [], ◌∷◌, ◌++◌, length, map, Option, Some, None, Bool, true, false, refl, ◌∙◌, ap, arith, length-append}
 use Rattle.std.proofs.lemmas.Bool.{le-leb}
-use Rattle.std.specs.Prelude.{cond, nat_le, ◌==◌, ◌&&◌, take, drop, String, Result, Ok, Err, IfOk}
-use Rattle.std.specs.String.{string_bytes}
+use Rattle.std.specs.Prelude.{cond, nat_le, ◌==◌, ◌&&◌, take, drop}
 use Rattle.base64.specs.Engines.{standard}
 use Rattle.base64.specs.GeneralPurpose.{IsBytes, decode_of, encode_of}
 use Rattle.base64.specs.Rfc4648.{encode_symbols}

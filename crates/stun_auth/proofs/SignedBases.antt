@@ -7,7 +7,7 @@ use Rattle.byteorder.specs.Endian.{big_bytes}
 use Rattle.byteorder.specs.Numbers.{big_number-reads_back}
 use Rattle.stun_base.specs.Attributes.{ERROR_CODE, NONCE, PASSWORD_ALGORITHM, PASSWORD_ALGORITHMS, REALM, USERHASH, USERNAME}
 use Rattle.stun_base.specs.Header.{MAGIC_COOKIE, type_field}
-use Rattle.stun_base.specs.MessageType.{class_of}
+use Rattle.stun_base.specs.MessageType.{class_of, class_in, is_error}
 use Rattle.stun_types.specs.Attribute.{TypedValue, attribute_length}
 use Rattle.stun_types.specs.ErrorCode.{CodeAndReason, IsError, error_of}
 use Rattle.stun_types.specs.ErrorCodeLaws.{error_of-written}
@@ -15,7 +15,7 @@ use Rattle.stun_types.specs.Grammar.{spelled, spelled_attribute, spelled_attribu
 use Rattle.stun_types.specs.Visible.{has_kind, visible}
 use Rattle.stun_types.specs.Walk.{Member, walk}
 use Rattle.stun_types.specs.Writing.{IsAddable, IsOpen, with_attribute}
-use Rattle.stun_auth.specs.Reading.{class_in, is_error, last_of}
+use Rattle.stun_auth.specs.Reading.{last_of}
 use Rattle.stun_auth.specs.Signed.{IsBuilt, IsUnsigned, error_attribute}
 use Rattle.stun_auth.proofs.JoinedLemmas.{WritingLaws}
 

@@ -4,7 +4,7 @@ use Rattle.std.specs.Prelude.{Option, Some, None, Ok, map, nat_lt, ◌==◌, if�
 use Rattle.std.specs.List.{AllByRecursion}
 use Rattle.std.specs.Option.{IfSome, is_some, option_and_then, option_map, option_or}
 use Rattle.stun_base.specs.Attributes.{ERROR_CODE, NONCE, PASSWORD_ALGORITHM, PASSWORD_ALGORITHMS, REALM, USERHASH, USERNAME}
-use Rattle.stun_base.specs.MessageType.{class_of}
+use Rattle.stun_base.specs.MessageType.{class_of, class_in, is_error}
 use Rattle.stun_base.specs.declared.algorithm.IntegrityAlgorithm.{IntegrityAlgorithm}
 use Rattle.stun_base.specs.declared.algorithm.IntegrityAlgorithm.TheVariants.{Sha1, Sha256}
 use Rattle.stun_base.specs.declared.message_type.MessageClass.{MessageClass}
@@ -20,7 +20,7 @@ use Rattle.stun_types.specs.Writing.{IsOpen, is_set_apart}
 use Rattle.stun_auth.specs.AddedAttribute.{password_algorithm, password_algorithms}
 use Rattle.stun_auth.specs.Additions.{Addition, attribute, integrity, Page, added_all, is_too_long}
 use Rattle.stun_auth.specs.Joined.{IsReadBack, IsTyped, Protection, added_last, last_value, protection_in}
-use Rattle.stun_auth.specs.Reading.{class_in, error_code, has_integrity, is_error, last, last_of, reading_of}
+use Rattle.stun_auth.specs.Reading.{error_code, has_integrity, last, last_of, reading_of}
 use Rattle.stun_auth.specs.Signed.{Added, IsBuilt, IsText, IsTextOf, IsUnsigned, IsWithinLimits, IsWritable, ReadsAs, additions_of, if_there}
 use Rattle.stun_auth.proofs.JoinedLemmas.{IsShort, WritingLaws, all_short, has_added, not_above, or_none}
 use Rattle.stun_auth.proofs.JoinedReading.{or_nothing, read_back}

@@ -4,18 +4,18 @@ use Rattle.std.specs.Prelude.{Option, Some, None, find, map, not, ◌==◌, ◌&
 use Rattle.std.specs.Option.{is_some, option_and_then, option_map, option_or}
 use Rattle.stun_base.specs.Attributes.{ERROR_CODE, FINGERPRINT, MESSAGE_INTEGRITY, MESSAGE_INTEGRITY_SHA256, NONCE, PASSWORD_ALGORITHM, PASSWORD_ALGORITHMS, REALM, USERHASH, USERNAME}
 use Rattle.stun_base.specs.Header.{type_field}
-use Rattle.stun_base.specs.MessageType.{class_of}
+use Rattle.stun_base.specs.MessageType.{class_of, class_in, is_error}
 use Rattle.stun_base.specs.declared.algorithm.IntegrityAlgorithm.{IntegrityAlgorithm}
 use Rattle.stun_types.specs.Attribute.{TypedValue}
 use Rattle.stun_types.specs.ErrorCode.{CodeAndReason, error_of}
-use Rattle.stun_types.specs.Integrity.{integrity_refusal, is_well_formed, refusal_of, verified_algorithm, verified_by}
+use Rattle.stun_types.specs.Integrity.{integrity_refusal, is_well_formed, refusal_of, verified_by}
 use Rattle.stun_types.specs.PasswordAlgorithms.{password_algorithm_in, password_algorithms_in, integrity_of}
 use Rattle.stun_types.specs.Tail.{AgreeUpToIntegrity, besides_fingerprint}
 use Rattle.stun_types.specs.Text.{text_of}
 use Rattle.stun_types.specs.Userhash.{hash_of}
 use Rattle.stun_types.specs.Visible.{visible}
 use Rattle.stun_types.specs.Walk.{Member}
-use Rattle.stun_auth.specs.Reading.{class_in, error_code, has_integrity, is_error, is_integrity, last, last_of, reading_of}
+use Rattle.stun_auth.specs.Reading.{has_integrity, is_integrity, last, last_of, reading_of}
 use Rattle.stun_auth.specs.ShortTerm.{Secret, short_term_answer, verdict_of}
 use Rattle.stun_auth.proofs.JoinedReading.{or_nothing}
 

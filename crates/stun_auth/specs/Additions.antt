@@ -83,10 +83,11 @@ UnlessMemory (Err TooSmall) P Q = P
 UnlessMemory (Err IntegrityFailed) P Q = P
 UnlessMemory (Err OutOfMemory) P Q = Q
 
--- the answer of a call that takes and gives a writer, with the page that success leaves
+-- the message in a writer, with the room after it
 abbrev pub page_in : {W : Type 0} → (W → List ℕ) → (W → ℕ) → W → Page
 page_in bytes room writer = record { bytes = bytes writer; room = room writer }
 
+-- the answer of a call that takes and gives a writer, with the page that success leaves
 abbrev pub written : {W : Type 0} → (W → List ℕ) → (W → ℕ) → Result W StunWriteError → Result Page StunWriteError
 written bytes room (Ok writer) = Ok (page_in bytes room writer)
 written bytes room (Err reason) = Err reason

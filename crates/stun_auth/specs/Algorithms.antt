@@ -52,7 +52,7 @@ with_algorithm Sha256 OnlySha256 = OnlySha256
 with_algorithm Sha1 Both = Both
 with_algorithm Sha256 Both = Both
 
--- ---- an algorithm and a set as data
+-- whether it is HMAC-SHA256
 abbrev pub is_sha256 : IntegrityAlgorithm → Bool
 is_sha256 Sha1 = false
 is_sha256 Sha256 = true

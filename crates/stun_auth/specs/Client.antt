@@ -38,6 +38,6 @@ pub record ClientSide : Type 0 where
   pub settings : ClientSettings
   pub state : ClientState
 
--- a new client: SHA-1 alone, names as the server allows, no credentials
+-- a new client: HMAC-SHA1 alone, names as the server allows, no credentials
 abbrev pub new_client : ClientSide
 new_client = record { settings = record { supported = Sha1 ∷ []; feature = Auto; credentials = None }; state = initial }

@@ -1,21 +1,13 @@
 -- What a client's signing adds to a message, one addition after another (RFC 8489, section 9.2.5): the order in which it is written,
 -- and in which it may be refused. `added_by_client` in Signed.antt says it by attribute, which is what a reader finds.
 -- `laws::sides_add_by_attribute` says that both add the same.
-use Rattle.std.specs.Prelude.{List, [], ◌∷◌, ◌++◌, Bool, true, false, if◌then◌else◌, Option, Some, None}
+use Rattle.std.specs.Prelude.{List, [], ◌∷◌, ◌++◌, Bool, if◌then◌else◌, Option, Some, None}
 use Rattle.stun_base.specs.declared.algorithm.IntegrityAlgorithm.{IntegrityAlgorithm}
-use Rattle.stun_base.specs.declared.message_type.MessageClass.{MessageClass}
-use Rattle.stun_base.specs.declared.message_type.MessageClass.TheVariants.{Request, Indication, Success, Error}
 use Rattle.stun_types.specs.Attribute.{TypedValue}
 use Rattle.stun_auth.specs.Additions.{Addition, attribute, integrity}
 use Rattle.stun_auth.specs.AddedAttribute as added
 use Rattle.stun_auth.specs.Algorithms.{is_sha256}
 use Rattle.stun_auth.specs.Client.{Naming, plain, hashed, Challenge, ClientState, initial, authenticating, authenticated}
-
-abbrev pub is_request : MessageClass → Bool
-is_request Request = true
-is_request Indication = false
-is_request Success = false
-is_request Error = false
 
 -- the name of the user
 abbrev pub name_attribute : Naming → TypedValue

@@ -10,7 +10,8 @@ use Rattle.stun_auth.specs.Algorithms.{has}
 use Rattle.stun_auth.specs.Client.{ClientSettings, Naming, plain, hashed, Challenge, ClientState, initial, authenticating, authenticated}
 use Rattle.stun_auth.specs.Feature.{is_possible}
 use Rattle.stun_auth.specs.Nonces.{security_bits, asks_for_algorithms, asks_for_userhash}
-use Rattle.stun_auth.specs.Reading.{Reading, verified_under, is_success}
+use Rattle.stun_base.specs.MessageType.{is_success}
+use Rattle.stun_auth.specs.Reading.{Reading, verified_under}
 use Rattle.stun_auth.specs.declared.feature.Feature.{Feature}
 use Rattle.stun_auth.specs.declared.feature.Feature.TheVariants.{Auto, Required, Disabled}
 use Rattle.stun_auth.specs.declared.challenge.Refusal.{Refusal}
@@ -38,7 +39,7 @@ abbrev pub or_unsupported : Option IntegrityAlgorithm → Result IntegrityAlgori
 or_unsupported None = Err Refused.UnsupportedFeature
 or_unsupported (Some algorithm) = Ok algorithm
 
--- by the server's list; where there is none, the nonce must not ask for a choice, and SHA-1 is meant
+-- by the server's list; where there is none, the nonce must not ask for a choice, and HMAC-SHA1 is meant
 abbrev pub choose_by_list : List IntegrityAlgorithm → Bool → Option (List IntegrityAlgorithm) → Result IntegrityAlgorithm Refusal
 choose_by_list supported asks (Some list) = or_unsupported (first_supported supported list)
 choose_by_list supported asks None = if asks then Err Refused.Unauthorized else Ok Sha1
@@ -54,7 +55,7 @@ abbrev pub unless : Bool → Result IntegrityAlgorithm Refusal → Result Integr
 unless missing (Err refusal) = Err refusal
 unless missing (Ok algorithm) = if missing then Err Refused.UnsupportedFeature else Ok algorithm
 
--- without security bits names are not hashed and SHA-1 is meant
+-- without security bits names are not hashed and HMAC-SHA1 is meant
 abbrev pub choose_without_bits : List IntegrityAlgorithm → Feature → Result IntegrityAlgorithm Refusal
 choose_without_bits supported feature =
     if is_required feature then Err Refused.UnsupportedFeature

@@ -1,13 +1,11 @@
 -- What an authenticator reads of a message (RFC 8489, sections 9.2.4 and 9.2.5).
-use Rattle.std.specs.Prelude.{ℕ, Bool, true, false, ◌&&◌, ◌||◌, ◌==◌, if◌then◌else◌, List, [], ◌∷◌, map, Option, Some, None}
+use Rattle.std.specs.Prelude.{ℕ, Bool, ◌&&◌, ◌||◌, ◌==◌, if◌then◌else◌, List, [], ◌∷◌, map, Option, Some, None}
 use Rattle.std.specs.List.{find}
 use Rattle.std.specs.Option.{is_some, option_and_then, option_map, option_or}
 use Rattle.stun_base.specs.declared.algorithm.IntegrityAlgorithm.{IntegrityAlgorithm}
 use Rattle.stun_base.specs.declared.message_type.MessageClass.{MessageClass}
-use Rattle.stun_base.specs.declared.message_type.MessageClass.TheVariants.{Request, Indication, Success, Error}
 use Rattle.stun_base.specs.Attributes.{ERROR_CODE, MESSAGE_INTEGRITY, MESSAGE_INTEGRITY_SHA256, NONCE, PASSWORD_ALGORITHM, PASSWORD_ALGORITHMS, REALM, USERHASH, USERNAME}
-use Rattle.stun_base.specs.Header.{type_field}
-use Rattle.stun_base.specs.MessageType.{class_of}
+use Rattle.stun_base.specs.MessageType.{class_in, is_error}
 use Rattle.stun_types.specs.Attribute.{TypedValue}
 use Rattle.stun_types.specs.ErrorCode.{CodeAndReason, error_of}
 use Rattle.stun_types.specs.Integrity.{is_well_formed, verified_algorithm}
@@ -17,25 +15,6 @@ use Rattle.stun_types.specs.Text.{text_of}
 use Rattle.stun_types.specs.Userhash.{hash_of}
 use Rattle.stun_types.specs.Walk.{Member}
 use Rattle.stun_types.specs.Visible.{visible}
-
--- whether a class is that of a response
-abbrev pub is_response : MessageClass → Bool
-is_response Request = false
-is_response Indication = false
-is_response Success = true
-is_response Error = true
-
-abbrev pub is_success : MessageClass → Bool
-is_success Request = false
-is_success Indication = false
-is_success Success = true
-is_success Error = false
-
-abbrev pub is_error : MessageClass → Bool
-is_error Request = false
-is_error Indication = false
-is_error Success = false
-is_error Error = true
 
 -- the last member of a type
 abbrev pub last_of : ℕ → List Member → Option Member
@@ -73,10 +52,6 @@ pub record Reading : Type 0 where
 -- the algorithm whose digest verifies under a key
 abbrev pub verified_under : Reading → List ℕ → Option IntegrityAlgorithm
 verified_under r key = option_and_then (λ (verify : List ℕ → Option IntegrityAlgorithm). verify key) r.integrity
-
--- the class of a message
-abbrev pub class_in : List ℕ → MessageClass
-class_in bytes = class_of (type_field bytes)
 
 -- the code of an error response
 abbrev pub error_code : List ℕ → Option ℕ

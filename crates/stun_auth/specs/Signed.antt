@@ -20,7 +20,8 @@ use Rattle.stun_auth.specs.Algorithms.{is_sha256, listed}
 use Rattle.stun_auth.specs.Client.{Naming, plain, hashed, Challenge, ClientState}
 use Rattle.stun_auth.specs.ClientSigning.{kept_challenge}
 use Rattle.stun_auth.specs.Joined.{Protection}
-use Rattle.stun_auth.specs.Reading.{Reading, class_in, error_code, verified_under}
+use Rattle.stun_base.specs.MessageType.{class_in}
+use Rattle.stun_auth.specs.Reading.{Reading, error_code, verified_under}
 use Rattle.stun_auth.specs.Registered.{Registered, key_at}
 use Rattle.stun_auth.specs.Seen.{ClientSeen, PlaceSeen}
 use Rattle.stun_auth.specs.Server.{Sight}

@@ -14,7 +14,8 @@ use Rattle.stun_auth.specs.declared.server_reason.LongTermServerAuthErrorReason.
 use Rattle.stun_auth.specs.declared.server_reason.LongTermServerAuthErrorReason.TheVariants.{IntegrityFailed, BadRequest}
 use Rattle.stun_auth.specs.declared.server_reason.LongTermServerValidation.{LongTermServerValidation}
 use Rattle.stun_auth.specs.declared.server_reason.LongTermServerValidation.TheVariants.{Validated}
-use Rattle.stun_auth.specs.Reading.{Reading, is_response, verified_under}
+use Rattle.stun_base.specs.MessageType.{is_response}
+use Rattle.stun_auth.specs.Reading.{Reading, verified_under}
 use Rattle.stun_auth.specs.Reasons.{reason_of}
 use Rattle.stun_auth.specs.Registered.{Registered, key_at, new_registered}
 use Rattle.stun_auth.specs.Seen.{ClientSeen, PlaceSeen}

@@ -125,7 +125,7 @@ impl<A: Allocator> fmt::Debug for LongTermClientAuth<A> {
 }
 
 impl<A: Allocator> LongTermClientAuth<A> {
-    /// A client that supports SHA-1 alone, sends its name as the server allows and has no credentials.
+    /// A client that supports HMAC-SHA1 alone, sends its name as the server allows and has no credentials.
     ///
     /// It does not allocate. What is kept later is in memory of this allocator.
     pub fn new(alloc: A) -> Self
@@ -140,7 +140,8 @@ impl<A: Allocator> LongTermClientAuth<A> {
         }
     }
 
-    /// Sets the user. A challenge that was taken up before keeps its key.
+    /// Sets the user. A challenge that was taken up before keeps its key. A name of more than 513 bytes is taken, but a
+    /// request that is to have it as USERNAME cannot be signed.
     pub fn set_credentials(&mut self, credentials: LongTermCredentials<A>)
         ensures { self.new ≡ record self.old { settings = record self.old.settings { credentials = Some credentials } } }
     {
@@ -287,10 +288,16 @@ impl<A: Allocator> LongTermClientAuth<A> {
 impl<A: Allocator + Copy> LongTermClientAuth<A> {
     /// Answers a message from the server (RFC 8489, section 9.2.5).
     ///
-    /// A 401 is a challenge until a success was validated: it is taken up, or refused as `Unauthorized` or
-    /// `UnsupportedFeature`. A 438 brings the next realm and nonce, signed or not; the key stays. Every other message is
-    /// as good as its digest under the kept key. A refusal changes nothing. `OutOfMemory` comes only in place of
-    /// `ResendRequest`.
+    /// A 401 is a challenge until a success was validated. It is refused by the first that holds: `Unauthorized` without
+    /// credentials, without REALM or NONCE, or where it is the challenge that was answered before; by its algorithms,
+    /// `UnsupportedFeature` where none is supported, or `Unauthorized` where the nonce asks for a list that is missing;
+    /// `UnsupportedFeature` where names are to be hashed and the nonce does not offer that. Else it is taken up. A 438 with
+    /// REALM and NONCE, signed or not, brings the next ones; the key stays. Before a first challenge it keeps nothing, and is
+    /// answered by `ResendRequest` all the same. Every other message is as good as its digest under the kept key. A refusal
+    /// changes nothing. `OutOfMemory` comes only in place of `ResendRequest`.
+    ///
+    /// It sees neither id nor address: hand in only what answers an outstanding request of yours, from the address that was
+    /// asked, and count how often you ask again.
     pub fn validate_incoming_message(
         &mut self,
         message: &Message,

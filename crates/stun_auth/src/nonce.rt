@@ -226,7 +226,7 @@ fn nonce_of_words<A: Allocator + Copy>(
 
 /// A new nonce, of the next sixteen words of the source.
 ///
-/// It asks for password algorithms exactly where SHA-256 is supported, and for hashed names exactly where these are
+/// It asks for password algorithms exactly where HMAC-SHA256 is supported, and for hashed names exactly where these are
 /// possible. Where it asks for neither it carries no security bits.
 pub(crate) fn make_nonce<A: Allocator + Copy, R: Rng>(
     alloc: A,

@@ -11,7 +11,8 @@ ghost use Rattle.stun_types.specs.PasswordAlgorithms.{password_algorithm_in, int
 ghost use Rattle.stun_types.specs.Text.{text_of};
 ghost use Rattle.stun_types.specs.Userhash.{hash_of};
 ghost use Rattle.stun_types.specs.Visible.{visible};
-ghost use Rattle.stun_auth.specs.Reading.{is_response, is_success, reading_of, verified_under};
+ghost use Rattle.stun_base.specs.MessageType.{is_response, is_success};
+ghost use Rattle.stun_auth.specs.Reading.{reading_of, verified_under};
 ghost use Rattle.stun_auth.specs.Validation.{is_complete, is_malformed};
 ghost use Rattle.stun_auth.specs.code.LastAttributes.{error_in, last_attributes, with_attribute};
 

@@ -89,7 +89,7 @@ impl<A: Allocator> fmt::Debug for LongTermServerAuth<A> {
 
 impl<A: Allocator + Copy> LongTermServerAuth<A> {
     /// A server of a realm without users: HMAC-SHA1 alone, hashed names where a client wants them, and nonces that last
-    /// 3600 seconds. It does not allocate.
+    /// 3600 seconds. It does not allocate. A realm of more than 763 bytes is taken, but then no response can be signed.
     pub fn new(alloc: A, realm: String<A>) -> Self
         ensures { result ≡ new_server (string_bytes realm) }
     {
@@ -150,7 +150,8 @@ impl<A: Allocator + Copy> LongTermServerAuth<A> {
         }
     }
 
-    /// Adds a user, or gives a present one another password and the keys of it.
+    /// Adds a user, or gives a present one another password and the keys of it. A name of more than 513 bytes is taken,
+    /// but only a USERHASH can name it.
     ///
     /// The one error is that an allocation fails; the server is then as before.
     pub fn add_user(&mut self, credentials: LongTermCredentials<A>) -> Result<(), AllocError>

@@ -19,7 +19,9 @@ pub enum LongTermServerValidation {
 /// Why a server refuses a message (RFC 8489, section 9.2.4).
 #[derive(Clone, Copy, Debug, PartialEq, Eq, Error)]
 pub enum LongTermServerAuthErrorReason {
-    /// The message has no integrity attribute, no present user, or no digest that verifies. A challenge may be sent (401).
+    /// No well-formed integrity attribute is visible; or another nonce came whose security bits differ from the current
+    /// one's; or no registered user is named, or by a USERHASH where hashes are not taken; or the user has no key for the
+    /// algorithm that is meant; or the digest does not verify. A challenge may be sent (401).
     #[error("The message is not sufficiently authenticated")]
     Unauthorized,
     /// No digest of a response verifies under the key of the address's client.

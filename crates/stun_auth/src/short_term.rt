@@ -82,7 +82,7 @@ impl<A: Allocator> ShortTermAuth<A> {
         self.kept.as_ref().map(|kept| &kept.key)
     }
 
-    /// How many bytes signing adds to a message, of any class.
+    /// How many bytes signing adds to a message of any class: 0 without credentials, 24 for HMAC-SHA1, 36 for HMAC-SHA256.
     pub fn message_signature_bytes(&self) -> usize
         ensures { result ≡ short_term_growth self.now }
     {

@@ -25,11 +25,11 @@ same_user =
     eq_of_both (on (λ (u : NameAndPassword). u.username) same_text)
     (on (λ (u : NameAndPassword). u.password) same_text)
 
--- so it is an equivalence
+-- `same_text` is an equivalence
 pub same_text_equivalence : IsEquivalence same_text
 same_text_equivalence = nat_list_eq_equiv
 
--- so it is an equivalence
+-- `same_user` is an equivalence
 pub same_user_equivalence : IsEquivalence same_user
 same_user_equivalence =
     and_equiv (on_equiv (λ (u : NameAndPassword). u.username) nat_list_eq_equiv)

@@ -1,7 +1,8 @@
 -- The type field of a header (RFC 8489, section 5): from the top, the bits M11..M7 C1 M6..M4 C0
 -- M3..M0 of a method M and a class C.
-use Rattle.std.specs.Prelude.{ℕ, ◌+◌, ◌*◌, ◌/◌, ◌%◌, ◌==◌, if◌then◌else◌}
+use Rattle.std.specs.Prelude.{ℕ, Bool, true, false, IsTrue, ◌+◌, ◌*◌, ◌/◌, ◌%◌, ◌==◌, if◌then◌else◌, List}
 use Rattle.stun_base.specs.declared.message_type.MessageClass.{MessageClass}
+use Rattle.stun_base.specs.Header.{type_field}
 use Rattle.stun_base.specs.declared.message_type.MessageClass.TheVariants.{Request, Indication, Success, Error}
 
 -- the two bits C1 C0 of a class
@@ -29,9 +30,42 @@ abbrev pub type_number : MessageClass → ℕ → ℕ
 type_number class method =
     method % 16 + class_number class % 2 * 16 + method / 16 % 8 * 32 + class_number class / 2 * 256 + method / 128 * 512
 
+-- ---- kinds of classes
+abbrev pub is_request : MessageClass → Bool
+is_request Request = true
+is_request Indication = false
+is_request Success = false
+is_request Error = false
+
+abbrev pub is_indication : MessageClass → Bool
+is_indication Request = false
+is_indication Indication = true
+is_indication Success = false
+is_indication Error = false
+
+abbrev pub is_success : MessageClass → Bool
+is_success Request = false
+is_success Indication = false
+is_success Success = true
+is_success Error = false
+
+abbrev pub is_error : MessageClass → Bool
+is_error Request = false
+is_error Indication = false
+is_error Success = false
+is_error Error = true
+
 -- success and error are responses
+abbrev pub is_response : MessageClass → Bool
+is_response Request = false
+is_response Indication = false
+is_response Success = true
+is_response Error = true
+
 abbrev pub IsResponse : MessageClass → Type 0
-IsResponse Request = ⊥
-IsResponse Indication = ⊥
-IsResponse Success = Unit {0}
-IsResponse Error = Unit {0}
+IsResponse class = IsTrue (is_response class)
+
+-- ---- in a message
+-- the class that the type field of bytes names
+abbrev pub class_in : List ℕ → MessageClass
+class_in bytes = class_of (type_field bytes)

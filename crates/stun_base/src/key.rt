@@ -180,8 +180,7 @@ fn digest_of_utf8<H: HashFunction>(
 /// HMAC-SHA256, each the hash of `username:realm:password` (RFC 8489, sections 9.2.2 and 18.5.1).
 /// The texts are taken as they are: to prepare them by OpaqueString (RFC 8265, section 4.2) is the caller's part.
 ///
-/// It does not allocate: `alloc` is dropped, and only says where longer keys of this type would
-/// are.
+/// It does not allocate: `alloc` is dropped, and only settles in whose memory longer keys of this type would be.
 pub fn long_term_key<A: Allocator>(
     alloc: A,
     algorithm: IntegrityAlgorithm,

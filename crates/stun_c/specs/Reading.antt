@@ -3,7 +3,7 @@ use Rattle.std.specs.Prelude.{ℕ, ℤ, pos, List, take, drop, find, nat_lt, Opt
 use Rattle.std.specs.Option.{option_map}
 use Rattle.stun_base.specs.Attributes.{ERROR_CODE, XOR_MAPPED_ADDRESS}
 use Rattle.stun_base.specs.Header.{transaction_id_field, type_field}
-use Rattle.stun_base.specs.MessageType.{class_number, class_of, method_of}
+use Rattle.stun_base.specs.MessageType.{class_in, class_number, method_of}
 use Rattle.stun_base.specs.declared.error.StunParseError.{StunParseError}
 use Rattle.stun_base.specs.declared.error.StunParseError.TheVariants.{MissingAttribute}
 use Rattle.stun_types.specs.Attribute.{TypedValue}
@@ -22,7 +22,7 @@ use Rattle.stun_c.specs.Writing.{unless}
 
 -- the two bits of the class (RFC 8489, section 5)
 abbrev pub class_answer : List ℕ → ℤ
-class_answer bytes = unless_no_message (refusal bytes) (pos (class_number (class_of (type_field bytes))))
+class_answer bytes = unless_no_message (refusal bytes) (pos (class_number (class_in bytes)))
 
 -- the method
 abbrev pub method_answer : List ℕ → ℤ

@@ -17,7 +17,7 @@ use crate::notes::notes_on;
 use crate::output::write_text;
 use crate::status::Status;
 use crate::value::push_security_bits;
-use crate::verdict::{Verdict, refusal_line, verdict_on};
+use crate::verdict::{refusal_line, verdict_on};
 use std::alloc::{AllocError, Allocator};
 use std::io::{Read, Write};
 use stun_types::attribute::Userhash;

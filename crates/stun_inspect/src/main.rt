@@ -29,7 +29,7 @@ use command::command_of;
 use failure::Failure;
 use output::write_text;
 use status::Status;
-use std::alloc::{AllocError, Allocator, Global};
+use std::alloc::{AllocError, Allocator};
 use std::io::{ErrorKind, Read, Write};
 use std::process::ExitCode;
 use std::{env, io};

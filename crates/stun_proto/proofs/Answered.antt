@@ -4,7 +4,8 @@ use Rattle.std.specs.Prelude.{cond, not, ◌&&◌, ◌||◌}
 use Rattle.std.specs.Option.{is_some}
 use Rattle.std.specs.declared.result.Result.{Result}
 use Rattle.stun_auth.specs.declared.server_reason.LongTermServerAuthErrorReason.TheVariants.{Unauthorized, BadRequest}
-use Rattle.stun_auth.specs.Reading.{Reading, is_response}
+use Rattle.stun_base.specs.MessageType.{is_response}
+use Rattle.stun_auth.specs.Reading.{Reading}
 use Rattle.stun_auth.specs.Reasons.{ServerRefusal}
 use Rattle.stun_auth.specs.code.Reasons.{unauthorized}
 use Rattle.stun_auth.specs.Seen.{ClientSeen, PlaceSeen}

@@ -11,7 +11,8 @@ use Rattle.stun_base.specs.declared.error.StunParseError.{StunParseError}
 use Rattle.stun_base.specs.declared.message_type.MessageClass.{MessageClass}
 use Rattle.stun_base.specs.declared.message_type.MessageClass.TheVariants.{Request, Indication, Success, Error}
 use Rattle.stun_types.specs.Message.{refusal}
-use Rattle.stun_agent.specs.Agent.{Agent, with_transactions, tallied, tally_of_sent, tally_of_end, sending_tally, class_of_bytes, sending_refusal, after_send, request_refusal, after_send_request, answered, takes_message, after_class, after_message, with_validated, sent_by_poll, after_poll_transmit, ended_by_poll, after_poll}
+use Rattle.stun_base.specs.MessageType.{class_in, is_response, is_indication}
+use Rattle.stun_agent.specs.Agent.{Agent, with_transactions, tallied, tally_of_sent, tally_of_end, sending_tally, sending_refusal, after_send, request_refusal, after_send_request, answered, takes_message, after_class, after_message, with_validated, sent_by_poll, after_poll_transmit, ended_by_poll, after_poll}
 use Rattle.stun_agent.specs.Statistics.{Statistics, Tally, no_tally, request_sent, request_sent_again, request_received, indication_received, response_received, timed_out, cancelled, counted, raised}
 use Rattle.stun_agent.specs.Transactions.{Transaction, without, after_slots, repeats, round_trip}
 use Rattle.stun_agent.specs.declared.error.StunError.{StunError}
@@ -19,7 +20,7 @@ use Rattle.stun_agent.specs.declared.error.StunError.TheVariants.{ParseError}
 use Rattle.stun_base.specs.Header.{transaction_id_field}
 use Rattle.stun_proto.specs.declared.replay.event.AgentEvent.{AgentEvent}
 use Rattle.stun_proto.specs.declared.replay.event.AgentEvent.TheVariants.{Send, SendRequest, Receive, Cancel, CancelRetransmissions, Configure, ValidatePeer}
-use Rattle.stun_proto.specs.Counters.{count_of, is_time_out, is_cancellation, is_indication, is_response, is_sent, sent_bytes, Adds, CountsSteps, RunsCountSteps}
+use Rattle.stun_proto.specs.Counters.{count_of, is_time_out, is_cancellation, is_sent, sent_bytes, Adds, CountsSteps, RunsCountSteps}
 use Rattle.stun_proto.specs.Run.{Phase, sending, Turn, sends, rests, ends, again, stops, Turns, turn, none, Run, done, event, transmitted, ended, after_event, steps_of_event}
 use Rattle.stun_proto.specs.Steps.{Step, Transmitted, Sent, Received, Refused, TimedOut, Cancelled}
 
@@ -120,9 +121,9 @@ tally_bytes Indication n = refl
 tally_bytes Success n = refl
 tally_bytes Error n = refl
 
-sent_tells : (now : ℕ) (to : SocketAddr) (bytes : List ℕ) → Tells (sending_tally (class_of_bytes bytes) (length bytes)) (Sent now to bytes ∷ [])
+sent_tells : (now : ℕ) (to : SocketAddr) (bytes : List ℕ) → Tells (sending_tally (class_in bytes) (length bytes)) (Sent now to bytes ∷ [])
 sent_tells now to bytes =
-    let c = class_of_bytes bytes in
+    let c = class_in bytes in
     let whole = tally_bytes c (length bytes) in
     record {
       timed_out = (tally_ends c (length bytes)).0;
@@ -140,7 +141,7 @@ request_tells tally now id to bytes t c i r b = record { timed_out = t; cancelle
 send_counts : (o : Option StunError) (now : ℕ) (bytes : List ℕ) (to : SocketAddr) (a : Agent)
     → CountsSteps (option_map_or (λ error. Refused now error) o (Sent now to bytes) ∷ []) a.statistics (option_map_or (λ _. a) o (after_send bytes a)).statistics
 send_counts (Some error) now bytes to a = quiet (Refused now error ∷ []) a.statistics (refused_tells now error)
-send_counts None now bytes to a = counted_adds (sending_tally (class_of_bytes bytes) (length bytes)) (Sent now to bytes ∷ []) a.statistics (sent_tells now to bytes)
+send_counts None now bytes to a = counted_adds (sending_tally (class_in bytes) (length bytes)) (Sent now to bytes ∷ []) a.statistics (sent_tells now to bytes)
 
 ask_counts : (o : Option StunError) (now : ℕ) (bytes : List ℕ) (to : SocketAddr) (a : Agent)
     → CountsSteps (option_map_or (λ error. Refused now error) o (Transmitted now (transaction_id_field bytes) to bytes) ∷ []) a.statistics
@@ -170,7 +171,7 @@ receive_counts : (o : Option StunParseError) (now : ℕ) (bytes : List ℕ) (fro
     → CountsSteps (option_map_or (λ error. Refused now (ParseError error)) o (Received now (takes_message bytes from a)) ∷ []) a.statistics
     (option_map_or (λ _. a) o (after_message (Some now) bytes from a)).statistics
 receive_counts (Some error) now bytes from a = quiet (Refused now (ParseError error) ∷ []) a.statistics (refused_tells now (ParseError error))
-receive_counts None now bytes from a = class_counts (class_of_bytes bytes) now (takes_message bytes from a) (Some now) bytes from a
+receive_counts None now bytes from a = class_counts (class_in bytes) now (takes_message bytes from a) (Some now) bytes from a
 
 event_counts : (now : ℕ) (e : AgentEvent) (a : Agent) → CountsSteps (steps_of_event now e a) a.statistics (after_event now e a).statistics
 event_counts now (Send bytes to) a = send_counts (sending_refusal a bytes.items to) now bytes.items to a

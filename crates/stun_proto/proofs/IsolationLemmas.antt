@@ -16,7 +16,8 @@ use Rattle.stun_base.specs.declared.error.StunWriteError.{StunWriteError}
 use Rattle.stun_types.specs.Message.{refusal}
 use Rattle.stun_auth.specs.Additions.{Page}
 use Rattle.stun_auth.specs.Places.{at_place, with_client, with_offer}
-use Rattle.stun_auth.specs.Reading.{class_in, is_response, reading_of}
+use Rattle.stun_base.specs.MessageType.{class_in, is_response}
+use Rattle.stun_auth.specs.Reading.{reading_of}
 use Rattle.stun_auth.specs.Seen.{PlaceSeen}
 use Rattle.stun_auth.specs.Server.{Sight}
 use Rattle.stun_auth.specs.ServerSigning.{after_signing}

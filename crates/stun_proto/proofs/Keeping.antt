@@ -15,7 +15,8 @@ use Rattle.stun_auth.specs.Additions.{Page}
 use Rattle.stun_auth.specs.Forgetting.{place_kept}
 use Rattle.stun_auth.specs.Nonces.{nonce_of}
 use Rattle.stun_auth.specs.Places.{with_client, with_offer}
-use Rattle.stun_auth.specs.Reading.{Reading, class_in, is_response, reading_of}
+use Rattle.stun_base.specs.MessageType.{class_in, is_response}
+use Rattle.stun_auth.specs.Reading.{Reading, reading_of}
 use Rattle.stun_auth.specs.Reasons.{ServerRefusal}
 use Rattle.stun_auth.specs.Registered.{Registered}
 use Rattle.stun_auth.specs.Seen.{ClientSeen, PlaceSeen, renewed}

@@ -20,7 +20,8 @@ use Rattle.stun_auth.specs.ClientStep.{UNAUTHORIZED, STALE_NONCE, after_challeng
 use Rattle.stun_auth.specs.Feature.{is_possible}
 use Rattle.stun_auth.specs.Nonces.{asks_for_userhash, nonce_of}
 use Rattle.stun_auth.specs.Places.{with_offer}
-use Rattle.stun_auth.specs.Reading.{Reading, is_success, reading_of, verified_under}
+use Rattle.stun_base.specs.MessageType.{is_success}
+use Rattle.stun_auth.specs.Reading.{Reading, reading_of, verified_under}
 use Rattle.stun_auth.specs.Registered.{Registered, user_with_hash}
 use Rattle.stun_auth.specs.Seen.{PlaceSeen, renewed}
 use Rattle.stun_auth.specs.Signed.{added_under_key, added_without_client, hashed_name, plain_name}

@@ -21,7 +21,8 @@ use Rattle.stun_base.specs.declared.message_type.MessageClass.{MessageClass}
 use Rattle.stun_base.specs.declared.message_type.MessageClass.TheVariants.{Request, Indication, Success, Error}
 use Rattle.stun_base.specs.declared.transport.TransportType.{TransportType}
 use Rattle.stun_types.specs.Message.{refusal}
-use Rattle.stun_agent.specs.Agent.{Agent, with_transactions, class_of_bytes, is_request, is_elsewhere, answered, sending_refusal, after_send, request_refusal, request_of, after_send_request, takes_message, after_class, tallied, tally_of_sent, tally_of_end, sent_by_poll, after_poll_transmit, ended_by_poll, after_poll}
+use Rattle.stun_base.specs.MessageType.{class_in, is_request}
+use Rattle.stun_agent.specs.Agent.{Agent, with_transactions, is_elsewhere, answered, sending_refusal, after_send, request_refusal, request_of, after_send_request, takes_message, after_class, tallied, tally_of_sent, tally_of_end, sent_by_poll, after_poll_transmit, ended_by_poll, after_poll}
 use Rattle.stun_agent.specs.Timing.{Settings, planned_end}
 use Rattle.stun_agent.specs.Transactions.{IsAscending, Transaction, at, without, cancelled, silenced, configured, repeats, slot_passed}
 use Rattle.stun_agent.specs.declared.error.StunError.{StunError}
@@ -74,8 +75,8 @@ event_fixed now (SendRequest bs target) a = by (request_refusal a bs.items targe
     by (Some error) = fixed a
 event_fixed now (Receive bs from) a = by (refusal bs.items)
   where
-    by : (o : Option StunParseError) → Fixed a (option_map_or (λ _. a) o (after_class (class_of_bytes bs.items) (Some now) bs.items from a))
-    by None = class_fixed (class_of_bytes bs.items) now bs.items from a
+    by : (o : Option StunParseError) → Fixed a (option_map_or (λ _. a) o (after_class (class_in bs.items) (Some now) bs.items from a))
+    by None = class_fixed (class_in bs.items) now bs.items from a
     by (Some error) = fixed a
 event_fixed now (Cancel j) a = record { settings = refl; transport = refl; remote_addr = refl }
 event_fixed now (CancelRetransmissions j) a = record { settings = refl; transport = refl; remote_addr = refl }
@@ -164,8 +165,8 @@ module _ (id : ℕ) where
       by (Some error) = absent
   event_absent now (Receive bs from) a other absent = by (refusal bs.items)
     where
-      by : (o : Option StunParseError) → IsAbsent (option_map_or (λ _. a) o (after_class (class_of_bytes bs.items) (Some now) bs.items from a))
-      by None = class_absent (class_of_bytes bs.items) now bs.items from a absent
+      by : (o : Option StunParseError) → IsAbsent (option_map_or (λ _. a) o (after_class (class_in bs.items) (Some now) bs.items from a))
+      by None = class_absent (class_in bs.items) now bs.items from a absent
       by (Some error) = absent
   event_absent now (Cancel j) a other absent = change_absent cancelled j a absent
   event_absent now (CancelRetransmissions j) a other absent = change_absent silenced j a absent
@@ -364,7 +365,7 @@ not_elsewhere a b to same there = ap (λ o. option_map_or (λ peer. not (same_ad
     by (Some peer) there = ap (λ p. not (same_address to p)) (sym (there peer refl)) ∙ ap not ((eq_by_cmp_equiv address_total).refl to)
 
 -- bytes with the header of a request are accepted where no request of their id is outstanding
-accepted_there : (a : Agent) (bytes : List ℕ) (to : SocketAddr) → header_refusal bytes ≡ None → class_of_bytes bytes ≡ Request → is_elsewhere a to ≡ false
+accepted_there : (a : Agent) (bytes : List ℕ) (to : SocketAddr) → header_refusal bytes ≡ None → class_in bytes ≡ Request → is_elsewhere a to ≡ false
     → at (transaction_id_field bytes) a.transactions ≡ None → request_refusal a bytes to ≡ None
 accepted_there a bytes to header class there absent = λ i.
     option_map_or (λ error. Some (ParseError error)) (header i)

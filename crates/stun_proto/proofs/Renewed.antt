@@ -18,7 +18,8 @@ use Rattle.stun_auth.specs.Algorithms.{contains}
 use Rattle.stun_auth.specs.Client.{Challenge, ClientSettings, authenticated}
 use Rattle.stun_auth.specs.ClientStep.{ClientStep, STALE_NONCE, UNAUTHORIZED, after_challenge, after_digest, after_stale, client_step, is_code, taken_up}
 use Rattle.stun_auth.specs.Nonces.{nonce_of, security_bits}
-use Rattle.stun_auth.specs.Reading.{Reading, is_success, reading_of, verified_under}
+use Rattle.stun_base.specs.MessageType.{is_success}
+use Rattle.stun_auth.specs.Reading.{Reading, reading_of, verified_under}
 use Rattle.stun_auth.specs.Reasons.{ServerRefusal}
 use Rattle.stun_auth.specs.code.Reasons.{stale_nonce, unauthorized}
 use Rattle.stun_auth.specs.Registered.{Registered}

@@ -7,7 +7,8 @@ use Rattle.stun_base.specs.declared.error.StunParseError.{StunParseError}
 use Rattle.stun_base.specs.declared.error.StunWriteError.{StunWriteError}
 use Rattle.stun_types.specs.Message.{refusal}
 use Rattle.stun_auth.specs.Additions.{Page}
-use Rattle.stun_auth.specs.Reading.{Reading, class_in, is_response, reading_of}
+use Rattle.stun_base.specs.MessageType.{class_in, is_response}
+use Rattle.stun_auth.specs.Reading.{Reading, reading_of}
 use Rattle.stun_auth.specs.Seen.{ClientSeen, PlaceSeen}
 use Rattle.stun_auth.specs.Server.{Sight, client_of, named, or_refused, standing, verdict}
 use Rattle.stun_auth.specs.Server.{refusal as auth_refusal}

@@ -13,7 +13,8 @@ use Rattle.stun_base.specs.declared.error.StunParseError.{StunParseError}
 use Rattle.stun_base.specs.declared.message_type.MessageClass.{MessageClass}
 use Rattle.stun_base.specs.declared.message_type.MessageClass.TheVariants.{Request, Indication, Success, Error}
 use Rattle.stun_types.specs.Message.{refusal}
-use Rattle.stun_agent.specs.Agent.{Agent, class_of_bytes, answered, sending_refusal, after_send, request_refusal, request_of, after_send_request, after_class, sent_by_poll}
+use Rattle.stun_base.specs.MessageType.{class_in}
+use Rattle.stun_agent.specs.Agent.{Agent, answered, sending_refusal, after_send, request_refusal, request_of, after_send_request, after_class, sent_by_poll}
 use Rattle.stun_agent.specs.Transactions.{IsAscending, Transaction, at, cancelled, silenced, configured, slot_passed}
 use Rattle.stun_agent.specs.declared.error.StunError.{StunError}
 use Rattle.stun_proto.specs.declared.replay.event.AgentEvent.{AgentEvent}
@@ -76,8 +77,8 @@ event_ascends now (SendRequest bs target) a s = by (request_refusal a bs.items t
     by (Some error) = s
 event_ascends now (Receive bs from) a s = by (refusal bs.items)
   where
-    by : (o : Option StunParseError) → IsAscending (option_map_or (λ _. a) o (after_class (class_of_bytes bs.items) (Some now) bs.items from a)).transactions
-    by None = class_ascends (class_of_bytes bs.items) now bs.items from a s
+    by : (o : Option StunParseError) → IsAscending (option_map_or (λ _. a) o (after_class (class_in bs.items) (Some now) bs.items from a)).transactions
+    by None = class_ascends (class_in bs.items) now bs.items from a s
     by (Some error) = s
 event_ascends now (Cancel j) a s = change_ascends cancelled j a s
 event_ascends now (CancelRetransmissions j) a s = change_ascends silenced j a s

@@ -1,5 +1,5 @@
 -- How a run ends at each of its steps.
-use Rattle.std.proofs.Common.{◌≡◌, ℕ, ◌≤◌, List, [], ◌∷◌, length, take, Option, Some, None, true, false, refl, sym, ◌∙◌, ap, subst, Ok, Err}
+use Rattle.std.proofs.Common.{◌≡◌, ℕ, ◌≤◌, List, [], ◌∷◌, length, take, Option, true, refl, sym, ◌∙◌, ap, subst, Ok, Err}
 use Rattle.std.specs.Prelude.{Contains, IfSome, IsErrAnd}
 use Rattle.std.specs.declared.result.Result.{Result}
 use Rattle.stun_base.specs.declared.algorithm.IntegrityAlgorithm.{IntegrityAlgorithm}
@@ -25,7 +25,7 @@ use Rattle.stun_proto.specs.code.Sides.{IsRun}
 use Rattle.stun_proto.specs.declared.replay.negotiation.NegotiateError.{NegotiateError}
 use Rattle.stun_proto.specs.declared.replay.negotiation.NegotiateError.TheVariants.{Memory, Write}
 use Rattle.stun_proto.specs.declared.replay.negotiation.Outcome.{Outcome}
-use Rattle.stun_proto.specs.declared.replay.negotiation.Outcome.TheVariants.{ClientRefused, ServerRefused}
+use Rattle.stun_proto.specs.declared.replay.negotiation.Outcome.TheVariants.{ServerRefused}
 use Rattle.stun_proto.proofs.Along.{at_call, at_resent, at_signed, here, past_calls, there}
 
 -- ---- the ways in which a run ends

@@ -12,7 +12,7 @@ use Rattle.std.proofs.lemmas.Bool.{ltb-true, ltb-false, leb-true, le-ltb, lt-ltb
 use Rattle.std.proofs.lemmas.List.{append-nil}
 use borrow.Author.Tests.{not-true}
 use Rattle.stun_base.specs.Header.{header_refusal, transaction_id_field}
-use Rattle.stun_base.specs.MessageType.{IsResponse}
+use Rattle.stun_base.specs.MessageType.{IsResponse, class_in, is_request}
 use Rattle.stun_base.specs.Moments.{last_moment, moment_after}
 use Rattle.stun_base.specs.declared.algorithm.IntegrityAlgorithm.{IntegrityAlgorithm}
 use Rattle.stun_base.specs.declared.error.StunParseError.{StunParseError}
@@ -20,7 +20,7 @@ use Rattle.stun_base.specs.declared.message_type.MessageClass.{MessageClass}
 use Rattle.stun_base.specs.declared.message_type.MessageClass.TheVariants.{Request, Indication, Success, Error}
 use Rattle.stun_base.specs.declared.transport.TransportType.{TransportType}
 use Rattle.stun_types.specs.Message.{refusal}
-use Rattle.stun_agent.specs.Agent.{Agent, with_transactions, class_of_bytes, is_request, is_elsewhere, answered, sending_refusal, after_send, request_refusal, request_of, after_send_request, takes_message, tallied, with_validated, after_class, after_response, sent_by_poll, after_poll_transmit, ended_by_poll, after_poll}
+use Rattle.stun_agent.specs.Agent.{Agent, with_transactions, is_elsewhere, answered, sending_refusal, after_send, request_refusal, request_of, after_send_request, takes_message, tallied, with_validated, after_class, after_response, sent_by_poll, after_poll_transmit, ended_by_poll, after_poll}
 use Rattle.stun_agent.specs.Integrity.{integrity_of}
 use Rattle.stun_agent.specs.Statistics.{response_received}
 use Rattle.stun_agent.specs.Timing.{Settings, timeout, slots, final_wait, planned_end, sum_of_timeouts}
@@ -42,7 +42,7 @@ use Rattle.stun_proto.proofs.OneTransaction.{other_key, sent_same, sent_other, s
 -- ---- requests that are accepted
 -- there is no request of its id yet
 pub fresh_request : (a : Agent) (bytes : List ℕ) (to : SocketAddr) → request_refusal a bytes to ≡ None → at (transaction_id_field bytes) a.transactions ≡ None
-fresh_request a bytes to h = by (header_refusal bytes) (is_request (class_of_bytes bytes)) (is_elsewhere a to) (at (transaction_id_field bytes) a.transactions) h
+fresh_request a bytes to h = by (header_refusal bytes) (is_request (class_in bytes)) (is_elsewhere a to) (at (transaction_id_field bytes) a.transactions) h
   where
     by : (o : Option StunParseError) (r e : Bool) (t : Option Transaction)
         → option_map_or (λ error. Some (ParseError error)) o (cond r (cond e (Some ProtocolViolation) (cond (is_some t) (Some AlreadyInProgress) None)) (Some ProtocolViolation)) ≡ None
@@ -397,8 +397,8 @@ module _ (until start id : ℕ) (transport : TransportType) (settings : Settings
       → (IsResponse class → transaction_id_field bs ≡ id → from ≡ to → ⊥) → Live k count (after_class class (Some now) bs from b)
   keeps_class Request now bs from b k count live off = record { same_transport = live.same_transport; ascends = live.ascends; stands = live.stands; all = live.all }
   keeps_class Indication now bs from b k count live off = record { same_transport = live.same_transport; ascends = live.ascends; stands = live.stands; all = live.all }
-  keeps_class Success now bs from b k count live off = keeps_response (Some now) bs from b k count live (off tt)
-  keeps_class Error now bs from b k count live off = keeps_response (Some now) bs from b k count live (off tt)
+  keeps_class Success now bs from b k count live off = keeps_response (Some now) bs from b k count live (off refl)
+  keeps_class Error now bs from b k count live off = keeps_response (Some now) bs from b k count live (off refl)
 
   keeps_event : (now : ℕ) (e : AgentEvent) (b : Agent) (k count : ℕ) → Live k count b → (IsAimedAt id to e → ⊥) → Live k count (after_event now e b)
   keeps_event now (Send bs target) b k count live off = by (sending_refusal b bs.items target)
@@ -413,8 +413,8 @@ module _ (until start id : ℕ) (transport : TransportType) (settings : Settings
       by (Some error) is = live
   keeps_event now (Receive bs from) b k count live off = by (refusal bs.items) refl
     where
-      by : (o : Option StunParseError) → refusal bs.items ≡ o → Live k count (option_map_or (λ _. b) o (after_class (class_of_bytes bs.items) (Some now) bs.items from b))
-      by None is = keeps_class (class_of_bytes bs.items) now bs.items from b k count live (λ response same there. off (is, response, same, there))
+      by : (o : Option StunParseError) → refusal bs.items ≡ o → Live k count (option_map_or (λ _. b) o (after_class (class_in bs.items) (Some now) bs.items from b))
+      by None is = keeps_class (class_in bs.items) now bs.items from b k count live (λ response same there. off (is, response, same, there))
       by (Some error) is = live
   keeps_event now (Cancel j) b k count live off = keeps_change cancelled j b k count live off
   keeps_event now (CancelRetransmissions j) b k count live off = keeps_change silenced j b k count live off

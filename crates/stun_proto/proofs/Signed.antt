@@ -13,7 +13,8 @@ use Rattle.stun_auth.specs.ClientSigning.{kept_challenge}
 use Rattle.stun_auth.specs.ClientStep.{UNAUTHORIZED, STALE_NONCE, naming_of}
 use Rattle.stun_auth.specs.Feature.{is_possible}
 use Rattle.stun_auth.specs.Nonces.{asks_for_algorithms, asks_for_userhash, nonce_of, security_bits}
-use Rattle.stun_auth.specs.Reading.{Reading, is_response, is_success, reading_of, verified_under}
+use Rattle.stun_base.specs.MessageType.{is_response, is_success}
+use Rattle.stun_auth.specs.Reading.{Reading, reading_of, verified_under}
 use Rattle.stun_auth.specs.Registered.{key_at}
 use Rattle.stun_auth.specs.Seen.{ClientSeen, PlaceSeen}
 use Rattle.stun_auth.specs.Signed.{Added, IsSmall, added_by_client, added_by_server, hashed_name, plain_name}

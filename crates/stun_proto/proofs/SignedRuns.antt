@@ -8,7 +8,7 @@ use Rattle.std.specs.Str.{IsAscii}
 use Rattle.std.proofs.lemmas.Str.{IsUtf8-from_ascii}
 use Rattle.std.proofs.lemmas.Str.Ascii.{IsAscii-nil}
 use Rattle.sha2.proofs.Facts256.{length-sha256}
-use Rattle.stun_base.specs.MessageType.{class_of, type_number}
+use Rattle.stun_base.specs.MessageType.{class_of, type_number, class_in, is_response, is_success, is_error}
 use Rattle.stun_base.specs.declared.algorithm.IntegrityAlgorithm.{IntegrityAlgorithm}
 use Rattle.stun_base.specs.declared.error.StunWriteError.{StunWriteError}
 use Rattle.stun_base.specs.declared.error.StunWriteError.TheVariants.{TooLarge}
@@ -28,7 +28,7 @@ use Rattle.stun_auth.specs.Client.{Challenge, ClientState, Naming, initial}
 use Rattle.stun_auth.specs.ClientSigning.{client_additions, kept_challenge}
 use Rattle.stun_auth.specs.ClientStep.{STALE_NONCE, UNAUTHORIZED, naming_of}
 use Rattle.stun_auth.specs.Nonces.{nonce_of}
-use Rattle.stun_auth.specs.Reading.{class_in, error_code, is_error, is_response, is_success, reading_of}
+use Rattle.stun_auth.specs.Reading.{error_code, reading_of}
 use Rattle.stun_auth.specs.Registered.{Registered, key_at}
 use Rattle.stun_auth.specs.Seen.{ClientSeen, PlaceSeen}
 use Rattle.stun_auth.specs.Server.{Sight}

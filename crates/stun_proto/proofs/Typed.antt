@@ -9,7 +9,7 @@ use Rattle.byteorder.specs.Endian.{big_bytes}
 use Rattle.byteorder.specs.Numbers.{big_number-reads_back}
 use Rattle.stun_base.specs.Attributes.{ERROR_CODE, MESSAGE_INTEGRITY, MESSAGE_INTEGRITY_SHA256}
 use Rattle.stun_base.specs.Header.{MAGIC_COOKIE, transaction_id_field, type_field}
-use Rattle.stun_base.specs.MessageType.{class_of, method_of, type_number}
+use Rattle.stun_base.specs.MessageType.{class_of, method_of, type_number, class_in, is_request, is_response}
 use Rattle.stun_base.specs.declared.message_type.MessageClass.TheVariants as Class
 use Rattle.stun_types.specs.Attribute.{TypedValue, attribute_length}
 use Rattle.stun_types.specs.Grammar.{spelled, spelled_attributes}
@@ -20,9 +20,8 @@ use Rattle.stun_types.specs.Writing.{IsOpen, attribute_refusal, size_refusal}
 use Rattle.stun_auth.specs.AddedAttribute as attributes
 use Rattle.stun_auth.specs.Additions.{Addition, Page, UnlessMemory, added_all, attribute, integrity, written}
 use Rattle.stun_auth.specs.Client.{ClientState}
-use Rattle.stun_auth.specs.ClientSigning.{client_additions, is_request}
+use Rattle.stun_auth.specs.ClientSigning.{client_additions}
 use Rattle.stun_auth.specs.Joined.{HasAdded, IsTyped, Protection}
-use Rattle.stun_auth.specs.Reading.{class_in, is_response}
 use Rattle.stun_auth.specs.Server.{Sight}
 use Rattle.stun_auth.specs.ServerSigning.{server_signed}
 use Rattle.stun_auth.specs.Signed.{Added, added_by_client, added_by_server, additions_of, error_attribute, if_there}

@@ -1,8 +1,8 @@
 -- What the steps of a run add to the counters of its agent (RFC 8489, section 6.2).
 use Rattle.std.specs.Prelude.{ℕ, ◌≡◌, ◌≤◌, Bool, true, false, List, filter, length, sum_by, Option, Some, None}
 use Rattle.stun_base.specs.declared.message_type.MessageClass.{MessageClass}
-use Rattle.stun_base.specs.declared.message_type.MessageClass.TheVariants.{Request, Indication, Success, Error}
-use Rattle.stun_agent.specs.Agent.{Agent, class_of_bytes}
+use Rattle.stun_base.specs.MessageType.{class_in, is_indication, is_response}
+use Rattle.stun_agent.specs.Agent.{Agent}
 use Rattle.stun_agent.specs.Statistics.{Statistics, last_count, raised}
 use Rattle.stun_proto.specs.declared.replay.event.AgentEvent.{AgentEvent}
 use Rattle.stun_proto.specs.Run.{IsDriven}
@@ -31,22 +31,10 @@ is_cancellation (Refused moment error) = false
 is_cancellation (TimedOut moment id) = false
 is_cancellation (Cancelled moment id) = true
 
-abbrev pub is_indication : MessageClass → Bool
-is_indication Request = false
-is_indication Indication = true
-is_indication Success = false
-is_indication Error = false
-
-abbrev pub is_response : MessageClass → Bool
-is_response Request = false
-is_response Indication = false
-is_response Success = true
-is_response Error = true
-
 -- a message of such a class is sent that wants no answer
 abbrev pub is_sent : (MessageClass → Bool) → Step → Bool
 is_sent is_such (Transmitted moment id to bytes) = false
-is_sent is_such (Sent moment to bytes) = is_such (class_of_bytes bytes)
+is_sent is_such (Sent moment to bytes) = is_such (class_in bytes)
 is_sent is_such (Received moment accepted) = false
 is_sent is_such (Refused moment error) = false
 is_sent is_such (TimedOut moment id) = false

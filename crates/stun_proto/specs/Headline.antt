@@ -11,7 +11,7 @@ use Rattle.stun_base.specs.Header.{header_refusal, transaction_id_field}
 use Rattle.stun_base.specs.declared.algorithm.IntegrityAlgorithm.{IntegrityAlgorithm}
 use Rattle.stun_base.specs.declared.message_type.MessageClass.TheVariants.{Request}
 use Rattle.stun_types.specs.Limits.{TEXT_LIMIT, USERNAME_LIMIT}
-use Rattle.stun_agent.specs.Agent.{class_of_bytes}
+use Rattle.stun_base.specs.MessageType.{class_in}
 use Rattle.stun_agent.specs.Timing.{planned_end}
 use Rattle.stun_agent.specs.Transactions.{at}
 use Rattle.stun_auth.specs.declared.client_answer.LongTermClientAuthErrorReason.TheVariants.{UnsupportedFeature}
@@ -89,7 +89,7 @@ pub record EndsAtStrongest (m : Meeting) (server : ServerSeen) (result : Result 
 -- end of its plan no response of the id comes from its address, and no call cancels or changes it
 pub record IsAskedOnce (a : Requester) (id start : ℕ) (bytes : List ℕ) (to : SocketAddr) (earlier later : List (ℕ × AgentEvent)) : Type 0 where
   pub header : header_refusal bytes ≡ None
-  pub class : class_of_bytes bytes ≡ Request
+  pub class : class_in bytes ≡ Request
   pub names : transaction_id_field bytes ≡ id
   -- where the agent was told one address to speak to, it is this one
   pub goes_there : (peer : SocketAddr) → a.remote_addr ≡ Some peer → to ≡ peer

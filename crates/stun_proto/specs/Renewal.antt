@@ -14,7 +14,8 @@ use Rattle.stun_auth.specs.Additions.{Page, added_all}
 use Rattle.stun_auth.specs.Client.{Challenge, ClientSettings, ClientState, authenticated}
 use Rattle.stun_auth.specs.ClientSigning.{client_additions}
 use Rattle.stun_auth.specs.ClientStep.{STALE_NONCE, client_step}
-use Rattle.stun_auth.specs.Reading.{class_in, error_code, reading_of}
+use Rattle.stun_base.specs.MessageType.{class_in}
+use Rattle.stun_auth.specs.Reading.{error_code, reading_of}
 use Rattle.stun_auth.specs.Seen.{PlaceSeen}
 use Rattle.stun_auth.specs.Server.{Sight, standing}
 use Rattle.stun_auth.specs.ServerSigning.{after_signing, server_signed}

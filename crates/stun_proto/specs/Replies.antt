@@ -11,7 +11,8 @@ use Rattle.stun_base.specs.declared.error.StunParseError.{StunParseError}
 use Rattle.stun_types.specs.Message.{refusal}
 use Rattle.stun_auth.specs.Forgetting.{place_kept}
 use Rattle.stun_auth.specs.Places.{with_client}
-use Rattle.stun_auth.specs.Reading.{Reading, is_response, reading_of}
+use Rattle.stun_base.specs.MessageType.{is_response}
+use Rattle.stun_auth.specs.Reading.{Reading, reading_of}
 use Rattle.stun_auth.specs.Seen.{PlaceSeen}
 use Rattle.stun_auth.specs.Server.{Sight, named, standing}
 use Rattle.stun_auth.specs.Validation.{AcceptedWith, ServerSeen, needs_nonce, sight}

@@ -3,11 +3,10 @@ use Rattle.std.specs.Prelude.{ℕ, ◌≡◌, ◌+◌, ◌≤◌, nat_le, List, 
 use Rattle.std.specs.List.{AllByRecursion, range_with_len}
 use Rattle.std.specs.declared.net.socket_addr.SocketAddr.{SocketAddr}
 use Rattle.stun_base.specs.Header.{transaction_id_field}
-use Rattle.stun_base.specs.MessageType.{IsResponse}
+use Rattle.stun_base.specs.MessageType.{IsResponse, class_in}
 use Rattle.stun_base.specs.Moments.{moment_after}
 use Rattle.stun_base.specs.declared.transport.TransportType.{TransportType}
 use Rattle.stun_types.specs.Message.{refusal}
-use Rattle.stun_agent.specs.Agent.{class_of_bytes}
 use Rattle.stun_agent.specs.Timing.{Settings, planned_end, sum_of_timeouts, slots}
 use Rattle.stun_agent.specs.Transactions.{Transactions}
 use Rattle.stun_proto.specs.declared.replay.event.AgentEvent.{AgentEvent}
@@ -55,7 +54,7 @@ abbrev pub IsAimedAt : ℕ → SocketAddr → AgentEvent → Type 0
 IsAimedAt id peer (Send bytes to) = ⊥
 IsAimedAt id peer (SendRequest bytes to) = ⊥
 IsAimedAt id peer (Receive bytes from) =
-    (refusal bytes.items ≡ None) × IsResponse (class_of_bytes bytes.items) × (transaction_id_field bytes.items ≡ id) × (from ≡ peer)
+    (refusal bytes.items ≡ None) × IsResponse (class_in bytes.items) × (transaction_id_field bytes.items ≡ id) × (from ≡ peer)
 IsAimedAt id peer (Cancel other) = other ≡ id
 IsAimedAt id peer (CancelRetransmissions other) = other ≡ id
 IsAimedAt id peer (Configure other initial retransmits last max) = other ≡ id

@@ -15,7 +15,8 @@ use Rattle.stun_auth.specs.Additions.{Page}
 use Rattle.stun_auth.specs.Algorithms.{only, with_algorithm}
 use Rattle.stun_auth.specs.Forgetting.{places_kept}
 use Rattle.stun_auth.specs.Places.{PlacesSeen, with_change, with_client}
-use Rattle.stun_auth.specs.Reading.{class_in, is_response, reading_of}
+use Rattle.stun_base.specs.MessageType.{class_in, is_response}
+use Rattle.stun_auth.specs.Reading.{reading_of}
 use Rattle.stun_auth.specs.Registered.{Registered, with_user, without_user}
 use Rattle.stun_auth.specs.ServerSigning.{after_signing}
 use Rattle.stun_auth.specs.Validation.{Answer, ServerSeen, after_message, answer, sight}

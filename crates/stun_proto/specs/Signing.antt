@@ -12,7 +12,7 @@ use Rattle.stun_types.specs.Walk.{Member}
 use Rattle.stun_types.specs.Writing.{attribute_refusal, with_attribute}
 use Rattle.stun_auth.specs.Additions.{Page}
 use Rattle.stun_auth.specs.Places.{with_offer}
-use Rattle.stun_auth.specs.Reading.{class_in, is_response}
+use Rattle.stun_base.specs.MessageType.{class_in, is_response}
 use Rattle.stun_auth.specs.Seen.{PlaceSeen}
 use Rattle.stun_auth.specs.Server.{Sight}
 use Rattle.stun_auth.specs.ServerSigning.{server_signed}

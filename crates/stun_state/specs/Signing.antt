@@ -10,8 +10,8 @@ use Rattle.stun_types.specs.Limits.{max_length}
 use Rattle.stun_types.specs.Writing.{is_set_apart}
 use Rattle.stun_auth.specs.Additions.{Page, added_all, growth}
 use Rattle.stun_auth.specs.Client.{ClientState}
-use Rattle.stun_auth.specs.ClientSigning.{client_additions, is_request}
-use Rattle.stun_auth.specs.Reading.{class_in, is_response}
+use Rattle.stun_auth.specs.ClientSigning.{client_additions}
+use Rattle.stun_base.specs.MessageType.{class_in, is_request, is_response}
 use Rattle.stun_auth.specs.ServerSigning.{after_signing, server_growth, server_signed}
 use Rattle.stun_auth.specs.Validation.{ServerSeen, sight}
 use Rattle.stun_proto.specs.Signing.{page_of}

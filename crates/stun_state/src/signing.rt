@@ -3,7 +3,7 @@
 ghost use Rattle.std.specs.Prelude.{◌≡◌, ◌≤◌, ◌++◌, length, take, drop, None, Some, Ok, IfErr, IfOk, OnOk};
 ghost use Rattle.stun_base.specs.Header.{BeginsWithHeader};
 ghost use Rattle.stun_types.specs.Writing.{is_set_apart};
-ghost use Rattle.stun_auth.specs.Reading.{class_in, is_response};
+ghost use Rattle.stun_base.specs.MessageType.{class_in, is_response};
 ghost use Rattle.stun_state.specs.Signing.{base_refusal, buffer_after, fitted, is_closed, is_too_long, length_of};
 
 use crate::codes::Refusal;

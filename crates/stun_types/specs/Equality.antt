@@ -11,7 +11,7 @@ abbrev pub same_attribute : TypedValue → TypedValue → Bool
 same_attribute =
     eq_of_both (on (λ (a : TypedValue). a.kind) nat_eq) (on (λ (a : TypedValue). a.value) same_text)
 
--- so it is an equivalence
+-- `same_attribute` is an equivalence
 pub same_attribute_equivalence : IsEquivalence same_attribute
 same_attribute_equivalence =
     and_equiv (on_equiv (λ (a : TypedValue). a.kind) nat_eq_equiv)
@@ -22,7 +22,7 @@ abbrev pub same_error : CodeAndReason → CodeAndReason → Bool
 same_error =
     eq_of_both (on (λ (e : CodeAndReason). e.code) nat_eq) (on (λ (e : CodeAndReason). e.reason) same_text)
 
--- so it is an equivalence
+-- `same_error` is an equivalence
 pub same_error_equivalence : IsEquivalence same_error
 same_error_equivalence =
     and_equiv (on_equiv (λ (e : CodeAndReason). e.code) nat_eq_equiv)

@@ -5,7 +5,7 @@ use Rattle.std.specs.Prelude.{ℕ}
 abbrev pub TEXT_LIMIT : ℕ
 TEXT_LIMIT = 763
 
--- the most bytes of a USERNAME (section 14.3)
+-- the most bytes of a USERNAME here. Section 14.3 has fewer than 509 written, and up to 763 read: those past 513 are malformed here
 abbrev pub USERNAME_LIMIT : ℕ
 USERNAME_LIMIT = 513
 

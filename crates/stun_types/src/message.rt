@@ -3,7 +3,7 @@ ghost use Rattle.std.specs.Prelude.{◌≡◌, ◌+◌, ◌^◌, ◌<◌, ◌↔
 ghost use Rattle.std.specs.Cmp.{partial_equiv_from_equiv};
 ghost use Rattle.stun_base.specs.Credentials.{same_text, same_text_equivalence};
 ghost use Rattle.stun_base.specs.Header.{HEADER_LENGTH as header_length, type_field, transaction_id_field};
-ghost use Rattle.stun_base.specs.MessageType.{class_of, method_of, IsResponse};
+ghost use Rattle.stun_base.specs.MessageType.{class_in, method_of, IsResponse};
 ghost use Rattle.stun_types.specs.Grammar.{spelled};
 ghost use Rattle.stun_types.specs.Integrity.{first_of as first_member_of};
 ghost use Rattle.stun_types.specs.Limits.{LENGTH_LIMIT};
@@ -254,7 +254,7 @@ impl<'a> Message<'a> {
 
     /// The class of the message.
     pub fn class(&self) -> MessageClass
-        ensures { result ≡ class_of (type_field self.now) }
+        ensures { result ≡ class_in self.now }
     {
         self.get_type().class()
     }
@@ -275,14 +275,14 @@ impl<'a> Message<'a> {
 
     /// Whether the message has this class.
     pub fn has_class(&self, class: MessageClass) -> bool
-        ensures { IsTrue result ↔ (class_of (type_field self.now) ≡ class) }
+        ensures { IsTrue result ↔ (class_in self.now ≡ class) }
     {
         self.class() == class
     }
 
     /// Whether the message is a response.
     pub fn is_response(&self) -> bool
-        ensures { IsTrue result ↔ IsResponse (class_of (type_field self.now)) }
+        ensures { IsTrue result ↔ IsResponse (class_in self.now) }
     {
         self.class().is_response()
     }

@@ -2,9 +2,9 @@
 
 ghost use Rattle.std.specs.Prelude.{◌≡◌, ◌≤◌, ◌+◌, ◌-◌, ◌^◌, ◌↔◌, ◌++◌, false, min, length, None, IsTrue, IsOk, OnErr, OnOk};
 ghost use Rattle.stun_base.specs.Algorithm.{digest, digest_length};
-ghost use Rattle.stun_base.specs.Header.{BeginsWithHeader, header_of, type_field, transaction_id_field};
+ghost use Rattle.stun_base.specs.Header.{BeginsWithHeader, header_of, transaction_id_field};
 ghost use Rattle.stun_base.specs.Keys.OfCredentials.{keys_of};
-ghost use Rattle.stun_base.specs.MessageType.{class_of, IsResponse};
+ghost use Rattle.stun_base.specs.MessageType.{class_in, IsResponse};
 ghost use Rattle.stun_types.specs.Attribute.{attribute_length};
 ghost use Rattle.stun_types.specs.Grammar.{spelled, spelled_attribute};
 ghost use Rattle.stun_types.specs.Limits.{max_length};
@@ -36,7 +36,7 @@ fn is_set_apart(kind: AttributeType) -> bool
         || kind == AttributeType::FINGERPRINT
 }
 
-/// What can be written to every writer.
+/// Calls that every writer has: they tell what its message has, add attributes, and sign it.
 ///
 /// The writer is to hold a message without FINGERPRINT, as the builders leave it and each of these calls keeps it. Their
 /// conditions ask for less: as many bytes as a header has, or a header.
@@ -56,7 +56,7 @@ pub trait MessageWriteExt: MessageWrite {
     where
         Self: Sized,
         requires { BeginsWithHeader (Self.bytes self.now) }
-        ensures { IsTrue result ↔ (class_of (type_field (Self.bytes self.now)) ≡ class) }
+        ensures { IsTrue result ↔ (class_in (Self.bytes self.now) ≡ class) }
     {
         header(self.data()).get_type().has_class(class)
     }
@@ -66,7 +66,7 @@ pub trait MessageWriteExt: MessageWrite {
     where
         Self: Sized,
         requires { BeginsWithHeader (Self.bytes self.now) }
-        ensures { IsTrue result ↔ IsResponse (class_of (type_field (Self.bytes self.now))) }
+        ensures { IsTrue result ↔ IsResponse (class_in (Self.bytes self.now)) }
     {
         header(self.data()).get_type().is_response()
     }

@@ -1,5 +1,4 @@
 //! Random words that a test hands in.
-ghost use Rattle.std.specs.Prelude.{◌≡◌};
 ghost use Rattle.rand_core.specs.Steps.{stream_of, steps_u32};
 ghost use Rattle.test_support.specs.Words.{next_word};
 

@@ -23,7 +23,7 @@ is_end Slot = false
 is_end End = true
 is_end Cancelled = true
 
--- its transaction has ended
+-- its transaction is over
 abbrev pub has_ended : ℕ → Deadline → Bool
 has_ended now d = is_end d.kind && nat_le d.moment now
 

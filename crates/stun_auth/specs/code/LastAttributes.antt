@@ -8,7 +8,8 @@ use Rattle.stun_types.specs.Attribute.{TypedValue}
 use Rattle.stun_types.specs.ErrorCode.{CodeAndReason, error_of}
 use Rattle.stun_types.specs.Integrity.{first_of}
 use Rattle.stun_types.specs.Walk.{Member}
-use Rattle.stun_auth.specs.Reading.{is_error, is_integrity, last_of}
+use Rattle.stun_base.specs.MessageType.{is_error}
+use Rattle.stun_auth.specs.Reading.{is_integrity, last_of}
 use Rattle.stun_auth.specs.declared.reading.LastAttributes.{LastAttributes}
 
 -- those of the members of a message

@@ -1,14 +1,14 @@
 //! What a client's signing adds to a message (RFC 8489, section 9.2.5).
 ghost use Rattle.std.specs.Prelude.{◌≡◌, ◌≤◌, ◌<◌, ◌+◌, ◌-◌, ◌^◌, length, min, true, false, IfOk, IsOk, Ok, ◌*◌};
 ghost use Rattle.std.specs.Option.{option_map};
-ghost use Rattle.stun_base.specs.Header.{BeginsWithHeader, type_field};
-ghost use Rattle.stun_base.specs.MessageType.{class_of};
+ghost use Rattle.stun_base.specs.Header.{BeginsWithHeader};
+ghost use Rattle.stun_base.specs.MessageType.{class_in, is_request};
 ghost use Rattle.stun_types.specs.Attribute.{attribute_length};
 ghost use Rattle.stun_auth.specs.code.AddedAttribute.{attribute_of};
 ghost use Rattle.stun_auth.specs.Additions.{UnlessMemory, WantsMemory, added_all, growth, page_in, written};
 ghost use Rattle.stun_auth.specs.code.Additions.{IsAdded, IsOutcome};
 ghost use Rattle.stun_auth.specs.code.ClientKept.{KeepsShortTexts, challenge_seen, naming_seen, state_seen};
-ghost use Rattle.stun_auth.specs.ClientSigning.{algorithm_choice, challenge_additions, client_additions, identity, is_request, kept_challenge, name_attribute};
+ghost use Rattle.stun_auth.specs.ClientSigning.{algorithm_choice, challenge_additions, client_additions, identity, kept_challenge, name_attribute};
 ghost use Rattle.stun_auth.specs.Signed.{ClientMaySign};
 
 use crate::addition::{AddedAttribute, add, add_integrity, attribute_bytes, integrity_bytes};
@@ -154,7 +154,7 @@ impl<A: Allocator> State<A> {
 /// Whether the message in a writer is a request.
 fn is_request<W: MessageWrite>(writer: &W) -> bool
     requires { BeginsWithHeader (W.bytes writer.now) }
-    ensures { result ≡ is_request (class_of (type_field (W.bytes writer.now))) }
+    ensures { result ≡ is_request (class_in (W.bytes writer.now)) }
 {
     writer.has_class(MessageClass::Request)
 }
@@ -180,17 +180,16 @@ impl<A: Allocator> LongTermClientAuth<A> {
     pub fn sign_outgoing_message<W: MessageWrite>(&mut self, writer: W) -> Result<W, StunWriteError>
         requires { BeginsWithHeader (W.bytes writer) }
         ensures answer { let additions = client_additions
-            (is_request (class_of (type_field (W.bytes writer)))) self.old.state in
+            (is_request (class_in (W.bytes writer))) self.old.state in
             UnlessMemory result (written W.bytes W.room result
             ≡ added_all additions (page_in W.bytes W.room writer))
             (WantsMemory additions (page_in W.bytes W.room writer) (W.reserved writer)) }
         ensures grows { IfOk result (λ signed. length (W.bytes signed)
             ≡ length (W.bytes writer) + growth
-            (client_additions (is_request (class_of
-            (type_field (W.bytes writer)))) self.old.state)) }
+            (client_additions (is_request (class_in (W.bytes writer))) self.old.state)) }
 
         // What is reserved already does not allocate.
-        ensures succeeds { let request = is_request (class_of (type_field (W.bytes writer))) in
+        ensures succeeds { let request = is_request (class_in (W.bytes writer)) in
             ClientMaySign request self.old.state (W.bytes writer) (W.room writer)
             → growth (client_additions request self.old.state) ≤ W.reserved writer
             → IsOk result }
@@ -214,7 +213,7 @@ impl<A: Allocator> LongTermClientAuth<A> {
     fn signed<W: MessageWrite>(&self, writer: W) -> Result<W, StunWriteError>
         requires { BeginsWithHeader (W.bytes writer) }
         ensures { let additions = client_additions
-            (is_request (class_of (type_field (W.bytes writer)))) self.now.state in
+            (is_request (class_in (W.bytes writer))) self.now.state in
             UnlessMemory result (written W.bytes W.room result
             ≡ added_all additions (page_in W.bytes W.room writer))
             (WantsMemory additions (page_in W.bytes W.room writer) (W.reserved writer)) }
@@ -236,20 +235,19 @@ impl<A: Allocator> LongTermClientAuth<A> {
     ) -> Result<W, AllocError>
         requires header { BeginsWithHeader (W.bytes writer) }
         requires signable { ClientMaySign (is_request
-            (class_of (type_field (W.bytes writer)))) self.old.state (W.bytes writer)
+            (class_in (W.bytes writer))) self.old.state (W.bytes writer)
             (W.room writer) }
         ensures signed { IfOk result (λ signed. Ok (page_in W.bytes W.room signed)
             ≡ added_all (client_additions (is_request
-            (class_of (type_field (W.bytes writer)))) self.old.state)
+            (class_in (W.bytes writer))) self.old.state)
             (page_in W.bytes W.room writer)) }
         ensures grows { IfOk result (λ signed. length (W.bytes signed)
             ≡ length (W.bytes writer) + growth
-            (client_additions (is_request (class_of
-            (type_field (W.bytes writer)))) self.old.state)) }
+            (client_additions (is_request (class_in (W.bytes writer))) self.old.state)) }
 
         // What is reserved already does not allocate.
         ensures succeeds { growth (client_additions
-            (is_request (class_of (type_field (W.bytes writer)))) self.old.state)
+            (is_request (class_in (W.bytes writer))) self.old.state)
             ≤ W.reserved writer → IsOk result }
         ensures stays { self.new ≡ self.old }
     {

@@ -2,13 +2,12 @@
 
 ghost use Rattle.std.specs.Prelude.{◌≡◌, ◌≤◌, ◌<◌, ◌+◌, ◌-◌, ◌^◌, length, min, not, true, Some, IfOk, IsOk, OnOk, OnErr, Ok};
 ghost use Rattle.std.specs.Option.{IfSome, option_map};
-ghost use Rattle.stun_base.specs.Header.{BeginsWithHeader, type_field};
-ghost use Rattle.stun_base.specs.MessageType.{class_of};
+ghost use Rattle.stun_base.specs.Header.{BeginsWithHeader};
+ghost use Rattle.stun_base.specs.MessageType.{class_in, is_response as is_response_class};
 ghost use Rattle.stun_types.specs.Limits.{TEXT_LIMIT};
 ghost use Rattle.stun_auth.specs.Additions.{UnlessMemory, WantsMemory, growth, page_in, written};
 ghost use Rattle.stun_auth.specs.code.Additions.{IsAdded, outcome_of};
 ghost use Rattle.stun_auth.specs.code.Places.{client_seen, place_seen};
-ghost use Rattle.stun_auth.specs.Reading.{is_response as is_response_class};
 ghost use Rattle.stun_auth.specs.ServerSigning.{additions_at, after_signing, algorithms_for, attributes_for, challenge, digest_for, growth_at, named_algorithm, offer, protected_for, protection_growth, server_additions, server_growth, server_signed, signed_at};
 ghost use Rattle.stun_auth.specs.Seen.{PlaceSeen};
 ghost use Rattle.stun_auth.specs.Signed.{ServerMaySign};
@@ -27,13 +26,13 @@ use stun_types::prelude::*;
 /// Whether the message in a writer is a response.
 fn is_response<W: MessageWrite>(writer: &W) -> bool
     requires { BeginsWithHeader (W.bytes writer.now) }
-    ensures { result ≡ is_response_class (class_of (type_field (W.bytes writer.now))) }
+    ensures { result ≡ is_response_class (class_in (W.bytes writer.now)) }
 {
     writer.is_response()
 }
 
 impl<A: Allocator + Copy> LongTermServerAuth<A> {
-    /// How many bytes signing a message to an address adds, as far as a `usize` reaches.
+    /// How many bytes signing a message to an address adds, as far as a `usize` reaches: 0 where no nonce was made for it.
     ///
     /// `is_request` is true for a request or an indication and false for a response. A user or key that is gone, or a realm
     /// past its limit, is counted all the same.
@@ -64,23 +63,23 @@ impl<A: Allocator + Copy> LongTermServerAuth<A> {
     ) -> Result<W, StunWriteError>
         requires { BeginsWithHeader (W.bytes writer) }
         ensures answer { let response = is_response_class
-            (class_of (type_field (W.bytes writer))) in
+            (class_in (W.bytes writer)) in
             UnlessMemory result (written W.bytes W.room result
             ≡ server_signed (sight self.old to) response (page_in W.bytes W.room writer))
             (WantsMemory (server_additions (sight self.old to) response)
             (page_in W.bytes W.room writer) (W.reserved writer)) }
         ensures grows { IfOk result (λ signed. length (W.bytes signed)
             ≡ length (W.bytes writer) + server_growth (sight self.old to)
-            (is_response_class (class_of (type_field (W.bytes writer))))) }
+            (is_response_class (class_in (W.bytes writer)))) }
 
         // What is reserved already does not allocate.
         ensures succeeds { let response = is_response_class
-            (class_of (type_field (W.bytes writer))) in
+            (class_in (W.bytes writer)) in
             ServerMaySign (sight self.old to) response (W.bytes writer) (W.room writer)
             → server_growth (sight self.old to) response ≤ W.reserved writer → IsOk result }
         ensures signed { OnOk result (self.new
             ≡ after_signing self.old to (is_response_class
-            (class_of (type_field (W.bytes writer))))) }
+            (class_in (W.bytes writer)))) }
         ensures refused { OnErr result (self.new ≡ self.old) }
     {
         // Laws do nothing when they run: this one is for the clause `succeeds`.
@@ -106,23 +105,23 @@ impl<A: Allocator + Copy> LongTermServerAuth<A> {
     ) -> Result<W, AllocError>
         requires header { BeginsWithHeader (W.bytes writer) }
         requires signable { ServerMaySign (sight self.old to)
-            (is_response_class (class_of (type_field (W.bytes writer)))) (W.bytes writer)
+            (is_response_class (class_in (W.bytes writer))) (W.bytes writer)
             (W.room writer) }
         ensures answer { IfOk result (λ signed. Ok (page_in W.bytes W.room signed)
             ≡ server_signed (sight self.old to)
-            (is_response_class (class_of (type_field (W.bytes writer))))
+            (is_response_class (class_in (W.bytes writer)))
             (page_in W.bytes W.room writer)) }
         ensures grows { IfOk result (λ signed. length (W.bytes signed)
             ≡ length (W.bytes writer) + server_growth (sight self.old to)
-            (is_response_class (class_of (type_field (W.bytes writer))))) }
+            (is_response_class (class_in (W.bytes writer)))) }
 
         // What is reserved already does not allocate.
         ensures succeeds { server_growth (sight self.old to)
-            (is_response_class (class_of (type_field (W.bytes writer)))) ≤ W.reserved writer
+            (is_response_class (class_in (W.bytes writer))) ≤ W.reserved writer
             → IsOk result }
         ensures signed { OnOk result (self.new
             ≡ after_signing self.old to (is_response_class
-            (class_of (type_field (W.bytes writer))))) }
+            (class_in (W.bytes writer)))) }
         ensures refused { OnErr result (self.new ≡ self.old) }
     {
         match self.sign_outgoing_message(writer, to) {

@@ -5,7 +5,7 @@ ghost use Rattle.stun_base.specs.Header.{type_field};
 ghost use Rattle.stun_types.specs.Message.{refusal};
 ghost use Rattle.stun_types.specs.Writing.{IsOpen};
 ghost use Rattle.stun_auth.specs.Additions.{UnlessMemory};
-ghost use Rattle.stun_auth.specs.Reading.{class_in, is_response};
+ghost use Rattle.stun_base.specs.MessageType.{class_in, is_response};
 ghost use Rattle.stun_auth.specs.ServerSigning.{after_signing};
 ghost use Rattle.stun_auth.specs.Validation.{sight};
 ghost use Rattle.stun_proto.specs.Serving.{places_unless, reply_of, reply_of_signing, reply_unless};

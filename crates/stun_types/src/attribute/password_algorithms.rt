@@ -27,7 +27,8 @@ enum Source<'a> {
 }
 
 /// PASSWORD-ALGORITHMS (RFC 8489, section 14.11): the algorithms that a server offers, the most preferred first, in a list or in
-/// a message, which it borrows. Contracts see the list.
+/// a message, which it borrows. A value that names another algorithm than MD5 and SHA-256, or gives parameters, is malformed as a
+/// whole. Contracts see the list.
 #[derive(Debug, Drop)]
 pub struct PasswordAlgorithms<'a> {
     source: Source<'a>,

@@ -1,13 +1,12 @@
 -- What the server signed with success it may sign again: the same message, and what is added to it is the same.
-use Rattle.std.proofs.Common.{◌≡◌, ◌-◌, ◌≤◌, List, ℕ, length, Option, Ok, sym, ◌∙◌, ap, subst, rules}
+use Rattle.std.proofs.Common.{◌≡◌, ◌-◌, ◌≤◌, List, ℕ, length, Option, sym, ◌∙◌, ap, subst, rules}
 use Rattle.std.specs.Option.{IsSomeAnd}
 use Rattle.std.specs.Prelude.{IsOk}
 use Rattle.std.specs.Result.{is_ok}
 use Rattle.stun_base.specs.Header.{type_field}
-use Rattle.stun_base.specs.MessageType.{class_of}
+use Rattle.stun_base.specs.MessageType.{class_of, is_response}
 use Rattle.stun_types.specs.Limits.{LENGTH_LIMIT}
 use Rattle.stun_auth.specs.Additions.{Page}
-use Rattle.stun_auth.specs.Reading.{is_response}
 use Rattle.stun_auth.specs.ServerSigning.{server_signed}
 use Rattle.stun_auth.specs.Signed.{Added, IsSignableByServer, ServerMaySign, added_by_server}
 use Rattle.stun_auth.specs.Validation.{ServerSeen, sight}

@@ -1,7 +1,7 @@
 use Rattle.std.proofs.Common.{◌≡◌, ℕ, List, ap}
 use Rattle.stun_types.specs.Tail.{AgreeUpToIntegrity}
 use Rattle.stun_auth.specs.ClientStep.{client_step}
-use Rattle.stun_auth.specs.Reading.{Reading, reading_of}
+use Rattle.stun_auth.specs.Reading.{reading_of}
 use Rattle.stun_auth.specs.Validation.{after_message, answer, sight}
 use Rattle.stun_auth.proofs.TailReading.{ReadAlike, reading-alike, short_term-alike}
 use Rattle.stun_auth.proofs.laws.what_follows_integrity_is_not_read.Goals as goal

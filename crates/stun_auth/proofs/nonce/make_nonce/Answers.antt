@@ -1,5 +1,5 @@
 -- The nonce of the drawn words is short, and asks for what any nonce of these settings asks for.
-use Rattle.std.proofs.Common.{◌≡◌, refl, ap, ◌∙◌, arith}
+use Rattle.std.proofs.Common.{◌≡◌, ap, ◌∙◌, arith}
 use Rattle.std.specs.Prelude.{length}
 use Rattle.stun_auth.specs.Nonces.{asks_for_algorithms, asks_for_userhash}
 use Rattle.stun_auth.proofs.Drawn.{length-next_words}

@@ -2,12 +2,12 @@
 
 ghost use Rattle.std.specs.Prelude.{◌≡◌, ⊤, true, IfOk, OnOk, OnErr, IsErr, Ok, Err};
 ghost use Rattle.stun_base.specs.Header.{transaction_id_field, type_field};
-ghost use Rattle.stun_base.specs.MessageType.{method_of};
+ghost use Rattle.stun_base.specs.MessageType.{method_of, class_in, is_response};
 ghost use Rattle.stun_types.specs.Message.{IsMessage};
 ghost use Rattle.stun_types.specs.Writing.{IsOpen};
 ghost use Rattle.stun_auth.specs.Additions.{UnlessMemory};
 ghost use Rattle.stun_auth.specs.ClientStep.{ForReason as ForClientReason, IsResend, UNAUTHORIZED, client_step};
-ghost use Rattle.stun_auth.specs.Reading.{class_in, is_response, reading_of};
+ghost use Rattle.stun_auth.specs.Reading.{reading_of};
 ghost use Rattle.stun_auth.specs.ServerSigning.{after_signing};
 ghost use Rattle.stun_auth.specs.Validation.{sight};
 ghost use Rattle.stun_proto.specs.Negotiation.{BINDING as BINDING_METHOD, asked, failure, responded, success};

@@ -1,5 +1,5 @@
 -- The bytes of each read follow those of the reads before it.
-use Rattle.std.proofs.Common.{rules, subst, arith}
+use Rattle.std.proofs.Common.{rules, subst}
 use Rattle.std.specs.Io.KnownBytes.{Consumes}
 use Rattle.std.proofs.KnownBytes.{Consumes-trans, Consumes-kept}
 use Rattle.stun_tool.proofs.Reading.{all_given}

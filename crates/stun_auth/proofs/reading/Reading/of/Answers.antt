@@ -10,7 +10,8 @@ use Rattle.stun_types.specs.PasswordAlgorithms.{password_algorithm_in, password_
 use Rattle.stun_types.specs.Text.{text_of}
 use Rattle.stun_types.specs.Userhash.{hash_of}
 use Rattle.stun_types.specs.Visible.{visible}
-use Rattle.stun_auth.specs.Reading.{is_error, last_of, reading_of}
+use Rattle.stun_base.specs.MessageType.{is_error}
+use Rattle.stun_auth.specs.Reading.{last_of, reading_of}
 use Rattle.stun_auth.specs.code.LastAttributes.{error_in}
 use Rattle.stun_auth.proofs.ReadingLemmas.{and_then-map}
 use Rattle.stun_auth.proofs.reading.Reading.of.Goals as goal

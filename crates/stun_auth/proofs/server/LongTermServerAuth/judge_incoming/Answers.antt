@@ -2,7 +2,8 @@
 use Rattle.std.proofs.Common.{◌≡◌, refl, sym, ◌∙◌, ap, false}
 use Rattle.std.specs.Prelude.{not, ◌||◌}
 use Rattle.stun_base.specs.Words.{next_words}
-use Rattle.stun_auth.specs.Reading.{Reading, is_response, reading_of}
+use Rattle.stun_base.specs.MessageType.{is_response}
+use Rattle.stun_auth.specs.Reading.{Reading, reading_of}
 use Rattle.stun_auth.specs.Validation.{is_malformed, needs_nonce}
 use Rattle.stun_auth.proofs.Unchanged.{after_needless, or_memory}
 use Rattle.stun_auth.proofs.server.LongTermServerAuth.judge_incoming.Goals as goal

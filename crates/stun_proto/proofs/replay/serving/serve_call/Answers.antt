@@ -1,6 +1,6 @@
 use Rattle.std.proofs.Common.{◌≡◌, List, ℕ, sym, subst, IfOk, OnOk}
 use Rattle.stun_types.specs.Message.{refusal}
-use Rattle.stun_auth.specs.Reading.{class_in, is_response}
+use Rattle.stun_base.specs.MessageType.{class_in, is_response}
 use Rattle.stun_auth.specs.ServerSigning.{after_signing}
 use Rattle.stun_auth.specs.Validation.{sight}
 use Rattle.stun_proto.specs.Serving.{after_call, places_unless, reply, reply_of, reply_of_signing, reply_unless}

@@ -1,6 +1,6 @@
 use Rattle.std.proofs.Common.{◌≡◌, List, ℕ, subst, OnOk}
 use Rattle.stun_auth.specs.Additions.{UnlessMemory}
-use Rattle.stun_auth.specs.Reading.{class_in, is_response}
+use Rattle.stun_base.specs.MessageType.{class_in, is_response}
 use Rattle.stun_auth.specs.ServerSigning.{after_signing}
 use Rattle.stun_auth.specs.Validation.{sight}
 use Rattle.stun_proto.specs.code.Signed.{signed_page}

@@ -2,6 +2,7 @@
 use crate::answers::wait;
 use fail_alloc::RefusingAllocator;
 use std::alloc::Global;
+use std::net::{IpAddr, Ipv6Addr, SocketAddr};
 use std::process::Abort;
 use std::test::Fail;
 use std::time::Duration;
@@ -9,7 +10,9 @@ use stun_agent::agent::{StunAgent, StunAgentPollRet, StunError, Transmit};
 use stun_base::data::{Data, OwnedBytes};
 use stun_base::transport::TransportType;
 use stun_types::message::Message;
-use test_support::datagrams::{REQUEST, SUCCESS, address, at, id, local, message, peer};
+use test_support::datagrams::{
+    INDICATION, REQUEST, SUCCESS, address, at, id, local, message, peer,
+};
 
 type Heap = RefusingAllocator<Global>;
 
@@ -82,16 +85,67 @@ fn a_response_is_taken_or_its_request_stays(rt: HostRuntime) -> Result<(), Fail>
     heap.each_refusal(|nth| takes(&rt, &heap, true, nth))
 }
 
-/// A peer that is validated or not.
+/// An address of IPv6.
+fn stranger() -> SocketAddr {
+    SocketAddr::new(
+        IpAddr::V6(Ipv6Addr::new(0x2001, 0xdb8, 0, 0, 0, 0, 0, 7)),
+        3478,
+    )
+}
+
+/// A request or an indication of a stranger that is taken, or the counters stay and nobody is known.
+fn hears(rt: &impl Abort, heap: &Heap, kind: [u8; 2], nth: u64) -> Result<bool, Fail> {
+    let mut agent = StunAgent::builder(heap, TransportType::Udp, local())
+        .stats(true)
+        .build();
+    let bytes = message(kind, 1);
+    let heard = Message::from_bytes(&bytes)?;
+    heap.refuse(nth);
+    let taken = agent.handle_stun_message(&heard, stranger()).ok();
+    let met_none = heap.met_none();
+    let stats = agent.stats().ok_or("they are kept")?;
+    let counters = (
+        stats.requests_received(),
+        stats.indications_received(),
+        stats.bytes_received(),
+    );
+    if met_none {
+        let is_request = kind == REQUEST;
+        assert_eq!(rt; taken, Some(true));
+        assert_eq!(rt;
+            counters,
+            (u64::from(is_request), u64::from(!is_request), 20)
+        );
+    } else {
+        assert_eq!(rt; taken, None);
+        assert_eq!(rt; counters, (0, 0, 0));
+    }
+    assert_eq!(rt; agent.is_validated_peer(stranger()), met_none);
+    Ok(met_none)
+}
+
+#[test]
+fn a_stranger_is_heard_or_not(rt: HostRuntime) -> Result<(), Fail> {
+    let heap = RefusingAllocator::new(rt.alloc());
+    heap.each_refusal(|nth| hears(&rt, &heap, REQUEST, nth))?;
+    heap.each_refusal(|nth| hears(&rt, &heap, INDICATION, nth))
+}
+
+/// Peers that are validated, but for the one that meets the refusal.
 fn validates(rt: &impl Abort, heap: &Heap, nth: u64) -> Result<bool, Fail> {
     let mut agent = StunAgent::builder(heap, TransportType::Udp, local()).build();
-    agent.validated_peer(address(7, 1))?;
     heap.refuse(nth);
-    let is_kept = agent.validated_peer(peer()).is_ok();
+    for last in 1..100 {
+        let was_waiting = heap.is_waiting();
+        let is_kept = agent.validated_peer(address(last, 1)).is_ok();
+        assert_eq!(rt; is_kept, heap.is_waiting() == was_waiting);
+        assert_eq!(rt; agent.is_validated_peer(address(last, 1)), is_kept);
+    }
+    let kept = (1..100)
+        .filter(|last| agent.is_validated_peer(address(*last, 1)))
+        .count();
     let met_none = heap.met_none();
-    assert!(rt; is_kept || !met_none);
-    assert_eq!(rt; agent.is_validated_peer(peer()), is_kept);
-    assert!(rt; agent.is_validated_peer(address(7, 1)));
+    assert_eq!(rt; kept, if met_none { 99 } else { 98 });
     Ok(met_none)
 }
 
@@ -124,13 +178,18 @@ fn a_transmit_is_owned_or_not(rt: HostRuntime) -> Result<(), Fail> {
     heap.each_refusal(|nth| owns(&rt, &heap, nth))
 }
 
-/// Polls, changes of a request, its end, stray responses and one from a known peer ask for no memory.
+/// A new agent, what is sent without an answer, polls, changes of a request, its end, stray responses and one from a known
+/// peer ask for no memory.
 #[test]
 fn polls_do_not_allocate(rt: HostRuntime) -> Result<(), Fail> {
     let heap = RefusingAllocator::new(rt.alloc());
+    heap.refuse(1);
     let mut agent = StunAgent::builder(&heap, TransportType::Udp, local())
         .stats(true)
         .build();
+    let _sent = agent.send(message(INDICATION, 9), peer(), at(0))?;
+    let _sent = agent.send_data([7; 8], peer())?;
+    assert!(rt; heap.met_none());
     for number in [1, 2, 3] {
         let _sent = agent.send_request(message(REQUEST, number), peer(), at(0))?;
     }

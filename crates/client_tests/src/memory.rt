@@ -246,6 +246,9 @@ fn copies_texts(
     assert_eq!(rt; (names.live(), passwords.live()), (2, 2));
     let at_realm = user.to_key(String::from_str(realms, "realm")?)?;
     assert_eq!(rt; (names.live(), passwords.live(), realms.live()), (3, 3, 1));
+    let again = at_realm.clone()?;
+    assert_eq!(rt; (names.live(), passwords.live(), realms.live()), (4, 4, 2));
+    drop(again);
     drop(user);
     assert_eq!(rt; (names.live(), passwords.live(), realms.live()), (2, 2, 1));
     let key = at_realm.make_key(IntegrityAlgorithm::Sha1);
@@ -267,7 +270,7 @@ fn each_text_stays_at_its_heap(rt: HostRuntime) -> Result<(), Fail> {
     let realms = RefusingAllocator::new(rt.alloc());
     copies_texts(&rt, &names, &passwords, &realms)?;
     assert_eq!(rt; (names.live(), passwords.live(), realms.live()), (0, 0, 0));
-    assert_eq!(rt; (names.allocations(), passwords.allocations()), (4, 3));
-    assert_eq!(rt; realms.allocations(), 1);
+    assert_eq!(rt; (names.allocations(), passwords.allocations()), (5, 4));
+    assert_eq!(rt; realms.allocations(), 2);
     Ok(())
 }

@@ -8,8 +8,8 @@ use stun_auth::auth::ShortTermAuth;
 use stun_types::message::{IntegrityAlgorithm, ShortTermCredentials};
 use test_support::secrets::{are_silent, shown};
 
-/// Two passwords, and the first bytes of the key that is made of the first.
-const SECRETS: [&str; 3] = ["pass\"", "wonderland", "147"];
+/// Two passwords, and a byte of each key that is made of them.
+const SECRETS: [&str; 4] = ["pass", "wonderland", "147", "119"];
 
 /// Checks that nothing of the secrets is shown.
 fn expect_silent<T: Debug>(rt: &impl Abort, alloc: Global, value: &T) -> Result<(), Fail> {

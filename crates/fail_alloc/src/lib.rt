@@ -1,4 +1,4 @@
-//! An allocator for tests, which refuses one allocation of the test's choice, and counts what is allocated and given back.
+//! An allocator for tests, which refuses one allocation of the test's choice, and counts what is allocated and given back, and its bytes.
 #![tactic(auto)]
 
 use std::alloc::{AllocError, Allocator};
@@ -23,6 +23,8 @@ struct Counts {
     until_refusal: u64,
     allocations: u64,
     deallocations: u64,
+    /// The bytes of these allocations, in all.
+    bytes: u64,
 }
 
 impl<B: Allocator> RefusingAllocator<B> {
@@ -34,6 +36,7 @@ impl<B: Allocator> RefusingAllocator<B> {
                 until_refusal: 0,
                 allocations: 0,
                 deallocations: 0,
+                bytes: 0,
             }),
         }
     }
@@ -45,6 +48,7 @@ impl<B: Allocator> RefusingAllocator<B> {
             until_refusal: nth,
             allocations: counts.allocations,
             deallocations: counts.deallocations,
+            bytes: counts.bytes,
         });
     }
 
@@ -65,7 +69,12 @@ impl<B: Allocator> RefusingAllocator<B> {
         self.counts.get().allocations
     }
 
-    /// Makes a run for each number from 1 on, until one answers that it met no refusal.
+    /// How many bytes were asked for and not refused, those that were given back since with them.
+    pub fn bytes(&self) -> u64 {
+        self.counts.get().bytes
+    }
+
+    /// Makes a run for each number from 1 on, until one answers that it met no refusal. The first is to meet one.
     ///
     /// A run refuses the allocation of its number, and gives back what it allocates.
     pub fn each_refusal<F: FnMut(u64) -> Result<bool, Fail>>(&self, mut run: F) -> Result<(), Fail>
@@ -76,6 +85,9 @@ impl<B: Allocator> RefusingAllocator<B> {
             let is_last = run(nth)?;
             if self.live() != live {
                 return Err(Fail::from("a run does not give back what it allocates"));
+            }
+            if is_last && nth == 1 {
+                return Err(Fail::from("no run met a refusal"));
             }
             if is_last {
                 return Ok(());
@@ -100,14 +112,16 @@ impl<B: Allocator> Drop for RefusingAllocator<B> {
     }
 }
 
-// Counts one allocation, and says whether it is the one to refuse.
-fn refuses(counts: &Cell<Counts>) -> bool {
+// Counts one allocation of so many bytes, and says whether it is the one to refuse.
+fn refuses(counts: &Cell<Counts>, size: usize) -> bool {
     let before = counts.get();
     let is_refused = before.until_refusal == 1;
+    let size = if is_refused { 0 } else { size as u64 };
     counts.set(Counts {
         until_refusal: before.until_refusal.saturating_sub(1),
         allocations: before.allocations.saturating_add(u64::from(!is_refused)),
         deallocations: before.deallocations,
+        bytes: before.bytes.saturating_add(size),
     });
     is_refused
 }
@@ -119,6 +133,7 @@ fn count_return(counts: &Cell<Counts>) {
         until_refusal: before.until_refusal,
         allocations: before.allocations,
         deallocations: before.deallocations.saturating_add(1),
+        bytes: before.bytes,
     });
 }
 
@@ -126,7 +141,7 @@ unsafe impl<B: Allocator> Allocator for RefusingAllocator<B> {
     ghost dealloc_token = { λ heap ty ptr. B.dealloc_token heap.inner ty ptr };
 
     fn allocate(&self, size: usize, align: usize) -> Result<*mut u8, AllocError> {
-        if refuses(&self.counts) {
+        if refuses(&self.counts, size) {
             return Err(AllocError);
         }
         self.inner.allocate(size, align)

@@ -65,8 +65,8 @@ fn debug_shows_nothing_of_a_server(rt: HostRuntime) -> Result<(), Fail> {
     let server = plain_server(alloc, alloc)?;
     let texts = shown(alloc, &server)?;
     assert_eq!(rt; texts[0].as_str(), "LongTermServerAuth { .. }");
-    // The user, the realm and the nonce.
-    assert!(rt; are_silent(&texts, &["user", "realm", "AAAA"]));
+    // The user, the realm, the nonce, the password, and a byte of the key.
+    assert!(rt; are_silent(&texts, &["user", "realm", "AAAA", "pass", "147"]));
     Ok(())
 }
 

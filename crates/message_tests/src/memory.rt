@@ -10,13 +10,12 @@ use stun_types::data::{Data, OwnedBytes};
 use stun_types::message::{
     BINDING, IntegrityAlgorithm, IntegrityKey, LongTermCredentials, LongTermKeyCredentials,
     Message, MessageIntegrityCredentials, MessageWriteMutSlice, MessageWriteVec,
-    ShortTermCredentials, StunWriteError, TransactionId,
+    ShortTermCredentials, StunWriteError, TransactionId, long_term_key,
 };
 use stun_types::prelude::*;
 use test_support::spelled::bytes_of;
 
-/// Below this many allocations each run here has met its last one.
-const MOST_ALLOCATIONS: u64 = 100;
+type Heap = RefusingAllocator<Global>;
 
 /// The bytes of a key that is just too long to be in the value itself.
 const LONG_KEY: [u8; 33] = [5; 33];
@@ -41,12 +40,12 @@ fn keys(rt: HostRuntime) -> Result<(), Fail> {
     assert!(rt; !heap.is_waiting());
     let key = IntegrityKey::from_bytes(&heap, &LONG_KEY)?;
     assert_eq!(rt; key.as_bytes(), LONG_KEY.as_slice());
-    assert_eq!(rt; (heap.allocations(), heap.live()), (1, 1));
+    assert_eq!(rt; (heap.allocations(), heap.live(), heap.bytes()), (1, 1, 33));
     heap.refuse(1);
     assert!(rt; key.clone().is_err());
     assert_eq!(rt; key.as_bytes(), LONG_KEY.as_slice());
     assert_eq!(rt; key.clone()?.as_bytes(), LONG_KEY.as_slice());
-    assert_eq!(rt; (heap.allocations(), heap.live()), (2, 1));
+    assert_eq!(rt; (heap.allocations(), heap.live(), heap.bytes()), (2, 1, 66));
     Ok(())
 }
 
@@ -85,80 +84,75 @@ fn user<A: Allocator + Copy>(alloc: A) -> Result<LongTermCredentials<A>, AllocEr
     Ok(LongTermCredentials::new(username, password))
 }
 
+/// A copy of a user, or none. The answer tells whether no refusal was met, as it does below.
+fn copies_user(rt: &impl Abort, heap: &Heap, nth: u64) -> Result<bool, Fail> {
+    let user = user(heap)?;
+    heap.refuse(nth);
+    let answer: Result<_, _> = user.clone();
+    let met_none = heap.met_none();
+    assert_eq!(rt; (user.username(), user.password()), ("user", "pass"));
+    match answer {
+        Ok(copy) => assert_eq!(rt; (copy.username(), copy.password()), ("user", "pass")),
+        Err(_) => assert!(rt; !met_none),
+    }
+    Ok(met_none)
+}
+
 #[test]
 fn copies_of_a_user(rt: HostRuntime) -> Result<(), Fail> {
     let heap = RefusingAllocator::new(rt.alloc());
-    let user = user(&heap)?;
-    let live = heap.live();
-    for nth in 1..MOST_ALLOCATIONS {
-        heap.refuse(nth);
-        let answer: Result<_, _> = user.clone();
-        let is_last = heap.met_none();
-        assert_eq!(rt; (user.username(), user.password()), ("user", "pass"));
-        if let Ok(copy) = answer {
-            assert_eq!(rt; (copy.username(), copy.password()), ("user", "pass"));
-        } else {
-            assert!(rt; !is_last);
+    heap.each_refusal(|nth| copies_user(&rt, &heap, nth))
+}
+
+/// A user at a realm, or none.
+fn settles_user(rt: &impl Abort, heap: &Heap, nth: u64) -> Result<bool, Fail> {
+    let user = user(heap)?;
+    let realm = String::from_str(heap, "realm")?;
+    heap.refuse(nth);
+    let answer = user.to_key(realm);
+    let met_none = heap.met_none();
+    assert_eq!(rt; (user.username(), user.password()), ("user", "pass"));
+    match answer {
+        Ok(key) => {
+            let texts = (key.username(), key.realm(), key.password());
+            assert_eq!(rt; texts, ("user", "realm", "pass"));
         }
-        assert_eq!(rt; heap.live(), live);
-        if is_last {
-            return Ok(());
-        }
+        Err(_) => assert!(rt; !met_none),
     }
-    panic!(rt; "each run met a refusal")
+    Ok(met_none)
 }
 
 #[test]
 fn a_user_at_a_realm(rt: HostRuntime) -> Result<(), Fail> {
     let heap = RefusingAllocator::new(rt.alloc());
-    let user = user(&heap)?;
-    let live = heap.live();
-    for nth in 1..MOST_ALLOCATIONS {
-        let realm = String::from_str(&heap, "realm")?;
-        heap.refuse(nth);
-        let answer = user.to_key(realm);
-        let is_last = heap.met_none();
-        assert_eq!(rt; (user.username(), user.password()), ("user", "pass"));
-        if let Ok(key) = answer {
-            let texts = (key.username(), key.realm(), key.password());
-            assert_eq!(rt; texts, ("user", "realm", "pass"));
-        } else {
-            assert!(rt; !is_last);
-        }
-        assert_eq!(rt; heap.live(), live);
-        if is_last {
-            return Ok(());
-        }
-    }
-    panic!(rt; "each run met a refusal")
+    heap.each_refusal(|nth| settles_user(&rt, &heap, nth))
 }
 
 fn user_at_realm<A: Allocator + Copy>(alloc: A) -> Result<LongTermKeyCredentials<A>, AllocError> {
     user(alloc)?.to_key(String::from_str(alloc, "realm")?)
 }
 
+/// A copy of a user at a realm, or none.
+fn copies_user_at_realm(rt: &impl Abort, heap: &Heap, nth: u64) -> Result<bool, Fail> {
+    let user = user_at_realm(heap)?;
+    heap.refuse(nth);
+    let answer: Result<_, _> = user.clone();
+    let met_none = heap.met_none();
+    assert_eq!(rt; user.realm(), "realm");
+    match answer {
+        Ok(copy) => {
+            let texts = (copy.username(), copy.realm(), copy.password());
+            assert_eq!(rt; texts, ("user", "realm", "pass"));
+        }
+        Err(_) => assert!(rt; !met_none),
+    }
+    Ok(met_none)
+}
+
 #[test]
 fn copies_of_a_user_at_a_realm(rt: HostRuntime) -> Result<(), Fail> {
     let heap = RefusingAllocator::new(rt.alloc());
-    let user = user_at_realm(&heap)?;
-    let live = heap.live();
-    for nth in 1..MOST_ALLOCATIONS {
-        heap.refuse(nth);
-        let answer: Result<_, _> = user.clone();
-        let is_last = heap.met_none();
-        assert_eq!(rt; user.realm(), "realm");
-        if let Ok(copy) = answer {
-            let texts = (copy.username(), copy.realm(), copy.password());
-            assert_eq!(rt; texts, ("user", "realm", "pass"));
-        } else {
-            assert!(rt; !is_last);
-        }
-        assert_eq!(rt; heap.live(), live);
-        if is_last {
-            return Ok(());
-        }
-    }
-    panic!(rt; "each run met a refusal")
+    heap.each_refusal(|nth| copies_user_at_realm(&rt, &heap, nth))
 }
 
 /// The keys of a user at a realm, of 16 and of 32 bytes, take none.
@@ -175,6 +169,10 @@ fn long_term_keys(rt: HostRuntime) -> Result<(), Fail> {
         user.make_key(IntegrityAlgorithm::Sha256).as_bytes().len(),
         32
     );
+    let key = long_term_key(&heap, IntegrityAlgorithm::Sha1, "user", "realm", "pass");
+    assert_eq!(rt; key.as_bytes(), expected.as_slice());
+    let key = long_term_key(&heap, IntegrityAlgorithm::Sha256, "user", "realm", "pass");
+    assert_eq!(rt; key.as_bytes().len(), 32);
     assert!(rt; heap.is_waiting());
     Ok(())
 }
@@ -184,23 +182,22 @@ fn owned<'a, A: Allocator>(alloc: A, bytes: &[u8]) -> Result<Data<'a, A>, AllocE
     Data::Borrowed(bytes).into_owned(alloc)
 }
 
+/// Bytes that are owned or not.
+fn owns(rt: &impl Abort, heap: &Heap, nth: u64) -> Result<bool, Fail> {
+    heap.refuse(nth);
+    let answer = owned(heap, &LONG_KEY);
+    let met_none = heap.met_none();
+    match answer {
+        Ok(data) => assert_eq!(rt; data.bytes(), LONG_KEY.as_slice()),
+        Err(_) => assert!(rt; !met_none),
+    }
+    Ok(met_none)
+}
+
 #[test]
 fn borrowed_bytes(rt: HostRuntime) -> Result<(), Fail> {
     let heap = RefusingAllocator::new(rt.alloc());
-    for nth in 1..MOST_ALLOCATIONS {
-        heap.refuse(nth);
-        let answer = owned(&heap, &LONG_KEY);
-        let is_last = heap.met_none();
-        if let Ok(data) = answer {
-            assert_eq!(rt; data.bytes(), LONG_KEY.as_slice());
-        } else {
-            assert!(rt; !is_last);
-        }
-        if is_last {
-            return Ok(());
-        }
-    }
-    panic!(rt; "each run met a refusal")
+    heap.each_refusal(|nth| owns(&rt, &heap, nth))
 }
 
 /// Bytes that are owned move as they are.
@@ -224,11 +221,11 @@ fn begin<W: MessageWrite>(writer: W) -> Result<W, StunWriteError>
     Message::builder_request(BINDING, id, writer)
 }
 
-// Judges one run of a call: want of memory leaves the header alone, an answer so many bytes. It says whether the run was
-// the last, since it met no refusal.
+// Judges one run of a call: want of memory leaves the header alone, an answer so many bytes. It tells whether no refusal
+// was met.
 fn expect_written(
     rt: &impl Abort,
-    heap: &RefusingAllocator<Global>,
+    heap: &Heap,
     answer: Result<(), StunWriteError>,
     written: &[u8],
     length: usize,
@@ -247,94 +244,98 @@ fn expect_written(
     is_last
 }
 
+/// A header that is written or not.
+fn begins(rt: &impl Abort, heap: &Heap, nth: u64) -> Result<bool, Fail> {
+    heap.refuse(nth);
+    let answer = begin(MessageWriteVec::new(heap));
+    let met_none = heap.met_none();
+    match answer {
+        Ok(writer) => assert_eq!(rt; writer.data(), HEADER.as_slice()),
+        Err(error) => {
+            assert_eq!(rt; error, StunWriteError::OutOfMemory);
+            assert!(rt; !met_none);
+        }
+    }
+    Ok(met_none)
+}
+
 #[test]
 fn a_header(rt: HostRuntime) -> Result<(), Fail> {
     let heap = RefusingAllocator::new(rt.alloc());
-    for nth in 1..MOST_ALLOCATIONS {
-        heap.refuse(nth);
-        let answer = begin(MessageWriteVec::new(&heap));
-        let is_last = heap.met_none();
-        match answer {
-            Ok(writer) => {
-                assert_eq!(rt; writer.data(), HEADER.as_slice());
-            }
-            Err(error) => {
-                assert_eq!(rt; error, StunWriteError::OutOfMemory);
-                assert!(rt; !is_last);
-            }
-        }
-        if is_last {
-            return Ok(());
-        }
-    }
-    panic!(rt; "each run met a refusal")
+    heap.each_refusal(|nth| begins(&rt, &heap, nth))
+}
+
+/// An attribute that is added or not.
+fn adds(rt: &impl Abort, heap: &Heap, nth: u64) -> Result<bool, Fail> {
+    let username = Username::new("a name that the first room lacks")?;
+    let mut writer = begin(MessageWriteVec::new(heap))?;
+    heap.refuse(nth);
+    let answer = writer.add_attribute(&username);
+    Ok(expect_written(rt, heap, answer, writer.data(), 56))
 }
 
 #[test]
 fn an_attribute(rt: HostRuntime) -> Result<(), Fail> {
     let heap = RefusingAllocator::new(rt.alloc());
-    let username = Username::new("a name that the first room lacks")?;
-    for nth in 1..MOST_ALLOCATIONS {
-        let mut writer = begin(MessageWriteVec::new(&heap))?;
-        heap.refuse(nth);
-        let answer = writer.add_attribute(&username);
-        if expect_written(&rt, &heap, answer, writer.data(), 56) {
-            return Ok(());
-        }
-    }
-    panic!(rt; "each run met a refusal")
+    heap.each_refusal(|nth| adds(&rt, &heap, nth))
+}
+
+/// A digest under credentials that is added or not.
+fn signs_by_credentials(rt: &impl Abort, heap: &Heap, nth: u64) -> Result<bool, Fail> {
+    let credentials = MessageIntegrityCredentials::from(user_at_realm(heap)?);
+    let mut writer = begin(MessageWriteVec::new(heap))?;
+    heap.refuse(nth);
+    let answer = writer.add_message_integrity(&credentials, IntegrityAlgorithm::Sha256);
+    Ok(expect_written(rt, heap, answer, writer.data(), 56))
 }
 
 #[test]
 fn signing_by_credentials(rt: HostRuntime) -> Result<(), Fail> {
     let heap = RefusingAllocator::new(rt.alloc());
-    let credentials = MessageIntegrityCredentials::from(user_at_realm(&heap)?);
-    for nth in 1..MOST_ALLOCATIONS {
-        let mut writer = begin(MessageWriteVec::new(&heap))?;
-        heap.refuse(nth);
-        let answer = writer.add_message_integrity(&credentials, IntegrityAlgorithm::Sha256);
-        if expect_written(&rt, &heap, answer, writer.data(), 56) {
-            return Ok(());
-        }
-    }
-    panic!(rt; "each run met a refusal")
+    heap.each_refusal(|nth| signs_by_credentials(&rt, &heap, nth))
+}
+
+/// A digest under a key that is added or not.
+fn signs_by_key(rt: &impl Abort, heap: &Heap, nth: u64) -> Result<bool, Fail> {
+    let key = IntegrityKey::from_bytes(heap, &LONG_KEY)?;
+    let mut writer = begin(MessageWriteVec::new(heap))?;
+    heap.refuse(nth);
+    let answer = writer.add_message_integrity_with_key(&key, IntegrityAlgorithm::Sha1);
+    Ok(expect_written(rt, heap, answer, writer.data(), 44))
+}
+
+/// The same under a key that is lent as bytes.
+fn signs_by_bytes(rt: &impl Abort, heap: &Heap, nth: u64) -> Result<bool, Fail> {
+    let mut writer = begin(MessageWriteVec::new(heap))?;
+    heap.refuse(nth);
+    let answer = writer.add_message_integrity_with_key_bytes(&LONG_KEY, IntegrityAlgorithm::Sha1);
+    Ok(expect_written(rt, heap, answer, writer.data(), 44))
 }
 
 #[test]
 fn signing_by_a_key(rt: HostRuntime) -> Result<(), Fail> {
     let heap = RefusingAllocator::new(rt.alloc());
-    let key = IntegrityKey::from_bytes(&heap, &LONG_KEY)?;
-    for nth in 1..MOST_ALLOCATIONS {
-        let mut writer = begin(MessageWriteVec::new(&heap))?;
-        heap.refuse(nth);
-        let answer = writer.add_message_integrity_with_key(&key, IntegrityAlgorithm::Sha1);
-        if expect_written(&rt, &heap, answer, writer.data(), 44) {
-            return Ok(());
-        }
-    }
-    panic!(rt; "each run met a refusal")
+    heap.each_refusal(|nth| signs_by_key(&rt, &heap, nth))?;
+    heap.each_refusal(|nth| signs_by_bytes(&rt, &heap, nth))
+}
+
+/// A digest that is added unchecked or not.
+fn signs_unchecked(rt: &impl Abort, heap: &Heap, nth: u64) -> Result<bool, Fail> {
+    let key = IntegrityKey::from_bytes(heap, &LONG_KEY)?;
+    let mut writer = begin(MessageWriteVec::new(heap))?;
+    assert!(rt; !writer.has_attribute(AttributeType::MESSAGE_INTEGRITY));
+    assert!(rt; !writer.has_attribute(AttributeType::MESSAGE_INTEGRITY_SHA256));
+    assert_eq!(rt; writer.data().len(), 20);
+    heap.refuse(nth);
+    let answer = writer.add_message_integrity_with_key_unchecked(&key, IntegrityAlgorithm::Sha1);
+    let answer = answer.map_err(StunWriteError::from);
+    Ok(expect_written(rt, heap, answer, writer.data(), 44))
 }
 
 #[test]
 fn signing_unchecked(rt: HostRuntime) -> Result<(), Fail> {
     let heap = RefusingAllocator::new(rt.alloc());
-    let key = IntegrityKey::from_bytes(&heap, &LONG_KEY)?;
-    for nth in 1..MOST_ALLOCATIONS {
-        let mut writer = begin(MessageWriteVec::new(&heap))?;
-        assert!(rt; !writer.has_attribute(AttributeType::MESSAGE_INTEGRITY));
-        assert!(rt; !writer.has_attribute(AttributeType::MESSAGE_INTEGRITY_SHA256));
-        assert_eq!(rt; writer.data().len(), 20);
-        heap.refuse(nth);
-        let answer = writer.add_message_integrity_with_key_unchecked(
-            &key,
-            IntegrityAlgorithm::Sha1,
-        );
-        let answer = answer.map_err(StunWriteError::from);
-        if expect_written(&rt, &heap, answer, writer.data(), 44) {
-            return Ok(());
-        }
-    }
-    panic!(rt; "each run met a refusal")
+    heap.each_refusal(|nth| signs_unchecked(&rt, &heap, nth))
 }
 
 /// Writing and signing into a slice takes none, whatever the credentials, nor does validation.

@@ -9,8 +9,8 @@ use stun_types::message::{
 };
 use test_support::secrets::{are_silent, shown};
 
-/// The words of the secrets, and the first bytes of the key that is made of them.
-const SECRETS: [&str; 4] = ["alice", "wonderland", "hatter", "119"];
+/// The words of the secrets, and a byte of each key that is made of them: of the password, and of the MD5 hash.
+const SECRETS: [&str; 5] = ["alice", "wonderland", "hatter", "119", "137"];
 
 /// Checks that nothing of the secrets is shown.
 fn expect_silent<T: Debug>(rt: &impl Abort, alloc: Global, value: &T) -> Result<(), Fail> {
@@ -23,7 +23,9 @@ fn credentials_are_silent(rt: HostRuntime) -> Result<(), Fail> {
     let alloc = rt.alloc();
     let short = ShortTermCredentials::new(String::from_str(alloc, "wonderland")?);
     expect_silent(&rt, alloc, &short)?;
-    expect_silent(&rt, alloc, &MessageIntegrityCredentials::from(short))?;
+    let credentials = MessageIntegrityCredentials::from(short);
+    expect_silent(&rt, alloc, &credentials)?;
+    expect_silent(&rt, alloc, &credentials.key(IntegrityAlgorithm::Sha1))?;
     let name = String::from_str(alloc, "alice")?;
     let long = LongTermCredentials::new(name, String::from_str(alloc, "wonderland")?);
     expect_silent(&rt, alloc, &long)?;

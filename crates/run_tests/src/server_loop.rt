@@ -43,6 +43,11 @@ fn serve(
     Ok(())
 }
 
+/// Whether a user may ask this server.
+fn is_served(name: &str) -> bool {
+    name == "user"
+}
+
 /// The answer to a request, if it gets one.
 fn answer(
     alloc: Global,
@@ -54,7 +59,10 @@ fn answer(
     let writer = MessageWriteVec::new(alloc);
     let code = match auth.validate_incoming_message(request, from, now, rng) {
         Ok(LongTermServerValidation::Validated(_)) => {
-            // who it is: `auth.client(from)`, and not the message's USERNAME
+            // Who it is the authenticator tells, and not the message's USERNAME.
+            if !auth.client(from).is_some_and(|client| is_served(client.0)) {
+                return Ok(None);
+            }
             let mut success = Message::builder_success(request, writer)?;
             success.add_attribute(&XorMappedAddress::new(from, request.transaction_id()))?;
             return Ok(Some(auth.sign_outgoing_message(success, from)?.finish()));

@@ -1,8 +1,11 @@
 -- What is sent: bytes, and the transport and addresses for them.
-use Rattle.std.specs.Prelude.{ℕ, List}
+use Rattle.std.specs.Prelude.{ℕ, List, ◌++◌, codes}
 use Rattle.std.specs.Borrow.{Bor}
+use Rattle.std.specs.Fmt.{decimal}
+use Rattle.std.specs.Net.Text.{socket_text}
 use Rattle.std.specs.declared.net.socket_addr.SocketAddr.{SocketAddr}
 use Rattle.stun_base.specs.Data.{data_bytes}
+use Rattle.stun_base.specs.Transport.{name_of}
 use Rattle.stun_base.specs.declared.data.Data.{Data}
 use Rattle.stun_base.specs.declared.transport.TransportType.{TransportType}
 use Rattle.stun_agent.specs.declared.transmit.Transmit.{Transmit}
@@ -22,3 +25,9 @@ lent_datagram t = (t.«data».now, t.transport, t.from, t.to)
 -- the datagram whose bytes are lent or owned
 abbrev pub datagram : {A : Type 0} → Transmit (Data A) → Datagram
 datagram t = (data_bytes t.«data», t.transport, t.from, t.to)
+
+-- the text of so many bytes that a transport carries between two addresses
+abbrev pub text_of_datagram : TransportType → SocketAddr → SocketAddr → ℕ → List ℕ
+text_of_datagram transport from to count =
+    codes "Transmit(" ++ name_of transport ++ codes ": " ++ socket_text from ++ codes " -> " ++ socket_text to ++ codes " of "
+    ++ decimal count ++ codes " bytes)"

@@ -97,10 +97,16 @@ pub fn copied_parts(
     settings: &RequestRto,
     answer: &StunAgentPollRet,
     error: &StunError,
-) -> Result<(RequestRto, StunAgentPollRet, StunError), AllocError>
-    ensures { result ≡ Ok (settings.now, answer.now, error.now) }
+    no_room: &NoRoom,
+) -> Result<(RequestRto, StunAgentPollRet, StunError, NoRoom), AllocError>
+    ensures { result ≡ Ok (settings.now, answer.now, error.now, no_room.now) }
 {
-    Ok((settings.clone()?, answer.clone()?, error.clone()?))
+    Ok((
+        settings.clone()?,
+        answer.clone()?,
+        error.clone()?,
+        no_room.clone()?,
+    ))
 }
 
 /// Copies of an outstanding request that is looked at are of the same agent and request.

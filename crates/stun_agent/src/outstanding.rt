@@ -168,6 +168,8 @@ impl<A: Allocator + Copy> Outstanding<A> {
               (option_map (λ e. e.0) (next_sent self.old.transport now self.old.requests))
               self.old.requests;
         }) }
+        ensures request { OnOk result
+            (IfSome (next_sent self.old.transport now self.old.requests) IsNamed) }
         ensures kept { IfOk result (λ sent. IfSome sent (λ s.
             option_map contents (at s.0 self.new.requests)
             ≡ option_map (λ e. contents e.1)

@@ -122,6 +122,7 @@ impl<A: Allocator + Copy> StunAgent<A> {
             ≡ option_map (λ e. datagram_of self.old e.1) (sent_by_poll now self.old)) }
         ensures fits { OnOk result (IfSome (sent_by_poll now self.old)
             (λ e. length e.1.bytes ≤ room)) }
+        ensures request { OnOk result (IfSome (sent_by_poll now self.old) IsNamed) }
         ensures refused { OnErr result (IsSomeAnd (sent_by_poll now self.old)
             (λ e. room < length e.1.bytes)) }
     {
@@ -185,6 +186,7 @@ impl<A: Allocator + Copy> StunAgent<A> {
         ensures kept { IfOk result (λ sent. IfSome sent (λ id.
             option_map contents (at id self.new.transactions)
             ≡ option_map (λ e. contents e.1) (sent_by_poll now self.old))) }
+        ensures request { OnOk result (IfSome (sent_by_poll now self.old) IsNamed) }
         ensures refused { OnErr result (IsSomeAnd (sent_by_poll now self.old)
             (λ e. room < length e.1.bytes)) }
         ensures same { OnErr result (self.new ≡ self.old) }

@@ -1,5 +1,5 @@
 //! Bytes that the caller is to send.
-ghost use Rattle.std.specs.Prelude.{◌≡◌, IsOk, IfOk};
+ghost use Rattle.std.specs.Prelude.{◌≡◌, length, IsOk, IfOk, Ok, Some};
 ghost use Rattle.stun_base.specs.Data.{IsOwned};
 
 use std::alloc::{AllocError, Allocator};
@@ -63,6 +63,7 @@ impl<'a, A: Allocator> Transmit<Data<'a, A>> {
         ensures same { IfOk result (λ owned. datagram owned ≡ datagram self.entry) }
         ensures owned { IfOk result (λ owned. IsOwned (parts owned).0) }
         ensures moves { IsOwned (parts self.entry).0 → IsOk result }
+        ensures itself { IsOwned (parts self.entry).0 → result ≡ Ok self.entry }
     {
         let Transmit {
             data,
@@ -76,6 +77,11 @@ impl<'a, A: Allocator> Transmit<Data<'a, A>> {
 
 /// As `Transmit(UDP: 10.0.0.1:3478 -> 10.0.0.2:3478 of 20 bytes)`.
 impl<T: OwnedBytes> fmt::Display for Transmit<T> {
+    ghost use Rattle.stun_agent.specs.Datagrams.{text_of_datagram};
+
+    ghost output = { λ t. Some (text_of_datagram t.transport t.from t.to
+        (length (T.contents t.«data»))) };
+
     fn fmt<W: fmt::Write>(&self, f: &mut fmt::Formatter<W>) -> fmt::Result {
         let count = self.data.bytes().len();
         write!(

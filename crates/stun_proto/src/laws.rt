@@ -223,7 +223,7 @@ pub fn is_same_source(one: &WordSource, other: &WordSource) -> bool
 }
 
 /// Steps of an agent are equal where moments, ids, addresses, bytes and answers are.
-pub fn is_same_step(one: &AgentStep, other: &AgentStep) -> bool
+pub fn is_same_step<A: Allocator>(one: &AgentStep<A>, other: &AgentStep<A>) -> bool
     ensures { IsTrue result ↔ (step_of one.now ≡ step_of other.now) }
 {
     one == other

@@ -1,13 +1,19 @@
 -- What the agent's error says of its refusal.
-use Rattle.std.proofs.Common.{◌≡◌, ◌∙◌, Option, Some, None, MatchOption, Result, Ok, Err, refl, sym, subst, ap}
+use Rattle.std.proofs.Common.{◌≡◌, ◌∙◌, Bool, true, false, if◌then◌else◌, is_some, ℕ, List, Option, Some, None, IfSome, MatchOption, Result, Ok, Err, refl, sym, subst, ap}
+use Rattle.std.specs.Option.{option_map_or}
 use Rattle.std.specs.declared.net.socket_addr.SocketAddr.{SocketAddr}
+use Rattle.stun_agent.specs.Agent.{Agent, is_elsewhere, request_refusal}
+use Rattle.stun_agent.specs.Transactions.{at}
 use Rattle.stun_agent.specs.declared.error.StunError.{StunError}
 use Rattle.stun_agent.specs.declared.error.StunError.TheVariants as Error
+use Rattle.stun_base.specs.Header.{header_refusal, transaction_id_field}
+use Rattle.stun_base.specs.MessageType.{class_in, is_request}
 use Rattle.stun_base.specs.declared.error.StunParseError.{StunParseError}
+use Rattle.stun_base.specs.declared.error.StunParseError.TheVariants as Parse
 use Rattle.stun_state.specs.Agent.{done_unless, refusal_of_agent}
 use Rattle.stun_state.specs.Answers.{ForRefusal, at_address, message_refusal, unless_refused}
+use Rattle.stun_state.specs.Codes.{refusal_of_parse}
 use Rattle.stun_state.specs.declared.codes.Refusal.{Refusal}
-use Rattle.stun_state.specs.declared.codes.Refusal.TheVariants.{Truncated, NotStun, TooLarge, IntegrityFailed, BadArgument, NotText, TextTooLong, BufferTooSmall, NotAllowed, Closed, AttributeExists, MessageTooLong, MissingAttribute, MalformedAttribute, OutOfMemory, EmptyHandle, FullHandle, AlreadyInProgress, ProtocolViolation, Unauthorized, BadRequest, StaleNonce, UnsupportedFeature}
 
 -- what is answered about a message of STUN and an address
 pub at_given : (given : Option SocketAddr) (to : SocketAddr) (why : Option StunParseError) (refused : SocketAddr → Option StunError) (answer : Result (Unit {0}) Refusal)
@@ -33,37 +39,59 @@ pub taken_by : (o : Option StunError) (P : Type 0) (Q : StunError → Type 0) �
 taken_by None P Q h none = refl
 taken_by (Some e) P Q h none = absurd (none e h)
 
--- a fact of every refusal is one of those that are not want of memory
-of_each : (refusal : Refusal) (P : Type 0) → P → ForRefusal refusal P (Unit {0})
-of_each Truncated P p = p
-of_each NotStun P p = p
-of_each TooLarge P p = p
-of_each IntegrityFailed P p = p
-of_each BadArgument P p = p
-of_each NotText P p = p
-of_each TextTooLong P p = p
-of_each BufferTooSmall P p = p
-of_each NotAllowed P p = p
-of_each Closed P p = p
-of_each AttributeExists P p = p
-of_each MessageTooLong P p = p
-of_each MissingAttribute P p = p
-of_each MalformedAttribute P p = p
-of_each OutOfMemory P p = tt
-of_each EmptyHandle P p = p
-of_each FullHandle P p = p
-of_each AlreadyInProgress P p = p
-of_each ProtocolViolation P p = p
-of_each Unauthorized P p = p
-of_each BadRequest P p = p
-of_each StaleNonce P p = p
-of_each UnsupportedFeature P p = p
+-- an error is not that an allocation failed
+abbrev pub IsNoMemory : StunError → Type 0
+IsNoMemory Error.AlreadyInProgress = Unit {0}
+IsNoMemory Error.ProtocolViolation = Unit {0}
+IsNoMemory Error.OutOfMemory = ⊥
+IsNoMemory (Error.ParseError error) = Unit {0}
+IsNoMemory Error.ResourceNotFound = Unit {0}
+IsNoMemory Error.TimedOut = Unit {0}
+IsNoMemory Error.Aborted = Unit {0}
+IsNoMemory (Error.WriteError error) = Unit {0}
 
--- an error is the refusal that was to come, or that an allocation failed
-pub refused_or_memory : (o : Option StunError) (error : StunError) (refusal : Refusal) (answer : Result (Unit {0}) Refusal) (P : Type 0) (Q : StunError → Type 0)
+-- what is looked for before a request is kept
+either : (b : Bool) (x y : Option StunError) → IfSome x IsNoMemory → IfSome y IsNoMemory → IfSome (if b then x else y) IsNoMemory
+either true x y p q = p
+either false x y p q = q
+
+parsed : (o : Option StunParseError) (x : Option StunError) → IfSome x IsNoMemory
+    → IfSome (option_map_or (λ error. Some (Error.ParseError error)) o x) IsNoMemory
+parsed None x p = p
+parsed (Some error) x p = tt
+
+pub refusals_are_no_memory : (a : Agent) (bytes : List ℕ) (to : SocketAddr) → IfSome (request_refusal a bytes to) IsNoMemory
+refusals_are_no_memory a bytes to =
+    let taken = either (is_some (at (transaction_id_field bytes) a.transactions)) (Some Error.AlreadyInProgress) None tt tt in
+    let sent = either (is_elsewhere a to) (Some Error.ProtocolViolation) _ tt taken in
+    parsed (header_refusal bytes) _ (either (is_request (class_in bytes)) _ (Some Error.ProtocolViolation) sent tt)
+
+-- a fact of the refusal for such an error
+of_parse : (error : StunParseError) (P Q : Type 0) → P → ForRefusal (refusal_of_parse error) P Q
+of_parse Parse.Truncated P Q p = p
+of_parse Parse.NotStun P Q p = p
+of_parse Parse.TooLarge P Q p = p
+of_parse (Parse.MissingAttribute _) P Q p = p
+of_parse Parse.InvalidAttributeData P Q p = p
+
+of_error : (error : StunError) (P Q : Type 0) → IsNoMemory error → P → ForRefusal (refusal_of_agent error) P Q
+of_error Error.AlreadyInProgress P Q n p = p
+of_error Error.ProtocolViolation P Q n p = p
+of_error Error.OutOfMemory P Q n p = absurd n
+of_error (Error.ParseError error) P Q n p = of_parse error P Q p
+of_error Error.ResourceNotFound P Q n p = p
+of_error Error.TimedOut P Q n p = p
+of_error Error.Aborted P Q n p = p
+of_error (Error.WriteError error) P Q n p = p
+
+-- an error is the refusal that was to come, or that an allocation failed where none was to come
+pub refused_or_memory : (o : Option StunError) (error : StunError) (refusal : Refusal) (answer : Result (Unit {0}) Refusal) (P R : Type 0) (Q : StunError → Type 0)
+    → IfSome o IsNoMemory
     → MatchOption o P Q → (P → error ≡ Error.OutOfMemory) → ((e : StunError) → Q e → error ≡ e) → refusal ≡ refusal_of_agent error
-    → (o ≡ Some error → Err refusal ≡ answer) → ForRefusal refusal (Err refusal ≡ answer) (Unit {0})
-refused_or_memory None error refusal answer P Q h memory some is then =
-    subst (λ r. ForRefusal r (Err r ≡ answer) (Unit {0})) (sym (is ∙ ap refusal_of_agent (memory h))) tt
-refused_or_memory (Some e) error refusal answer P Q h memory some is then =
-    of_each refusal (Err refusal ≡ answer) (then (ap Some (sym (some e h))))
+    → (o ≡ Some error → Err refusal ≡ answer) → (o ≡ None → R) → ForRefusal refusal (Err refusal ≡ answer) R
+refused_or_memory None error refusal answer P R Q fine h memory some is told none =
+    subst (λ r. ForRefusal r (Err r ≡ answer) R) (sym (is ∙ ap refusal_of_agent (memory h))) (none refl)
+refused_or_memory (Some e) error refusal answer P R Q fine h memory some is told none =
+    let same = some e h in
+    let shown = of_error e (Err refusal ≡ answer) R fine (told (ap Some (sym same))) in
+    subst (λ r. ForRefusal r (Err refusal ≡ answer) R) (sym (is ∙ ap refusal_of_agent same)) shown

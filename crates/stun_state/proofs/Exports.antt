@@ -12,41 +12,41 @@ pub some_is : {T : Type 0} (o : Option T) (x : T) (F : T → Type 0) → o ≡ S
 some_is o x F is f = subst (λ p. IfSome p F) (sym is) f
 
 -- the answer's number and what is left, unless the refusal is that an allocation failed
-unless_memory : {V S : Type 0} (number : Result V Refusal → ℤ) (refusal : Refusal) (expected : Result V Refusal) (told : ℤ) (before now after : S)
+unless_memory : {V S : Type 0} (Q : Type 0) (number : Result V Refusal → ℤ) (refusal : Refusal) (expected : Result V Refusal) (told : ℤ) (before now after : S)
     → number (Err OutOfMemory) ≡ code_of OutOfMemory → told ≡ number (Err refusal)
-    → ForRefusal refusal (Err refusal ≡ expected) (Unit {0}) → ForRefusal refusal (now ≡ after) (now ≡ before)
+    → ForRefusal refusal (Err refusal ≡ expected) Q → ForRefusal refusal (now ≡ after) (now ≡ before)
     → OrOutOfMemory told before now (number expected) after
-unless_memory number Truncated expected told before now after memory is p q = inl (is ∙ ap number p, q)
-unless_memory number NotStun expected told before now after memory is p q = inl (is ∙ ap number p, q)
-unless_memory number TooLarge expected told before now after memory is p q = inl (is ∙ ap number p, q)
-unless_memory number IntegrityFailed expected told before now after memory is p q = inl (is ∙ ap number p, q)
-unless_memory number BadArgument expected told before now after memory is p q = inl (is ∙ ap number p, q)
-unless_memory number NotText expected told before now after memory is p q = inl (is ∙ ap number p, q)
-unless_memory number TextTooLong expected told before now after memory is p q = inl (is ∙ ap number p, q)
-unless_memory number BufferTooSmall expected told before now after memory is p q = inl (is ∙ ap number p, q)
-unless_memory number NotAllowed expected told before now after memory is p q = inl (is ∙ ap number p, q)
-unless_memory number Closed expected told before now after memory is p q = inl (is ∙ ap number p, q)
-unless_memory number AttributeExists expected told before now after memory is p q = inl (is ∙ ap number p, q)
-unless_memory number MessageTooLong expected told before now after memory is p q = inl (is ∙ ap number p, q)
-unless_memory number MissingAttribute expected told before now after memory is p q = inl (is ∙ ap number p, q)
-unless_memory number MalformedAttribute expected told before now after memory is p q = inl (is ∙ ap number p, q)
-unless_memory number OutOfMemory expected told before now after memory is p q = inr (is ∙ memory, q)
-unless_memory number EmptyHandle expected told before now after memory is p q = inl (is ∙ ap number p, q)
-unless_memory number FullHandle expected told before now after memory is p q = inl (is ∙ ap number p, q)
-unless_memory number AlreadyInProgress expected told before now after memory is p q = inl (is ∙ ap number p, q)
-unless_memory number ProtocolViolation expected told before now after memory is p q = inl (is ∙ ap number p, q)
-unless_memory number Unauthorized expected told before now after memory is p q = inl (is ∙ ap number p, q)
-unless_memory number BadRequest expected told before now after memory is p q = inl (is ∙ ap number p, q)
-unless_memory number StaleNonce expected told before now after memory is p q = inl (is ∙ ap number p, q)
-unless_memory number UnsupportedFeature expected told before now after memory is p q = inl (is ∙ ap number p, q)
+unless_memory Q number Truncated expected told before now after memory is p q = inl (is ∙ ap number p, q)
+unless_memory Q number NotStun expected told before now after memory is p q = inl (is ∙ ap number p, q)
+unless_memory Q number TooLarge expected told before now after memory is p q = inl (is ∙ ap number p, q)
+unless_memory Q number IntegrityFailed expected told before now after memory is p q = inl (is ∙ ap number p, q)
+unless_memory Q number BadArgument expected told before now after memory is p q = inl (is ∙ ap number p, q)
+unless_memory Q number NotText expected told before now after memory is p q = inl (is ∙ ap number p, q)
+unless_memory Q number TextTooLong expected told before now after memory is p q = inl (is ∙ ap number p, q)
+unless_memory Q number BufferTooSmall expected told before now after memory is p q = inl (is ∙ ap number p, q)
+unless_memory Q number NotAllowed expected told before now after memory is p q = inl (is ∙ ap number p, q)
+unless_memory Q number Closed expected told before now after memory is p q = inl (is ∙ ap number p, q)
+unless_memory Q number AttributeExists expected told before now after memory is p q = inl (is ∙ ap number p, q)
+unless_memory Q number MessageTooLong expected told before now after memory is p q = inl (is ∙ ap number p, q)
+unless_memory Q number MissingAttribute expected told before now after memory is p q = inl (is ∙ ap number p, q)
+unless_memory Q number MalformedAttribute expected told before now after memory is p q = inl (is ∙ ap number p, q)
+unless_memory Q number OutOfMemory expected told before now after memory is p q = inr (is ∙ memory, q)
+unless_memory Q number EmptyHandle expected told before now after memory is p q = inl (is ∙ ap number p, q)
+unless_memory Q number FullHandle expected told before now after memory is p q = inl (is ∙ ap number p, q)
+unless_memory Q number AlreadyInProgress expected told before now after memory is p q = inl (is ∙ ap number p, q)
+unless_memory Q number ProtocolViolation expected told before now after memory is p q = inl (is ∙ ap number p, q)
+unless_memory Q number Unauthorized expected told before now after memory is p q = inl (is ∙ ap number p, q)
+unless_memory Q number BadRequest expected told before now after memory is p q = inl (is ∙ ap number p, q)
+unless_memory Q number StaleNonce expected told before now after memory is p q = inl (is ∙ ap number p, q)
+unless_memory Q number UnsupportedFeature expected told before now after memory is p q = inl (is ∙ ap number p, q)
 
-pub or_memory : {V S : Type 0} (number : Result V Refusal → ℤ) (answer expected : Result V Refusal) (told : ℤ) (before now after : S)
+pub or_memory : {V S : Type 0} (Q : Type 0) (number : Result V Refusal → ℤ) (answer expected : Result V Refusal) (told : ℤ) (before now after : S)
     → number (Err OutOfMemory) ≡ code_of OutOfMemory → told ≡ number answer
-    → OrMemory answer (answer ≡ expected) (Unit {0}) → OrMemory answer (now ≡ after) (now ≡ before)
+    → OrMemory answer (answer ≡ expected) Q → OrMemory answer (now ≡ after) (now ≡ before)
     → OrOutOfMemory told before now (number expected) after
-or_memory number (Ok value) expected told before now after memory is p q = inl (is ∙ ap number p, q)
-or_memory number (Err refusal) expected told before now after memory is p q =
-    unless_memory number refusal expected told before now after memory is p q
+or_memory Q number (Ok value) expected told before now after memory is p q = inl (is ∙ ap number p, q)
+or_memory Q number (Err refusal) expected told before now after memory is p q =
+    unless_memory Q number refusal expected told before now after memory is p q
 
 -- no length is below zero, and each refusal's number is
 not_below : (n : ℕ) → int_lt (pos n) (pos 0) ≡ false

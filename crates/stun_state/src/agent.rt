@@ -9,7 +9,7 @@ ghost use Rattle.stun_agent.specs.Transactions.{cancelled, configured, silenced}
 ghost use Rattle.stun_state.specs.Addresses.{socket_address};
 ghost use Rattle.stun_state.specs.Agent.{bytes_told, found, handled, id_in, id_told, kept_after_naming, known, made, made_with, moment_told, nanoseconds, peer_found, polled, refusal_of_agent, requested, sent, sent_again, sent_to, settings_of, told, told_of, transport_numbered, with_changed};
 ghost use Rattle.stun_state.specs.Answers.{OrMemory, at_address, done_if_given};
-ghost use Rattle.stun_state.specs.Memory.{message_adds_none, naming_adds_none};
+ghost use Rattle.stun_state.specs.Memory.{IsRequestTaken, message_adds_none, naming_adds_none};
 
 use crate::address::Address;
 use crate::codes::Refusal;
@@ -150,7 +150,8 @@ pub fn send_request(
     now: u64,
 ) -> Result<(), Refusal>
     ensures answer { OrMemory result
-        (result ≡ at_address (socket_address to.now) (requested agent.old message.now)) ⊤ }
+        (result ≡ at_address (socket_address to.now) (requested agent.old message.now))
+        (IsRequestTaken agent.old message.now (socket_address to.now)) }
     ensures ok { OnOk result (IfSome (socket_address to.now)
         (λ to. agent.new ≡ after_send_request agent.old message.now to now)) }
     ensures err { OnErr result (agent.new ≡ agent.old) }

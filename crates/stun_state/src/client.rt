@@ -6,7 +6,7 @@ ghost use Rattle.stun_auth.specs.ClientStep.{IsResend};
 ghost use Rattle.stun_state.specs.Answers.{ForRefusal, OrMemory, done_if_given, texts_refusal};
 ghost use Rattle.stun_state.specs.Client.{after_validating, step, validated, validation_answer, with_algorithms, with_credentials, with_feature};
 ghost use Rattle.stun_state.specs.Codes.{algorithms_numbered, feature_numbered};
-ghost use Rattle.stun_state.specs.Memory.{AsksAgain};
+ghost use Rattle.stun_state.specs.Memory.{AsksAgain, MayBeSigned};
 ghost use Rattle.stun_state.specs.Signing.{buffer_after, client_signs, length_of, signed_by_client};
 
 use crate::codes::{Refusal, feature_numbered};
@@ -87,7 +87,8 @@ pub fn sign(
     length: usize,
 ) -> Result<usize, Refusal>
     ensures answer { OrMemory result (result ≡ length_of
-        (signed_by_client client.old.state buffer.old length)) ⊤ }
+        (signed_by_client client.old.state buffer.old length))
+        (MayBeSigned buffer.old length) }
     ensures written { OrMemory result
         (buffer.new ≡ buffer_after (signed_by_client client.old.state buffer.old length) buffer.old)
         (buffer.new ≡ buffer.old) }

@@ -17,7 +17,7 @@ ghost use Rattle.stun_auth.specs.Validation.{new_server};
 ghost use Rattle.stun_state.specs.Client as on_client;
 ghost use Rattle.stun_state.specs.Client.{after_validating, validated, with_credentials};
 ghost use Rattle.stun_state.specs.Codes.{algorithms_numbered, code_of, feature_numbered};
-ghost use Rattle.stun_state.specs.Memory.{AsksAgain, LeavesServer, message_adds_none, naming_adds_none};
+ghost use Rattle.stun_state.specs.Memory.{AsksAgain, IsRequestTaken, LeavesServer, MayBeSigned, MayBeSignedFor, message_adds_none, naming_adds_none};
 ghost use Rattle.stun_state.specs.Numbers.{IsOrOutOfMemory, OrOutOfMemory, client_answer, done_answer, left_by, length_answer, length_told, number_answer, reading_answer};
 ghost use Rattle.stun_state.specs.Server as on_server;
 ghost use Rattle.stun_state.specs.Server.{client_at, client_found, kept_after_validating, name_written, validation_number, with_expiry, without_client, without_named};
@@ -127,6 +127,11 @@ pub extern "C" fn stun_agent_send_request(
       agent = left_by result kept.agent
           (kept_after_request kept.agent message.now to.now now);
     })) }
+
+    // A failed allocation is answered only where the request would be taken.
+    ensures taken { IfSome handle.old.agent (λ kept. (result ≡ done_answer
+        (at_address (socket_address to.now) (requested kept.agent message.now)))
+        ⊎ IsRequestTaken kept.agent message.now (socket_address to.now)) }
 {
     let Some(mut kept) = handle.take(alloc) else {
         return Refusal::EmptyHandle.code();
@@ -700,6 +705,11 @@ pub extern "C" fn stun_server_sign(
       server = left_by result kept.server
           (kept_after_signing kept.server buffer.old length to.now);
     })) }
+
+    // A failed allocation is answered only where the buffer has room for the signed message.
+    ensures room { IfSome handle.old.server (λ kept. (result
+        ≡ length_answer (length_of (signed_for kept.server buffer.old length to.now)))
+        ⊎ MayBeSignedFor kept.server buffer.old length (socket_address to.now)) }
 {
     let Some(mut kept) = handle.take(alloc) else {
         return Refusal::EmptyHandle.code();
@@ -824,6 +834,11 @@ pub extern "C" fn stun_client_sign(
         buffer.old buffer.new
         (length_answer (length_of (signed_by_client kept.client.state buffer.old length)))
         (buffer_after (signed_by_client kept.client.state buffer.old length) buffer.old)) }
+
+    // A failed allocation is answered only for a message to which an attribute can be added.
+    ensures begins { IfSome handle.old.client (λ kept. (result
+        ≡ length_answer (length_of (signed_by_client kept.client.state buffer.old length)))
+        ⊎ MayBeSigned buffer.old length) }
     ensures same { handle.new.client ≡ handle.old.client }
 {
     let Some(mut kept) = handle.take(alloc) else {

@@ -10,7 +10,7 @@ ghost use Rattle.stun_auth.specs.Validation.{ChangesNothing, after_message, answ
 ghost use Rattle.stun_state.specs.Addresses.{socket_address};
 ghost use Rattle.stun_state.specs.Answers.{ForRefusal, OrMemory, after_address, at_address, done_if_given, text_refusal, texts_refusal};
 ghost use Rattle.stun_state.specs.Codes.{algorithms_numbered, feature_numbered};
-ghost use Rattle.stun_state.specs.Memory.{LeavesServer};
+ghost use Rattle.stun_state.specs.Memory.{LeavesServer, MayBeSignedFor};
 ghost use Rattle.stun_state.specs.Signing.{buffer_after, is_too_long, length_of, server_signs, signed_by_server};
 ghost use Rattle.stun_state.specs.Server.{after_validating, client_at, client_told, name_written, validated, validation_answer, with_algorithms, with_expiry, with_feature, without_client, without_named};
 
@@ -180,7 +180,8 @@ pub fn sign(
 ) -> Result<usize, Refusal>
     ensures answer { OrMemory result
         (result ≡ length_of (at_address (socket_address to.now)
-        (signed_by_server server.old buffer.old length))) ⊤ }
+        (signed_by_server server.old buffer.old length)))
+        (MayBeSignedFor server.old buffer.old length (socket_address to.now)) }
     ensures written { OrMemory result
         (buffer.new ≡ buffer_after (at_address (socket_address to.now)
         (signed_by_server server.old buffer.old length)) buffer.old)
@@ -235,7 +236,9 @@ fn sign_message(
         ≡ Ok signed.items) }
     ensures fits { IfOk result (λ signed. length signed.items ≤ room) }
     ensures err { IfErr result (λ refusal. ForRefusal refusal
-        (server_signs server.old message.now room to ≡ Err refusal) ⊤) }
+        (server_signs server.old message.now room to ≡ Err refusal)
+        (length message.now + server_growth (sight server.old to)
+        (is_response (class_in message.now)) ≤ room)) }
     ensures state { OnOk result (server.new ≡ after_signing server.old to
         (is_response (class_in message.now))) }
     ensures refused { OnErr result (server.new ≡ server.old) }

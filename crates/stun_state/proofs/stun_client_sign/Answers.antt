@@ -1,5 +1,6 @@
 -- The number and the buffer are those of the signing, or an allocation failed.
 use Rattle.std.proofs.Common.{rules, ◌≡◌, refl, Some, to_z, of_z, w64}
+use Rattle.stun_state.specs.Memory.{MayBeSigned}
 use Rattle.stun_state.specs.Numbers.{length_answer}
 use Rattle.stun_state.specs.Signing.{buffer_after, length_of, signed_by_client}
 use Rattle.stun_state.proofs.Exports.{or_memory, some_is}
@@ -13,4 +14,4 @@ returns-clause-answer c =
     let kept : c.args.handle.now.client ≡ Some before = search rules in
     let told : to_z w64 (of_z w64 c.length-answer.result) ≡ length_answer c.sign.result = search rules in
     some_is _ before _ kept
-    (or_memory length_answer c.sign.result (length_of signed) _ buffer c.sign.new.buffer (buffer_after signed buffer) refl told c.sign.ensures.answer c.sign.ensures.written)
+    (or_memory (MayBeSigned buffer c.args.length) length_answer c.sign.result (length_of signed) _ buffer c.sign.new.buffer (buffer_after signed buffer) refl told c.sign.ensures.answer c.sign.ensures.written)

@@ -8,6 +8,7 @@ use Rattle.stun_agent.specs.code.Transactions.{Outstanding, contents}
 use Rattle.stun_agent.proofs.FirstLemmas.{first_is_due, sends_first, first_fits, first_refused, passes_first, keeps_first}
 use Rattle.stun_agent.proofs.LentLemmas.{none_next, none_passes}
 use Rattle.stun_agent.proofs.IndexedLemmas.{indexed_slots}
+use Rattle.stun_agent.proofs.NamedLemmas.{named-found}
 use Rattle.stun_agent.proofs.outstanding.Outstanding.pass_due_slots_within.Goals as goal
 
 pub returns-then-not-has_come-clause-sent : goal.returns-then-not-has_come-clause-sent
@@ -29,6 +30,11 @@ returns-then-not-has_come-clause-after g c =
     let passes = none_passes _ c.args.now _ _ kept.ascending kept.index late in
     rw (none_next _ c.args.now _ _ kept.ascending kept.index late)
     (ap (λ all. record { transport = c.args.self.now.transport; requests = all }) passes)
+
+pub returns-then-not-has_come-clause-request : goal.returns-then-not-has_come-clause-request
+returns-then-not-has_come-clause-request g c =
+    let kept = subst (λ (o : Outstanding). AreIndexed o.transport o.requests c.self.inside.deadlines) c.self.view_is c.self.invariant in
+    named-found _ c.args.self.now.requests kept.named
 
 pub returns-then-room-length-clause-refused : goal.returns-then-room-length-clause-refused
 returns-then-room-length-clause-refused g c =
@@ -63,6 +69,9 @@ returns-clause-after g c =
       transport = o.transport;
       requests = after_slots o.transport c.args.now (option_map (λ (e : ℕ × Transaction). e.0) (next_sent o.transport c.args.now o.requests)) o.requests;
     }) c.self.view_is (ap (λ all. record { transport = c.self.inside.transport; requests = all }) after)
+
+pub returns-clause-request : goal.returns-clause-request
+returns-clause-request g c = rw (← c.self.view_is) (named-found _ c.self.inside.requests.entries c.self.invariant.named)
 
 pub returns-clause-kept : goal.returns-clause-kept
 returns-clause-kept g c =

@@ -1,4 +1,4 @@
-//! An allocator for tests, which refuses one allocation of the test's choice, and counts what is allocated and given back, and its bytes.
+//! An allocator for tests, which refuses one allocation of the test's choice, and counts what is allocated and given back.
 #![tactic(auto)]
 
 use std::alloc::{AllocError, Allocator};
@@ -23,8 +23,6 @@ struct Counts {
     until_refusal: u64,
     allocations: u64,
     deallocations: u64,
-    /// The bytes of these allocations, in all.
-    bytes: u64,
 }
 
 impl<B: Allocator> RefusingAllocator<B> {
@@ -36,7 +34,6 @@ impl<B: Allocator> RefusingAllocator<B> {
                 until_refusal: 0,
                 allocations: 0,
                 deallocations: 0,
-                bytes: 0,
             }),
         }
     }
@@ -48,7 +45,6 @@ impl<B: Allocator> RefusingAllocator<B> {
             until_refusal: nth,
             allocations: counts.allocations,
             deallocations: counts.deallocations,
-            bytes: counts.bytes,
         });
     }
 
@@ -67,11 +63,6 @@ impl<B: Allocator> RefusingAllocator<B> {
     /// How many allocations were asked for and not refused.
     pub fn allocations(&self) -> u64 {
         self.counts.get().allocations
-    }
-
-    /// How many bytes were asked for and not refused, those that were given back since with them.
-    pub fn bytes(&self) -> u64 {
-        self.counts.get().bytes
     }
 
     /// Makes a run for each number from 1 on, until one answers that it met no refusal. The first is to meet one.
@@ -112,16 +103,14 @@ impl<B: Allocator> Drop for RefusingAllocator<B> {
     }
 }
 
-// Counts one allocation of so many bytes, and says whether it is the one to refuse.
-fn refuses(counts: &Cell<Counts>, size: usize) -> bool {
+// Counts one allocation, and says whether it is the one to refuse.
+fn refuses(counts: &Cell<Counts>) -> bool {
     let before = counts.get();
     let is_refused = before.until_refusal == 1;
-    let size = if is_refused { 0 } else { size as u64 };
     counts.set(Counts {
         until_refusal: before.until_refusal.saturating_sub(1),
         allocations: before.allocations.saturating_add(u64::from(!is_refused)),
         deallocations: before.deallocations,
-        bytes: before.bytes.saturating_add(size),
     });
     is_refused
 }
@@ -133,7 +122,6 @@ fn count_return(counts: &Cell<Counts>) {
         until_refusal: before.until_refusal,
         allocations: before.allocations,
         deallocations: before.deallocations.saturating_add(1),
-        bytes: before.bytes,
     });
 }
 
@@ -141,7 +129,7 @@ unsafe impl<B: Allocator> Allocator for RefusingAllocator<B> {
     ghost dealloc_token = { λ heap ty ptr. B.dealloc_token heap.inner ty ptr };
 
     fn allocate(&self, size: usize, align: usize) -> Result<*mut u8, AllocError> {
-        if refuses(&self.counts, size) {
+        if refuses(&self.counts) {
             return Err(AllocError);
         }
         self.inner.allocate(size, align)

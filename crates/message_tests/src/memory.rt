@@ -40,12 +40,12 @@ fn keys(rt: HostRuntime) -> Result<(), Fail> {
     assert!(rt; !heap.is_waiting());
     let key = IntegrityKey::from_bytes(&heap, &LONG_KEY)?;
     assert_eq!(rt; key.as_bytes(), LONG_KEY.as_slice());
-    assert_eq!(rt; (heap.allocations(), heap.live(), heap.bytes()), (1, 1, 33));
+    assert_eq!(rt; (heap.allocations(), heap.live()), (1, 1));
     heap.refuse(1);
     assert!(rt; key.clone().is_err());
     assert_eq!(rt; key.as_bytes(), LONG_KEY.as_slice());
     assert_eq!(rt; key.clone()?.as_bytes(), LONG_KEY.as_slice());
-    assert_eq!(rt; (heap.allocations(), heap.live(), heap.bytes()), (2, 1, 66));
+    assert_eq!(rt; (heap.allocations(), heap.live()), (2, 1));
     Ok(())
 }
 

@@ -162,12 +162,10 @@ fn owns(rt: &impl Abort, heap: &Heap, nth: u64) -> Result<bool, Fail> {
     heap.refuse(nth);
     let answer = lent.into_owned(heap);
     let met_none = heap.met_none();
-    match answer {
-        Ok(owned) => {
-            assert_eq!(rt; owned.data.bytes(), bytes.as_slice());
-            assert_eq!(rt; owned.to, peer());
-        }
-        Err(_) => assert!(rt; !met_none),
+    assert_eq!(rt; answer.is_ok(), met_none);
+    if let Ok(owned) = answer {
+        assert_eq!(rt; owned.data.bytes(), bytes.as_slice());
+        assert_eq!(rt; owned.to, peer());
     }
     Ok(met_none)
 }

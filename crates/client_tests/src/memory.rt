@@ -4,7 +4,7 @@ use fail_alloc::RefusingAllocator;
 use std::alloc::Global;
 use std::process::Abort;
 use std::test::Fail;
-use stun_auth::auth::{Feature, LongTermClientAuth};
+use stun_auth::auth::{Feature, LongTermClientAuth, ShortTermAuth};
 use stun_types::attribute::PasswordAlgorithmValue;
 use stun_types::message::{
     IntegrityAlgorithm, LongTermCredentials, MessageClass, MessageWriteMutSlice, MessageWriteVec,
@@ -212,8 +212,9 @@ fn change_settings(client: &mut LongTermClientAuth<&Heap>) {
 #[test]
 fn settings_take_no_memory(rt: HostRuntime) -> Result<(), Fail> {
     let heap = RefusingAllocator::new(rt.alloc());
-    let mut client = LongTermClientAuth::new(&heap);
     heap.refuse(1);
+    let _auth = ShortTermAuth::new(&heap);
+    let mut client = LongTermClientAuth::new(&heap);
     change_settings(&mut client);
     assert!(rt; heap.is_waiting());
     Ok(())

@@ -91,9 +91,9 @@ fn copies_user(rt: &impl Abort, heap: &Heap, nth: u64) -> Result<bool, Fail> {
     let answer: Result<_, _> = user.clone();
     let met_none = heap.met_none();
     assert_eq!(rt; (user.username(), user.password()), ("user", "pass"));
-    match answer {
-        Ok(copy) => assert_eq!(rt; (copy.username(), copy.password()), ("user", "pass")),
-        Err(_) => assert!(rt; !met_none),
+    assert_eq!(rt; answer.is_ok(), met_none);
+    if let Ok(copy) = answer {
+        assert_eq!(rt; (copy.username(), copy.password()), ("user", "pass"));
     }
     Ok(met_none)
 }
@@ -112,12 +112,10 @@ fn settles_user(rt: &impl Abort, heap: &Heap, nth: u64) -> Result<bool, Fail> {
     let answer = user.to_key(realm);
     let met_none = heap.met_none();
     assert_eq!(rt; (user.username(), user.password()), ("user", "pass"));
-    match answer {
-        Ok(key) => {
-            let texts = (key.username(), key.realm(), key.password());
-            assert_eq!(rt; texts, ("user", "realm", "pass"));
-        }
-        Err(_) => assert!(rt; !met_none),
+    assert_eq!(rt; answer.is_ok(), met_none);
+    if let Ok(key) = answer {
+        let texts = (key.username(), key.realm(), key.password());
+        assert_eq!(rt; texts, ("user", "realm", "pass"));
     }
     Ok(met_none)
 }
@@ -139,12 +137,10 @@ fn copies_user_at_realm(rt: &impl Abort, heap: &Heap, nth: u64) -> Result<bool, 
     let answer: Result<_, _> = user.clone();
     let met_none = heap.met_none();
     assert_eq!(rt; user.realm(), "realm");
-    match answer {
-        Ok(copy) => {
-            let texts = (copy.username(), copy.realm(), copy.password());
-            assert_eq!(rt; texts, ("user", "realm", "pass"));
-        }
-        Err(_) => assert!(rt; !met_none),
+    assert_eq!(rt; answer.is_ok(), met_none);
+    if let Ok(copy) = answer {
+        let texts = (copy.username(), copy.realm(), copy.password());
+        assert_eq!(rt; texts, ("user", "realm", "pass"));
     }
     Ok(met_none)
 }
@@ -187,9 +183,9 @@ fn owns(rt: &impl Abort, heap: &Heap, nth: u64) -> Result<bool, Fail> {
     heap.refuse(nth);
     let answer = owned(heap, &LONG_KEY);
     let met_none = heap.met_none();
-    match answer {
-        Ok(data) => assert_eq!(rt; data.bytes(), LONG_KEY.as_slice()),
-        Err(_) => assert!(rt; !met_none),
+    assert_eq!(rt; answer.is_ok(), met_none);
+    if let Ok(data) = answer {
+        assert_eq!(rt; data.bytes(), LONG_KEY.as_slice());
     }
     Ok(met_none)
 }
@@ -230,18 +226,15 @@ fn expect_written(
     written: &[u8],
     length: usize,
 ) -> bool {
-    let is_last = heap.met_none();
-    match answer {
-        Ok(()) => {
-            assert_eq!(rt; written.len(), length);
-        }
-        Err(error) => {
-            assert_eq!(rt; error, StunWriteError::OutOfMemory);
-            assert_eq!(rt; written, HEADER.as_slice());
-            assert!(rt; !is_last);
-        }
+    let met_none = heap.met_none();
+    if met_none {
+        assert_eq!(rt; answer, Ok(()));
+        assert_eq!(rt; written.len(), length);
+    } else {
+        assert_eq!(rt; answer, Err(StunWriteError::OutOfMemory));
+        assert_eq!(rt; written, HEADER.as_slice());
     }
-    is_last
+    met_none
 }
 
 /// A header that is written or not.
@@ -249,12 +242,10 @@ fn begins(rt: &impl Abort, heap: &Heap, nth: u64) -> Result<bool, Fail> {
     heap.refuse(nth);
     let answer = begin(MessageWriteVec::new(heap));
     let met_none = heap.met_none();
+    assert_eq!(rt; answer.is_ok(), met_none);
     match answer {
         Ok(writer) => assert_eq!(rt; writer.data(), HEADER.as_slice()),
-        Err(error) => {
-            assert_eq!(rt; error, StunWriteError::OutOfMemory);
-            assert!(rt; !met_none);
-        }
+        Err(error) => assert_eq!(rt; error, StunWriteError::OutOfMemory),
     }
     Ok(met_none)
 }
@@ -338,13 +329,14 @@ fn signing_unchecked(rt: HostRuntime) -> Result<(), Fail> {
     heap.each_refusal(|nth| signs_unchecked(&rt, &heap, nth))
 }
 
-/// Writing and signing into a slice takes none, whatever the credentials, nor does validation.
+/// A new writer takes none, and writing and signing into a slice takes none, whatever the credentials, nor does validation.
 #[test]
 fn a_slice(rt: HostRuntime) -> Result<(), Fail> {
     let heap = RefusingAllocator::new(rt.alloc());
     let credentials = MessageIntegrityCredentials::from(user_at_realm(&heap)?);
     let mut room = [0; 64];
     heap.refuse(1);
+    let _empty = MessageWriteVec::new(&heap);
     let mut writer = begin(MessageWriteMutSlice::new(&mut room))?;
     writer.add_attribute(&Username::new("a:b")?)?;
     writer.add_message_integrity(&credentials, IntegrityAlgorithm::Sha256)?;

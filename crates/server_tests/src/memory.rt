@@ -322,8 +322,10 @@ fn settings_and_responses_take_no_memory(rt: HostRuntime) -> Result<(), Fail> {
     let heap = RefusingAllocator::new(rt.alloc());
     let mut server = offering_server(rt.alloc(), &heap)?;
     let bytes = message(rt.alloc(), MessageClass::Success, &[])?;
+    let realm = String::from_str(&heap, "realm")?;
     let mut room = [0; 80];
     heap.refuse(1);
+    let _new = LongTermServerAuth::new(&heap, realm);
     server.set_supported_integrity(IntegrityAlgorithm::Sha1);
     server.add_supported_integrity(IntegrityAlgorithm::Sha256);
     server.set_anonymous_username(Feature::Disabled)?;

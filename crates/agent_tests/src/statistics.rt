@@ -146,6 +146,22 @@ fn the_longest_round_trips(rt: HostRuntime) -> Result<(), Fail> {
     expect_trips(&rt, &agent, 2, [u64::MAX; 3])
 }
 
+/// Each counter of messages is above 0 before.
+#[test]
+fn reset_forgets_messages(rt: HostRuntime) -> Result<(), Fail> {
+    let mut agent = counting_agent(rt.alloc(), UDP);
+    ask(&mut agent, 1, at(0))?;
+    assert!(rt; takes(&mut agent, &bad_request(1), at(0))?);
+    let _indication = agent.send(message(INDICATION, 2), peer(), at(0))?;
+    assert!(rt; takes(&mut agent, &message(INDICATION, 3), at(0))?);
+    assert!(rt; takes(&mut agent, &message(REQUEST, 4), at(0))?);
+    let _success = agent.send(message(SUCCESS, 4), peer(), at(0))?;
+    assert_eq!(rt; messages(&agent)?, [1, 1, 1, 1, 1, 1]);
+    agent.stats_mut().ok_or("they are kept")?.reset();
+    assert!(rt; statistics(&agent)? == &StunAgentStats::default());
+    Ok(())
+}
+
 #[test]
 fn reset_forgets_what_is_outstanding(rt: HostRuntime) -> Result<(), Fail> {
     let mut agent = counting_agent(rt.alloc(), UDP);

@@ -258,7 +258,7 @@ module _ (id : ℕ) where
       skipped false other = ap (λ c. cond c (Cancelled now e.0 ∷ steps_of_id more) (steps_of_id more)) (ne_eqb id e.0 other)
 
   -- ---- a turn, the turns, and a run
-  turn_said : (now : ℕ) {phase : Phase} {a b : Agent} {steps : List Step} (more : List Step) → Turn now phase a steps b → IsAscending a.transactions → Said b more → Said a (steps ++ more)
+  pub turn_said : (now : ℕ) {phase : Phase} {a b : Agent} {steps : List Step} (more : List Step) → Turn now phase a steps b → IsAscending a.transactions → Said b more → Said a (steps ++ more)
   turn_said now {a = a} more (sends e f t) s rest = said_sent now a e _ s f (turn_said now more t (transmit_ascends now a s) rest)
   turn_said now {a = a} more (rests f t) s rest =
       let r = turn_said now more t (transmit_ascends now a s) rest in

@@ -1,6 +1,7 @@
 -- After one error of code 438 a request is accepted under the new nonce.
 use Rattle.std.proofs.Common.{◌≡◌, ℕ, List, Option, Some, None, Bool, true, false, refl, sym, ◌∙◌, ap, subst, Ok, Err}
 use Rattle.std.specs.Prelude.{cond, not, ◌&&◌, IsUtf8}
+use Rattle.std.specs.Option.{is_none}
 use Rattle.std.specs.Str.{bytes_eq}
 use Rattle.std.specs.declared.result.Result.{Result}
 use Rattle.std.proofs.lemmas.Bool.{le-leb}
@@ -71,14 +72,14 @@ module _ (say : NoncesAsk) (found : SignedIsRead) (m : Renewal) (who : NameAndPa
 
   -- the place with the new nonce, whoever is known there, and what the address then can tell
   abbrev anew : Option ClientSeen → PlaceSeen
-  anew known = place_of users server.feature server.expiry m.from fresh end known
+  anew known = place_of users server.feature server.expiry m.from fresh end m.may_be_removed known
 
   abbrev seen : Option PlaceSeen → Sight
   seen place = record { registered = users; feature = server.feature; expiry = server.expiry; place = place }
 
   -- the new nonce stands at the address
   abbrev StandsAnew : ServerSeen → Type 0
-  StandsAnew s = Stands users server.feature server.expiry m.from fresh end s
+  StandsAnew s = Stands users server.feature server.expiry m.from fresh end m.may_be_removed s
 
   abbrev matches : Matches users server.feature p c who
   matches = old.joined.matches
@@ -87,10 +88,10 @@ module _ (say : NoncesAsk) (found : SignedIsRead) (m : Renewal) (who : NameAndPa
   client = record { name = who.username; algorithm = c.algorithm }
 
   -- ---- the request under the old nonce
-  first_keeps : Keeps users server.feature server.expiry p.expires m.from (at_first m server)
+  first_keeps : Keeps users server.feature server.expiry p.expires m.may_be_removed m.from (at_first m server)
   first_keeps =
-      calls_keep users server.feature server.expiry p.expires m.from m.before_first server old.calls_before_first
-      (p, ap (λ o. seen o) old.joined.place, record { words = matches.made.0; nonce = matches.made.1; offered = matches.offered; lasts = λ now below last. below })
+      calls_keep users server.feature server.expiry p.expires m.may_be_removed m.from m.before_first server old.calls_before_first
+      (p, ap (λ o. seen o) old.joined.place, record { words = matches.made.0; nonce = matches.made.1; offered = matches.offered; lasts = λ now below last. below; has_client = λ never. ap is_none old.joined.client })
 
   -- the place just before it, and at it
   abbrev old_place : PlaceSeen
@@ -108,8 +109,8 @@ module _ (say : NoncesAsk) (found : SignedIsRead) (m : Renewal) (who : NameAndPa
   first_sees : first_sight ≡ seen (Some old_place)
   first_sees = first_keeps.1
 
-  first_kept : IsKept users server.feature p.expires first_place
-  first_kept = standing_kept users server.feature server.expiry p.expires old_place first_keeps.2 m.first.now m.first.words
+  first_kept : IsKept users server.feature p.expires m.may_be_removed first_place
+  first_kept = standing_kept users server.feature server.expiry p.expires m.may_be_removed old_place first_keeps.2 m.first.now m.first.words
 
   fresh_is : fresh ≡ first_place.nonce
   fresh_is = ap (λ (v : Sight). (standing v m.first.now m.first.words).nonce) first_sees
@@ -194,16 +195,17 @@ module _ (say : NoncesAsk) (found : SignedIsRead) (m : Renewal) (who : NameAndPa
         sight-after_message (at_first m server) m.from m.first.now m.first.words first_read
             ∙ ap (λ (v : Sight). record v { place = place_after first_sight m.first.now m.first.words first_read }) first_sees
             ∙ ap seen (first_served (Err stale_nonce) (judged_other differs)).1,
+        first_kept.has_client,
       )
 
       error_stands : StandsAnew (at_error m server asking)
       error_stands =
-          calls_leave users server.feature server.expiry m.from fresh end m.before_error (after_request m m.first (at_first m server) asking) old.calls_before_error first_stands
+          calls_leave users server.feature server.expiry m.from fresh end m.may_be_removed m.before_error (after_request m m.first (at_first m server) asking) old.calls_before_error first_stands
 
       second_stands : StandsAnew (at_second m server asking)
       second_stands =
-          calls_leave users server.feature server.expiry m.from fresh end m.before_second (after_signing (at_error m server asking) m.from true) old.calls_before_second
-          (signing_leaves users server.feature server.expiry m.from fresh end (at_error m server asking) error_stands)
+          calls_leave users server.feature server.expiry m.from fresh end m.may_be_removed m.before_second (after_signing (at_error m server asking) m.from true) old.calls_before_second
+          (signing_leaves users server.feature server.expiry m.from fresh end m.may_be_removed (at_error m server asking) error_stands)
 
       -- ---- the client's new challenge
       abbrev again : Challenge
@@ -229,7 +231,7 @@ module _ (say : NoncesAsk) (found : SignedIsRead) (m : Renewal) (who : NameAndPa
           let reads_again = found.any_request (authenticated again) again users.algorithms matches.naming.0 who.username users.realm next refl matches.algorithms matches.naming.1
           texts.realm fresh_text texts.username (subst (λ state. IsAsked state next) (told_so telling is) asked_again) in
           let served = protected (seen (Some (anew known))) m.second.now m.second.words r (anew known)
-          (standing_in_time users server.feature server.expiry m.from fresh end known m.second.now m.second.words (le-leb m.second.now end old.in_time)) reads_again.response (Ok client) reads_again.protected
+          (standing_in_time users server.feature server.expiry m.from fresh end m.may_be_removed known m.second.now m.second.words (le-leb m.second.now end old.in_time)) reads_again.response (Ok client) reads_again.protected
           (complete say users server.feature (anew known) again who matches_again r reads_again)
           (matched_verdict say users server.feature (anew known) again who matches_again r reads_again) in
           let left = sight-after_message at m.from m.second.now m.second.words r

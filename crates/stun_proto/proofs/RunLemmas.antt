@@ -20,12 +20,12 @@ use Rattle.stun_agent.specs.declared.error.StunError.{StunError}
 use Rattle.stun_proto.specs.declared.replay.event.AgentEvent.{AgentEvent}
 use Rattle.stun_proto.specs.declared.replay.event.AgentEvent.TheVariants.{Send, SendRequest, Receive, Cancel, CancelRetransmissions, Configure, ValidatePeer}
 use Rattle.stun_proto.specs.Run.{transmitted, ended, IsNext, Phase, sending, Turn, sends, rests, ends, again, stops, Turns, turn, none, Run, done, event, after_change, after_event, steps_of_event}
-use Rattle.stun_proto.specs.RunLaws.{GoesByPlan, KeepPlans, IsDetermined, IsDeterminedThroughout}
+use Rattle.stun_proto.specs.RunLaws.{IsDetermined, IsDeterminedThroughout}
 use Rattle.stun_proto.specs.Schedule.{AreInOrder}
-use Rattle.stun_proto.specs.Steps.{Step, Transmitted, Refused, own}
+use Rattle.stun_proto.specs.Steps.{Step}
 use Rattle.stun_proto.proofs.AfterCalls.{transmit_transactions, poll_transactions}
 use Rattle.stun_agent.proofs.Ascending.{IsAscending-map, IsAscending-remove, IsAscending-set_value, IsAscending-insert}
-use Rattle.stun_proto.proofs.ScheduleLaw.{keeps_plan, response_taken}
+use Rattle.stun_proto.proofs.ScheduleLaw.{response_taken}
 
 -- ---- the ids still ascend
 pub turn_ascends : (now : ℕ) {phase : Phase} {a b : Agent} {steps : List Step} → Turn now phase a steps b → IsAscending a.transactions → IsAscending b.transactions
@@ -184,31 +184,3 @@ driven_same until a b c (e ∷ es) steps more r q = run_same r q
 
 pub run_determined : IsDeterminedThroughout
 run_determined bound from a b c events steps more r q = run_same r q
-
--- ---- each request of a run keeps its plan
-pub keep_plans : (until : ℕ) (a b : Agent) (events : List (ℕ × AgentEvent)) (steps : List Step) → until ≤ last_moment → IsAscending a.transactions → AreInOrder until 0 events
-    → Run (until + 1) 0 a events steps b → KeepPlans until a events steps
-keep_plans until a b events steps within ascends order r earlier later start bytes to is =
-    let e = SendRequest bytes to in
-    let id = transaction_id_field bytes.items in
-    let found = comes_to start e earlier later (subst (λ es. Run (until + 1) 0 a es steps b) is r) in
-    let after = in_order_then until 0 earlier later (start, e) (subst (AreInOrder until 0) is order) in
-    let here : GoesByPlan until found.agent later start bytes.items to found.before steps =
-    record {
-      after = steps_of_event start e found.agent ++ (found.at_once ++ found.rest);
-      divided = found.divided;
-      keeps = λ accepted quiet.
-          let own_step : steps_of_event start e found.agent ≡ Transmitted start id to bytes.items ∷ [] =
-          ap (λ (o : Option StunError). option_map_or (λ error. Refused start error) o (Transmitted start id to bytes.items) ∷ []) accepted in
-          let added : after_event start e found.agent ≡ after_send_request found.agent bytes.items to start =
-          ap (λ (o : Option StunError). option_map_or (λ _. found.agent) o (after_send_request found.agent bytes.items to start)) accepted in
-          ap (λ ss. own id (ss ++ (found.at_once ++ found.rest))) own_step
-          ∙ keeps_plan until start bytes.items to found.agent found.next b later found.at_once found.rest after.0 within
-          (run_ascends found.comes ascends) accepted (subst (λ x. Turn start sending x found.at_once found.next) added found.turned) found.goes_on after.1 quiet;
-    } in
-    record {
-      comes = (found.agent, found.before, found.comes);
-      goes_on = λ agent before r.
-          let same = run_same found.comes r in
-          subst (λ ss. GoesByPlan until agent later start bytes.items to ss steps) same.0 (subst (λ x. GoesByPlan until x later start bytes.items to found.before steps) same.1 here);
-    }

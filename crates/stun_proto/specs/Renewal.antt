@@ -33,10 +33,12 @@ pub record Arrival : Type 0 where
   pub now : ℕ
   pub words : List ℕ
 
--- what the client is set to, its address, its two requests, and the server's calls before the first, the error and the second
+-- what the client is set to, its address, whether calls meanwhile may remove it there, its two requests, and the server's calls before
+-- the first, the error and the second
 pub record Renewal : Type 0 where
   pub settings : ClientSettings
   pub from : SocketAddr
+  pub may_be_removed : Bool
   pub before_first : List ServerCall
   pub first : Arrival
   pub before_error : List ServerCall
@@ -92,48 +94,49 @@ pub record IsTold (s : Sight) (telling : Page) : Type 0 where
 
 -- ---- the law
 
--- whether a call leaves users, settings and the nonce of an address: messages from there are read, and nonces are forgotten, up to its
--- end
-abbrev pub leaves_nonce : SocketAddr → ℕ → ServerCall → Bool
-leaves_nonce a end (Call.Validate from now message words) = if same_address from a then nat_le now end else true
-leaves_nonce a end (Call.Sign to message) = true
-leaves_nonce a end (Call.AddUser name password) = false
-leaves_nonce a end (Call.RemoveUser name) = false
-leaves_nonce a end (Call.AddIntegrity algorithm) = false
-leaves_nonce a end (Call.SetIntegrity algorithm) = false
-leaves_nonce a end (Call.SetAnonymous feature) = false
-leaves_nonce a end (Call.RemoveClient address) = true
-leaves_nonce a end (Call.SetExpiry expiry) = false
-leaves_nonce a end (Call.ForgetExpired now) = nat_le now end
+-- whether a call leaves users, settings and the nonce of an address: messages from there are read up to its end. Where the client there
+-- may be removed, expired nonces are forgotten up to that end alone, and else at any moment, since a place with a client is kept
+abbrev pub leaves_nonce : SocketAddr → ℕ → Bool → ServerCall → Bool
+leaves_nonce a end removable (Call.Validate from now message words) = if same_address from a then nat_le now end else true
+leaves_nonce a end removable (Call.Sign to message) = true
+leaves_nonce a end removable (Call.AddUser name password) = false
+leaves_nonce a end removable (Call.RemoveUser name) = false
+leaves_nonce a end removable (Call.AddIntegrity algorithm) = false
+leaves_nonce a end removable (Call.SetIntegrity algorithm) = false
+leaves_nonce a end removable (Call.SetAnonymous feature) = false
+leaves_nonce a end removable (Call.RemoveClient address) = if same_address address a then removable else true
+leaves_nonce a end removable (Call.SetExpiry expiry) = false
+leaves_nonce a end removable (Call.ForgetExpired now) = if removable then nat_le now end else true
 
 -- whether a call leaves users, settings and the place of an address, whatever nonce is kept there: messages from there are read at any
--- moment, also after the nonce's end, which make another; nonces are forgotten up to its end. No moment is past the last one
-abbrev pub leaves_place : SocketAddr → ℕ → ServerCall → Bool
-leaves_place a end (Call.Validate from now message words) = true
-leaves_place a end (Call.Sign to message) = true
-leaves_place a end (Call.AddUser name password) = false
-leaves_place a end (Call.RemoveUser name) = false
-leaves_place a end (Call.AddIntegrity algorithm) = false
-leaves_place a end (Call.SetIntegrity algorithm) = false
-leaves_place a end (Call.SetAnonymous feature) = false
-leaves_place a end (Call.RemoveClient address) = true
-leaves_place a end (Call.SetExpiry expiry) = false
-leaves_place a end (Call.ForgetExpired now) = nat_le now end && nat_le now last_moment
+-- moment, also after the nonce's end, which make another. Where the client there may be removed, expired nonces are forgotten up to
+-- that end alone, and no moment is past the last one
+abbrev pub leaves_place : SocketAddr → ℕ → Bool → ServerCall → Bool
+leaves_place a end removable (Call.Validate from now message words) = true
+leaves_place a end removable (Call.Sign to message) = true
+leaves_place a end removable (Call.AddUser name password) = false
+leaves_place a end removable (Call.RemoveUser name) = false
+leaves_place a end removable (Call.AddIntegrity algorithm) = false
+leaves_place a end removable (Call.SetIntegrity algorithm) = false
+leaves_place a end removable (Call.SetAnonymous feature) = false
+leaves_place a end removable (Call.RemoveClient address) = if same_address address a then removable else true
+leaves_place a end removable (Call.SetExpiry expiry) = false
+leaves_place a end removable (Call.ForgetExpired now) = if removable then nat_le now end && nat_le now last_moment else true
 
-abbrev pub LeavePlace : SocketAddr → ℕ → List ServerCall → Type 0
-LeavePlace a end calls = All (λ call. leaves_place a end call ≡ true) calls
+abbrev pub LeavePlace : SocketAddr → ℕ → Bool → List ServerCall → Type 0
+LeavePlace a end removable calls = All (λ call. leaves_place a end removable call ≡ true) calls
 
-abbrev pub LeaveNonce : SocketAddr → ℕ → List ServerCall → Type 0
-LeaveNonce a end calls = All (λ call. leaves_nonce a end call ≡ true) calls
+abbrev pub LeaveNonce : SocketAddr → ℕ → Bool → List ServerCall → Type 0
+LeaveNonce a end removable calls = All (λ call. leaves_nonce a end removable call ≡ true) calls
 
 -- a client is authenticated, and its nonce has ended before its first request, which others of its messages may have come before; the
 -- nonce that is current then is current at its second
 pub record HasRunOut (m : Renewal) (who : NameAndPassword) (server : ServerSeen) (p : PlaceSeen) (c : Challenge) : Type 0 where
   pub joined : AreJoined (sight server m.from) p c who
-  pub calls_before_first : LeavePlace m.from p.expires m.before_first
+  pub calls_before_first : LeavePlace m.from p.expires m.may_be_removed m.before_first
   pub expired : p.expires < m.first.now
-  pub calls_before_error : LeaveNonce m.from (end m server) m.before_error
-  pub calls_before_second : LeaveNonce m.from (end m server) m.before_second
+  pub calls_before_error : LeaveNonce m.from (end m server) m.may_be_removed m.before_error
+  pub calls_before_second : LeaveNonce m.from (end m server) m.may_be_removed m.before_second
   pub in_time : m.second.now ≤ end m server
 
 -- a request is accepted, and server and client are joined after it

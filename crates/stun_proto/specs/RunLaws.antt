@@ -1,5 +1,6 @@
 -- What holds of runs, whoever makes the calls: there is one run of each list of events and no other, and each request keeps its plan.
-use Rattle.std.specs.Prelude.{ℕ, ◌≡◌, ◌≤◌, List, ◌∷◌, ◌++◌, None}
+use Rattle.std.specs.Prelude.{ℕ, ◌≡◌, ◌≤◌, List, ◌∷◌, ◌++◌, filter, None}
+use Rattle.std.specs.List.{AllByRecursion}
 use Rattle.std.specs.Global.{Vec}
 use Rattle.std.specs.declared.net.socket_addr.SocketAddr.{SocketAddr}
 use Rattle.stun_base.specs.Header.{transaction_id_field}
@@ -10,21 +11,27 @@ use Rattle.stun_agent.specs.Transactions.{IsAscending}
 use Rattle.stun_proto.specs.declared.replay.event.AgentEvent.{AgentEvent}
 use Rattle.stun_proto.specs.declared.replay.event.AgentEvent.TheVariants.{SendRequest}
 use Rattle.stun_proto.specs.Run.{Run, IsDriven}
-use Rattle.stun_proto.specs.Schedule.{Requester, AreInOrder, IsUndisturbed, plan, cut}
-use Rattle.stun_proto.specs.Steps.{Step, own}
+use Rattle.stun_proto.specs.Schedule.{Requester, Asks, AreInOrder, IsUndisturbed, plan, cut}
+use Rattle.stun_proto.specs.Steps.{Step, is_of, own}
 
 -- what an agent's requests depend on
 abbrev pub requester : Agent → Requester
 requester a = record { transport = a.transport; remote_addr = a.remote_addr; settings = a.settings; outstanding = a.transactions }
 
 -- the steps of a run from a request on, which comes to this agent after these steps: if the agent accepts it and nothing disturbs
--- it, those of its transaction are its plan up to its first end, as far as the run goes
+-- it, those of its transaction are its plan up to its first end, as far as the run goes; and these are all steps of its id where no
+-- later event asks for the id
 pub record GoesByPlan (until : ℕ) (agent : Agent) (later : List (ℕ × AgentEvent)) (start : ℕ) (bytes : List ℕ) (to : SocketAddr) (before steps : List Step) : Type 0 where
   pub after : List Step
   pub divided : steps ≡ before ++ after
   pub keeps : request_refusal agent bytes to ≡ None
       → IsUndisturbed (transaction_id_field bytes) to (planned_end agent.transport agent.settings start) later
       → own (transaction_id_field bytes) after ≡ cut until (plan agent.transport start agent.settings (transaction_id_field bytes) to bytes)
+  pub once : request_refusal agent bytes to ≡ None
+      → IsUndisturbed (transaction_id_field bytes) to (planned_end agent.transport agent.settings start) later
+      → AllByRecursion (λ e. Asks (transaction_id_field bytes) e.1 → ⊥) later
+      → filter (is_of (transaction_id_field bytes)) after
+      ≡ cut until (plan agent.transport start agent.settings (transaction_id_field bytes) to bytes)
 
 -- a request of a run: the earlier events have a run up to its moment, and whatever agent and steps that run comes to, from there the
 -- request goes by its plan

@@ -70,6 +70,7 @@ pub fn runs_send_by_plan()
 {}
 
 /// The same of ids that come again: each request that the agent accepts and that is undisturbed goes by its plan up to its end.
+/// Where no later event asks for its id, these are all steps that the id has from there on.
 pub fn runs_keep_plans()
     ensures { (until : ℕ) (a b : Agent) (events : List (ℕ × TheEvent)) (steps : List Step)
         → until ≤ last_moment → IsAscending a.transactions → AreInOrder until 0 events
@@ -150,9 +151,9 @@ pub fn short_names_are_signed()
 /// accepted while that nonce is current (RFC 8489, sections 9.2.4 and 9.2.5). The messages are of any method, and have any
 /// attributes of their own but those that signing adds. Between them users and settings stay. Before the request other
 /// messages of the client's address may be read at any moment, so that one of them has made the nonce that is current; after
-/// it they are read while that nonce is current. Expired nonces are forgotten up to the end of the client's nonce before the
-/// request, and while the new one is current after it: a server that has removed the client of the address would forget the
-/// place.
+/// it they are read while that nonce is current. Expired nonces may be forgotten at any moment, and no call removes the client
+/// at its address; or such calls come too, and expired nonces are forgotten up to the end of the client's nonce before the
+/// request, and up to the end of the new one after it, since a place without a client is forgotten.
 pub fn nonce_is_renewed()
     ensures { NonceIsRenewed }
 {

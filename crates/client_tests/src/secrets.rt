@@ -20,9 +20,19 @@ fn expect_silent<T: Debug>(rt: &impl Abort, alloc: Global, value: &T) -> Result<
 #[test]
 fn authenticators_are_silent(rt: HostRuntime) -> Result<(), Fail> {
     let alloc = rt.alloc();
-    expect_silent(&rt, alloc, &known_client(&rt, alloc)?)?;
+    let client = known_client(&rt, alloc)?;
+    expect_silent(&rt, alloc, &client)?;
+    assert_eq!(rt;
+        format!(in alloc; "{client:?}")?.as_str(),
+        "LongTermClientAuth { .. }"
+    );
     let mut auth = ShortTermAuth::new(alloc);
     let credentials = ShortTermCredentials::new(String::from_str(alloc, "wonderland")?);
     auth.set_credentials(credentials, IntegrityAlgorithm::Sha1)?;
-    expect_silent(&rt, alloc, &auth)
+    expect_silent(&rt, alloc, &auth)?;
+    assert_eq!(rt;
+        format!(in alloc; "{auth:?}")?.as_str(),
+        "ShortTermAuth { .. }"
+    );
+    Ok(())
 }

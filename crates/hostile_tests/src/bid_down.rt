@@ -7,9 +7,11 @@ use stun_auth::auth::{Feature, LongTermClientAuth, LongTermServerAuth};
 use stun_base::instant::Instant;
 use stun_types::message::{Message, MessageClass};
 use test_support::client::{RESEND, UNAUTHORIZED, full_client, signed_bytes, told};
-use test_support::parts::{Part, message};
+use test_support::parts::message;
 use test_support::server as server;
-use test_support::server::{ZEROS, address, asked, full_server, knocked, signed_challenge};
+use test_support::server::{
+    PLAIN_REQUEST, ZEROS, address, asked, full_server, knocked, plain_server, signed_challenge,
+};
 use test_support::words::Words;
 
 /// The place of the first letter of the security bits in the challenge, after a header of 20 bytes, an ERROR-CODE of 20, the
@@ -110,19 +112,21 @@ fn a_server_refuses_a_weaker_list(rt: HostRuntime) -> Result<(), Fail> {
     Ok(())
 }
 
-/// No refusal tells of a digest, also where one verifies.
+/// No refusal tells of a digest, also where one verifies and the nonce is another address's.
 #[test]
 fn refusals_tell_no_digest(rt: HostRuntime) -> Result<(), Fail> {
     let alloc = rt.alloc();
-    let (mut server, challenge) = challenged(alloc)?;
-    let bytes = message(alloc, MessageClass::Request, &[Part::Sha1(b"key")])?;
+    let mut server = plain_server(alloc, alloc)?;
+    let bytes = message(alloc, MessageClass::Request, &PLAIN_REQUEST)?;
     let request = Message::from_bytes(bytes.as_slice())?;
-    let mut words = Words::new(ZEROS);
-    let answer = server.validate_incoming_message(&request, address(1), Instant::ZERO, &mut words);
+    let mut words = Words::new(server::ONES);
+    let elsewhere = address(2);
+    let answer = server.validate_incoming_message(&request, elsewhere, Instant::ZERO, &mut words);
     match answer {
         Ok(_) => assert!(rt; false),
         Err(error) => assert_eq!(rt; error.integrity(), None),
     }
+    let (_, challenge) = challenged(alloc)?;
     let challenge = Message::from_bytes(challenge.as_slice())?;
     match LongTermClientAuth::new(alloc).validate_incoming_message(&challenge) {
         Ok(_) => assert!(rt; false),

@@ -5,9 +5,11 @@
 use std::alloc::Global;
 use std::process::Abort;
 use std::test::Fail;
+use stun_types::attribute::Username;
+use stun_types::message::{IntegrityAlgorithm, Message};
 use test_support::server::{
-    Answer, BAD_REQUEST, SHA1, STALE_NONCE, UNAUTHORIZED, ZEROS, address, asked, offering_server,
-    plain_server,
+    Answer, BAD_REQUEST, SHA1, SHA256, STALE_NONCE, UNAUTHORIZED, ZEROS, address, asked,
+    offering_server, plain_server,
 };
 use test_support::spelled::bytes_of;
 
@@ -54,10 +56,10 @@ const WRONG_STRONGER: &str = "00010064 2112a442 000000000000000000000001
     00080014 b0f2dc4f7ce5b00b393c1695d81c24a22ce5a77e
     001c0020 0000000000000000000000000000000000000000000000000000000000000000";
 
-/// MESSAGE-INTEGRITY of 16 bytes.
+/// MESSAGE-INTEGRITY of the first 16 bytes of the right digest.
 const SHORT_DIGEST: &str = "0001003c 2112a442 000000000000000000000001
     00150010 41414141414141414141414141414141 00140005 7265616c6d000000 00060004 75736572
-    00080010 00000000000000000000000000000000";
+    00080010 4eb5c00953ee1c118272867239cfb741";
 
 /// USERNAME after the digest.
 const HIDDEN_NAME: &str = "00010040 2112a442 000000000000000000000001
@@ -85,6 +87,24 @@ const NO_LIST: &str = "00010050 2112a442 000000000000000000000001
 const CLEARED_BIT: &str = "00010050 2112a442 000000000000000000000001
     0015001d 6f624d61744a6f73325141414141414141414141414141414141414141000000
     00140005 7265616c6d000000 00060004 75736572 00080014 5f5d89911f270b4597f5b1ddb23482a64cd191c5";
+
+/// The stronger algorithm chosen, and the weaker digest under its key.
+const WEAKER_DIGEST: &str = "00010064 2112a442 000000000000000000000001
+    0015001d 6f624d61744a6f73327741414141414141414141414141414141414141000000
+    00140005 7265616c6d000000 00060004 75736572 80020008 0002000000010000 001d0004 00020000
+    00080014 159c6aa5be6ece6c87a56319ffe438b739dd1536";
+
+/// USERNAME `nobody` before the right one.
+const TWO_NAMES: &str = "0001004c 2112a442 000000000000000000000001
+    00150010 41414141414141414141414141414141 00140005 7265616c6d000000
+    00060006 6e6f626f64790000 00060004 75736572
+    00080014 451a0ba24c2635329f43a88f7fba3e9f5c0e3edc";
+
+/// USERNAME `nobody` after the right one.
+const TURNED_NAMES: &str = "0001004c 2112a442 000000000000000000000001
+    00150010 41414141414141414141414141414141 00140005 7265616c6d000000
+    00060004 75736572 00060006 6e6f626f64790000
+    00080014 9978c8ccc7600b41888092fc771285d06b5ae837";
 
 /// Checks the answer to bytes at a server with plain names, or at one that has offered both algorithms.
 fn expect_bytes(
@@ -145,6 +165,28 @@ fn malformed_messages_are_bad_requests(rt: HostRuntime) -> Result<(), Fail> {
         &[UNKNOWN_LIST, TURNED_LIST],
         BAD_REQUEST,
     )
+}
+
+/// The algorithm that is told is the key's: either digest may verify under it.
+#[test]
+fn a_weaker_digest_under_the_agreed_key_counts(rt: HostRuntime) -> Result<(), Fail> {
+    expect_each(&rt, rt.alloc(), true, &[WEAKER_DIGEST], SHA256)
+}
+
+/// The last name is judged, and told as the client. Who reads the message sees the first.
+#[test]
+fn the_last_of_two_names_is_validated(rt: HostRuntime) -> Result<(), Fail> {
+    let alloc = rt.alloc();
+    let mut server = plain_server(alloc, alloc)?;
+    let bytes = bytes_of(alloc, TWO_NAMES)?;
+    let answer = asked(&mut server, bytes.as_slice(), (address(1), 0), ZEROS)?;
+    assert_eq!(rt; answer, SHA1);
+    let told = Some(("user", IntegrityAlgorithm::Sha1));
+    assert_eq!(rt; server.client(address(1)), told);
+    let message = Message::from_bytes(bytes.as_slice())?;
+    let first: Username = message.attribute()?;
+    assert_eq!(rt; first.username(), "nobody");
+    expect_each(&rt, alloc, false, &[TURNED_NAMES], UNAUTHORIZED)
 }
 
 /// REALM of 764 letters `a`, one more than it may have.

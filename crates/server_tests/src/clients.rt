@@ -3,10 +3,11 @@ use crate::expect::{expect_answer, expect_nonce};
 use fail_alloc::RefusingAllocator;
 use std::test::Fail;
 use stun_base::instant::Instant;
-use stun_types::message::IntegrityAlgorithm;
-use test_support::parts::PLAIN_NONCE;
+use stun_types::message::{IntegrityAlgorithm, MessageClass};
+use test_support::parts::{PLAIN_NONCE, message};
 use test_support::server::{
-    FULL_REQUEST, PLAIN_REQUEST, SHA1, SHA256, address, offering_server, plain_server,
+    BAD_REQUEST, FULL_REQUEST, ONES, PLAIN_REQUEST, SHA1, SHA256, STALE_NONCE, address, asked,
+    offering_server, plain_server,
 };
 
 /// A validated request names the client of its address alone, until the client is removed.
@@ -66,4 +67,19 @@ fn a_current_nonce_is_kept(rt: HostRuntime) -> Result<(), Fail> {
     server.forget_expired(Instant::from_nanos(3_600_000_000_001));
     expect_nonce(&rt, &server, None);
     Ok(())
+}
+
+/// At an address that was forgotten an old request is stale, and one that repeats an offer is a bad request, since the offer
+/// is forgotten too.
+#[test]
+fn a_forgotten_address_is_asked_anew(rt: HostRuntime) -> Result<(), Fail> {
+    let alloc = rt.alloc();
+    let mut server = plain_server(alloc, alloc)?;
+    server.forget_expired(Instant::MAX);
+    let bytes = message(alloc, MessageClass::Request, &PLAIN_REQUEST)?;
+    let answer = asked(&mut server, bytes.as_slice(), (address(1), 0), ONES)?;
+    assert_eq!(rt; answer, STALE_NONCE);
+    let mut server = offering_server(alloc, alloc)?;
+    server.forget_expired(Instant::MAX);
+    expect_answer(&rt, alloc, &mut server, &FULL_REQUEST, BAD_REQUEST)
 }

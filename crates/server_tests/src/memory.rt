@@ -109,7 +109,9 @@ fn late_request(
     let kept = asked(&mut server, bytes, (address(1), 0), ONES)?;
     assert_eq!(rt; kept, SHA256);
     let (answer, is_last) = asked_short(heap, &mut server, bytes, (LATE, ONES), nth)?;
-    if !is_last {
+    if is_last {
+        assert_eq!(rt; answer, STALE_NONCE);
+    } else {
         assert_eq!(rt; answer, OUT_OF_MEMORY);
         expect_nonce(rt, &server, Some(FULL_NONCE));
         // Up to its end the old nonce is current, with the list that was offered.
@@ -130,13 +132,14 @@ fn a_nonce_is_renewed_or_not(rt: HostRuntime) -> Result<(), Fail> {
     heap.each_refusal(|nth| late_request(&rt, (rt.alloc(), &heap), bytes.as_slice(), nth))
 }
 
-/// Gives the user another password while the nth allocation is refused: whether it was given, and whether none was refused.
+/// Gives the user a password while the nth allocation is refused: whether it was given, and whether none was refused.
 fn added_short<'a>(
     heap: &'a Heap,
     server: &mut LongTermServerAuth<&'a Heap>,
+    password: &str,
     nth: u64,
 ) -> Result<(bool, bool), Fail> {
-    let user = user(heap, "another")?;
+    let user = user(heap, password)?;
     heap.refuse(nth);
     let is_added = server.add_user(user).is_ok();
     Ok((is_added, heap.met_none()))
@@ -150,7 +153,7 @@ fn another_password(
     nth: u64,
 ) -> Result<bool, Fail> {
     let mut server = offering_server(alloc, heap)?;
-    let (is_added, is_last) = added_short(heap, &mut server, nth)?;
+    let (is_added, is_last) = added_short(heap, &mut server, "another", nth)?;
     assert!(rt; is_added || !is_last);
     let answer = asked(&mut server, bytes, (address(1), 0), ONES)?;
     let expected = if is_added { UNAUTHORIZED } else { SHA256 };
@@ -177,9 +180,11 @@ fn new_user(
 ) -> Result<bool, Fail> {
     let mut server = offering_server(alloc, heap)?;
     server.remove_user("user");
-    let (is_added, is_last) = added_short(heap, &mut server, nth)?;
+    let (is_added, is_last) = added_short(heap, &mut server, "pass", nth)?;
     assert!(rt; is_added || !is_last);
-    server.remove_user("user");
+    let answer = asked(&mut server, bytes, (address(1), 0), ONES)?;
+    let expected = if is_added { SHA256 } else { UNAUTHORIZED };
+    assert_eq!(rt; answer, expected);
     server.add_user(user(heap, "pass")?)?;
     let answer = asked(&mut server, bytes, (address(1), 0), ONES)?;
     assert_eq!(rt; answer, SHA256);

@@ -1,21 +1,23 @@
 #!/usr/bin/env python3
 """Runs the built program on golden transcripts: every command, script line, word, refusal and exit status, and input and
-output that are closed or fail.
+output that are closed or fail; each allocation refused in turn, and so each with all after it.
 
     examples/tool/check.py [PROGRAM ..]
 
 Without a PROGRAM it builds crates/stun_tool/out/stun_tool by `rt run`, which proves what has changed since. After `rt ci` the
 two programs that it built are there: crates/stun_tool/out/stun_tool and crates/stun_tool/out/stun_tool.by-rattle.
-It needs Python 3.8 and /dev/full, and takes some seconds. What must be printed is worked out from RFC 8489 by Python's hmac
-and hashlib, and never taken from the program. The last line counts the runs.
+It needs Python 3.8 and /dev/full, and to refuse allocations a C compiler and glibc, and takes some ten seconds. What must be
+printed is worked out from RFC 8489 by Python's hmac and hashlib, and never taken from the program. The last line counts the runs.
 """
 
 import hashlib
 import hmac
 import os
+import shutil
 import struct
 import subprocess
 import sys
+import tempfile
 
 HERE = os.path.dirname(os.path.abspath(__file__))
 CRATE = os.path.join(HERE, "..", "..", "crates", "stun_tool")
@@ -638,9 +640,79 @@ def wants_failure(self, words, given, **how):
 
 Runs.wants_failure = wants_failure
 
+# Memory that is refused: status 1, and of the lines that belong there the first ones, whole.
+
+def is_cut(words, ran, status, lines):
+    """Whether a run ended for want of memory. If it did not, it must have printed all lines, with their status."""
+    printed = "".join(f"{line}\n" for line in lines).encode()
+    if (ran.returncode, ran.stdout, ran.stderr) == (status, printed, b""):
+        return False
+    if ran.returncode != 1 or ran.stderr or not printed.startswith(ran.stdout) or ran.stdout[-1:] not in (b"", b"\n"):
+        raise Failure(f"{words}, where memory is refused: status {ran.returncode}, {ran.stdout[-300:]!r}, {ran.stderr[:300]!r}")
+    return True
+
+
+CALLS = ["user user pass", "integrity set sha1", validate(UNSIGNED), sign(REFUSAL_401), validate(request(FRONT["hash"] + ZEROS))]
+REPLIES = ["ok", "ok", "refused Unauthorized", reply_401(FRONT["hash"] + ZEROS, MD5), "validated Sha1"]
+TASKS = [
+    (["check", PASSWORD], SAMPLES[0], 0, [VALID]),
+    (["schedule", *DEFAULT_WORDS], "", 0, DEFAULT),
+    (["schedule", *DEFAULT_WORDS, "answer", "3000", "10.0.0.2:3478"], "", 0, [*DEFAULT[:3], "received 3000"]),
+    (["negotiate", "sha1,sha256", "auto", "sha1,sha256", "auto"], "", 0, ["validated Sha256"]),
+    (["negotiate", "sha256", "auto", "sha1", "auto"], "", 1, ["refused UnsupportedFeature"]),
+    (["serve", "realm"], "".join(f"{call}\n" for call in CALLS), 0, REPLIES),
+    (["serve", "realm"], "user user pass\n\nuser\n", 1, ["wrong line 3"]),
+]
+
+
+def refuses_each_allocation(runs):
+    compiler = os.environ.get("CC", "cc")
+    if not shutil.which(compiler):
+        print("tool: no C compiler, so no allocation was refused by its number")
+        return
+    with tempfile.TemporaryDirectory() as scratch:
+        loaded = {**os.environ, "LD_PRELOAD": os.path.join(scratch, "refuse.so")}
+        command = [compiler, "-shared", "-fPIC", "-O1", "-Wall", "-Wextra", "-Werror", os.path.join(HERE, "refuse.c")]
+        subprocess.run([*command, "-o", loaded["LD_PRELOAD"]], check=True)
+        for words, given, status, lines in TASKS:
+            def is_cut_between(first, last):
+                how = {**loaded, "REFUSED_FROM": str(first), "REFUSED_TO": str(last)}
+                return is_cut(words, runs.run(words, given.encode(), env=how), status, lines)
+            count = int(runs.run(words, given.encode(), env=loaded).stderr)
+            for number in range(1, count + 1):
+                # A list that asks for more than it needs asks again for less: one refusal need not end a run, all from it on do.
+                is_cut_between(number, number)
+                if not is_cut_between(number, 1 << 60):
+                    raise Failure(f"{words}: goes on without allocation {number} of {count} and all after it")
+            if is_cut_between(count + 1, 1 << 60):
+                raise Failure(f"{words}: needs more than {count} allocations")
+
+
+# A small task, done in the least address space, and a large one.
+LARGE = [
+    (["check", PASSWORD], SAMPLES[0], SAMPLES[0] + " " * 4_000_000, [VALID]),
+    (["serve", "realm"], "expiry 30\n", "expiry 30\n" * 20_000, ["ok"] * 20_000),
+]
+
+
+def refuses_space(runs):
+    for words, small, large, lines in LARGE:
+        def ran(given, kibibytes):
+            runs.count += 1
+            limited = ["sh", "-c", 'ulimit -v "$0" && exec "$@"', str(kibibytes), runs.program, *words]
+            return subprocess.run(limited, input=given.encode(), stdout=subprocess.PIPE, stderr=subprocess.PIPE, timeout=60)
+        little, enough = 0, 1 << 22
+        while enough - little > 4:
+            middle = (little + enough) // 2
+            little, enough = (little, middle) if ran(small, middle).stdout else (middle, enough)
+        if {is_cut(words, ran(large, enough + 4 * more * more), 0, lines) for more in range(0, 64, 3)} != {False, True}:
+            raise Failure(f"{words}: in each space that was tried it had memory, or in none")
+
+
 SUBJECTS = [
     check_verdicts, check_refusals, schedules, negotiates, serves_one_user, serves_two_algorithms, serves_features, serves_letters,
     serves_expiry, serves_forgetting, serves_bad_messages, serves_scripts, refuses_lines, refuses_words, fails,
+    refuses_each_allocation, refuses_space,
 ]
 
 

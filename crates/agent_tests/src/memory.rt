@@ -94,14 +94,25 @@ fn stranger() -> SocketAddr {
 }
 
 /// A request or an indication of a stranger that is taken, or the counters stay and nobody is known.
-fn hears(rt: &impl Abort, heap: &Heap, kind: [u8; 2], nth: u64) -> Result<bool, Fail> {
+fn hears(
+    rt: &impl Abort,
+    heap: &Heap,
+    (kind, timed): ([u8; 2], bool),
+    nth: u64,
+) -> Result<bool, Fail> {
     let mut agent = StunAgent::builder(heap, TransportType::Udp, local())
         .stats(true)
         .build();
     let bytes = message(kind, 1);
     let heard = Message::from_bytes(&bytes)?;
     heap.refuse(nth);
-    let taken = agent.handle_stun_message(&heard, stranger()).ok();
+    let taken = if timed {
+        agent
+            .handle_stun_message_with_time(&heard, stranger(), at(9))
+            .ok()
+    } else {
+        agent.handle_stun_message(&heard, stranger()).ok()
+    };
     let met_none = heap.met_none();
     let stats = agent.stats().ok_or("they are kept")?;
     let counters = (
@@ -127,8 +138,11 @@ fn hears(rt: &impl Abort, heap: &Heap, kind: [u8; 2], nth: u64) -> Result<bool, 
 #[test]
 fn a_stranger_is_heard_or_not(rt: HostRuntime) -> Result<(), Fail> {
     let heap = RefusingAllocator::new(rt.alloc());
-    heap.each_refusal(|nth| hears(&rt, &heap, REQUEST, nth))?;
-    heap.each_refusal(|nth| hears(&rt, &heap, INDICATION, nth))
+    for timed in [false, true] {
+        heap.each_refusal(|nth| hears(&rt, &heap, (REQUEST, timed), nth))?;
+        heap.each_refusal(|nth| hears(&rt, &heap, (INDICATION, timed), nth))?;
+    }
+    Ok(())
 }
 
 /// Peers that are validated, but for the one that meets the refusal.

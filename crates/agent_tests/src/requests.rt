@@ -50,6 +50,7 @@ fn a_default_request_is_sent_seven_times(rt: HostRuntime) -> Result<(), Fail> {
         StunAgentPollRet::TransactionTimedOut(id(1)?)
     );
     assert!(rt; agent.request_transaction(id(1)?).is_none());
+    assert!(rt; !agent.is_validated_peer(peer()));
     Ok(())
 }
 
@@ -202,6 +203,10 @@ fn other_classes_and_headers_are_refused(rt: HostRuntime) -> Result<(), Fail> {
     assert_eq!(rt; agent.send_request([0; 19], peer(), at(0)).err(), truncated);
     let foreign = Some(StunError::ParseError(StunParseError::NotStun));
     assert_eq!(rt; agent.send_request([0; 20], peer(), at(0)).err(), foreign);
+    // No message has a length that is not a multiple of 4.
+    let mut odd = message(REQUEST, 1);
+    odd[3] = 2;
+    assert_eq!(rt; agent.send_request(odd, peer(), at(0)).err(), foreign);
     assert_eq!(rt; agent.next_awaited(), None);
     Ok(())
 }

@@ -111,6 +111,8 @@ fn texts(rt: HostRuntime) -> Result<(), Fail> {
         format!(in alloc; "{sent}")?.as_str(),
         "Transmit(UDP: 127.0.0.1:1000 -> 127.0.0.1:2000 of 2 bytes)"
     );
+    let (udp, tcp) = (TransportType::Udp, TransportType::Tcp);
+    assert_eq!(rt; format!(in alloc; "{udp} {tcp}")?.as_str(), "UDP TCP");
     let inner = StunParseError::Truncated;
     let written = StunWriteError::TooSmall;
     for (error, text) in [

@@ -6,7 +6,7 @@ use std::test::Fail;
 use stun_types::attribute::{
     AttributeType, ErrorCode, MessageIntegrity, MessageIntegritySha256, Nonce, PasswordAlgorithm,
     PasswordAlgorithmValue, PasswordAlgorithms, RawAttribute, Realm, Userhash, Username,
-    XorMappedAddress,
+    XorMappedAddress, attribute_length,
 };
 use stun_types::message::{
     BINDING, IntegrityAlgorithm, Message, MessageWriteMutSlice, StunParseError, StunWriteError,
@@ -87,6 +87,10 @@ fn texts_are_written_and_read(rt: HostRuntime) -> Result<(), Fail> {
     assert_eq!(rt; nonce.nonce(), "");
     expect_written(&rt, &nonce, &[0, 0x15, 0, 0])?;
     assert_eq!(rt; Nonce::static_type().value(), 0x15);
+    let read = Realm::from_raw(RawAttribute::new(AttributeType::REALM, b"realm"))?;
+    assert_eq!(rt; read.realm(), "realm");
+    let read = Nonce::from_raw(RawAttribute::new(AttributeType::NONCE, b"nonce"))?;
+    assert_eq!(rt; read.nonce(), "nonce");
     Ok(())
 }
 
@@ -198,6 +202,9 @@ fn errors_are_read(rt: HostRuntime) -> Result<(), Fail> {
     assert_eq!(rt; code_of(&value[..766]), Some(438));
     assert_eq!(rt; code_of(&value[..767]), Some(438));
     assert_eq!(rt; code_of(&value), None);
+    let value = [0, 0, 4, 1, b'n', b'o'];
+    let read = ErrorCode::from_raw(RawAttribute::new(AttributeType::ERROR_CODE, &value))?;
+    assert_eq!(rt; (read.code(), read.reason()), (401, "no"));
     Ok(())
 }
 
@@ -280,6 +287,14 @@ fn addresses_are_read(rt: HostRuntime) -> Result<(), Fail> {
     let read = XorMappedAddress::from_raw(RawAttribute::new(kind, &value))?;
     let addr = SocketAddr::new(IpAddr::V4(Ipv4Addr::new(192, 0, 2, 1)), 32853);
     assert_eq!(rt; read.addr(id), addr);
+    // RFC 5769, section 2.3.
+    let value = [
+        0, 2, 0xa1, 0x47, 0x01, 0x13, 0xa9, 0xfa, 0xa5, 0xd3, 0xf1, 0x79, 0xbc, 0x25, 0xf4, 0xb5,
+        0xbe, 0xd2, 0xb9, 0xd9,
+    ];
+    let read = XorMappedAddress::from_raw(RawAttribute::new(kind, &value))?;
+    let ip = Ipv6Addr::new(0x2001, 0xdb8, 0x1234, 0x5678, 0x11, 0x2233, 0x4455, 0x6677);
+    assert_eq!(rt; read.addr(id), SocketAddr::new(IpAddr::V6(ip), 32853));
     let malformed: [&[u8]; 5] = [
         &[0, 3, 0xa1, 0x47, 0xe1, 0x12, 0xa6, 0x43],
         &[0, 2, 0xa1, 0x47, 0xe1, 0x12, 0xa6, 0x43],
@@ -306,8 +321,10 @@ fn digests_have_their_lengths(rt: HostRuntime) -> Result<(), Fail> {
     ] {
         let value = LETTERS.get(..count).ok_or("as many letters")?;
         let raw = RawAttribute::new(AttributeType::MESSAGE_INTEGRITY, value);
+        assert_eq!(rt; raw.is_integrity(), is_sha1);
         assert_eq!(rt; MessageIntegrity::from_raw(raw).is_ok(), is_sha1);
         let raw = RawAttribute::new(AttributeType::MESSAGE_INTEGRITY_SHA256, value);
+        assert_eq!(rt; raw.is_integrity(), is_sha256);
         assert_eq!(rt; MessageIntegritySha256::from_raw(raw).is_ok(), is_sha256);
     }
     let raw = RawAttribute::new(AttributeType::MESSAGE_INTEGRITY, &LETTERS[..20]);
@@ -320,6 +337,10 @@ fn digests_have_their_lengths(rt: HostRuntime) -> Result<(), Fail> {
         MessageIntegritySha256::from_raw(raw)?.hmac(),
         &LETTERS[..16]
     );
+    let raw = RawAttribute::new(AttributeType::USERNAME, &LETTERS[..20]);
+    assert!(rt; !raw.is_integrity());
+    assert_eq!(rt; IntegrityAlgorithm::Sha1.digest_length(), 20);
+    assert_eq!(rt; IntegrityAlgorithm::Sha256.digest_length(), 32);
     Ok(())
 }
 
@@ -330,5 +351,9 @@ fn raw_attributes_are_written_again(rt: HostRuntime) -> Result<(), Fail> {
     expect_written(&rt, &software, &[0x80, 0x22, 0, 3, b'a', b'b', b'c', 0])?;
     let again = RawAttribute::from_raw(software)?;
     assert_eq!(rt; again.value(), b"abc".as_slice());
+    let most = usize::MAX;
+    for (length, whole) in [(0, 4), (1, 8), (4, 8), (5, 12), (most, most)] {
+        assert_eq!(rt; attribute_length(length), whole);
+    }
     Ok(())
 }

@@ -2,12 +2,12 @@
 use std::alloc::Global;
 use std::process::Abort;
 use std::test::Fail;
-use stun_base::key::long_term_key;
+use stun_base::key::{long_term_key, md5_key_from_utf8, sha256_key_from_utf8};
 use stun_types::attribute::Userhash;
-use stun_types::message::{IntegrityAlgorithm, IntegrityKey, hmac_sha1, hmac_sha256};
+use stun_types::message::{IntegrityAlgorithm, IntegrityKey, PreparedKey, hmac_sha1, hmac_sha256};
 use test_support::spelled::bytes_of;
 
-/// Compares both digests of these pieces.
+/// Compares both digests of these pieces, under the key and under what is prepared of it for either algorithm.
 fn expect_pieces(
     rt: &impl Abort,
     alloc: Global,
@@ -19,6 +19,11 @@ fn expect_pieces(
     let sha256 = bytes_of(alloc, sha256)?;
     assert_eq!(rt; hmac_sha1(key, pieces).as_slice(), sha1.as_slice());
     assert_eq!(rt; hmac_sha256(key, pieces).as_slice(), sha256.as_slice());
+    for algorithm in [IntegrityAlgorithm::Sha1, IntegrityAlgorithm::Sha256] {
+        let prepared = PreparedKey::new(IntegrityKey::from_bytes(alloc, key)?, algorithm);
+        assert_eq!(rt; prepared.hmac_sha1(pieces).as_slice(), sha1.as_slice());
+        assert_eq!(rt; prepared.hmac_sha256(pieces).as_slice(), sha256.as_slice());
+    }
     Ok(())
 }
 
@@ -254,8 +259,27 @@ fn long_term_keys(rt: HostRuntime) -> Result<(), Fail> {
             password,
         );
         assert_eq!(rt; key.as_bytes(), sha256.as_slice());
+        let (name, at, word) = (username.as_bytes(), realm.as_bytes(), password.as_bytes());
+        let key = md5_key_from_utf8(name, at, word).ok_or("each is a text")?;
+        assert_eq!(rt; key.as_slice(), md5.as_slice());
+        let key = sha256_key_from_utf8(name, at, word).ok_or("each is a text")?;
+        assert_eq!(rt; key.as_slice(), sha256.as_slice());
     }
     Ok(())
+}
+
+/// A byte that UTF-8 never has, and a letter that is cut: there is no key where they stand.
+#[test]
+fn keys_are_of_texts(rt: HostRuntime) {
+    let texts: [(&[u8], &[u8], &[u8]); 3] = [
+        (&[0xff], b"realm", b"pass"),
+        (b"user", &[0xc3], b"pass"),
+        (b"user", b"realm", &[0xc3]),
+    ];
+    for (name, realm, password) in texts {
+        assert_eq!(rt; md5_key_from_utf8(name, realm, password), None);
+        assert_eq!(rt; sha256_key_from_utf8(name, realm, password), None);
+    }
 }
 
 #[test]

@@ -24,8 +24,10 @@ fn of_reading(rt: HostRuntime) -> Result<(), Fail> {
     // No option of the formatter changes the text of a type.
     let kind = AttributeType::MESSAGE_INTEGRITY;
     assert_eq!(rt;
-        format!(in alloc; "{kind:#>12} {kind:#}")?.as_str(),
-        "0x0008 0x0008"
+        format!(in alloc;
+            "{kind:#>12} {kind:#} {kind:+} {kind:<12} {kind:012} {kind:.3}"
+        )?.as_str(),
+        "0x0008 0x0008 0x0008 0x0008 0x0008 0x0008"
     );
     Ok(())
 }
@@ -33,11 +35,19 @@ fn of_reading(rt: HostRuntime) -> Result<(), Fail> {
 #[test]
 fn of_checking(rt: HostRuntime) -> Result<(), Fail> {
     let alloc = rt.alloc();
-    let parse = ValidateError::Parse(StunParseError::InvalidAttributeData);
-    assert_eq!(rt;
-        format!(in alloc; "{parse}")?.as_str(),
-        "an attribute is malformed"
-    );
+    for (error, text) in [
+        (
+            StunParseError::MissingAttribute(AttributeType::MESSAGE_INTEGRITY),
+            "attribute 0x0008 is missing",
+        ),
+        (
+            StunParseError::InvalidAttributeData,
+            "an attribute is malformed",
+        ),
+    ] {
+        let parse = ValidateError::Parse(error);
+        assert_eq!(rt; format!(in alloc; "{parse}")?.as_str(), text);
+    }
     let failed = ValidateError::IntegrityFailed;
     assert_eq!(rt;
         format!(in alloc; "{failed}")?.as_str(),

@@ -5,11 +5,11 @@
 use std::alloc::Global;
 use std::process::Abort;
 use std::test::Fail;
-use stun_types::attribute::AttributeType;
+use stun_types::attribute::{AttributeType, Username};
 use stun_types::message::{
     IntegrityAlgorithm, IntegrityKey, Message, StunParseError, ValidateError,
 };
-use test_support::spelled::{bytes_of, request_with};
+use test_support::spelled::{bytes_of, request_of, request_with};
 
 /// The key of each digest here. The digests are computed by Python's module `hmac`.
 const KEY: &[u8] = b"key";
@@ -293,6 +293,44 @@ fn no_digest(rt: HostRuntime) -> Result<(), Fail> {
         ),
     ] {
         expect_verdict(&rt, rt.alloc(), name, &[digits], (shown, MISSING))?;
+    }
+    Ok(())
+}
+
+/// The first attribute of a type that counts is read, and no later one takes its place.
+#[test]
+fn the_first_of_a_type_is_read(rt: HostRuntime) -> Result<(), Fail> {
+    let malformed = Err(StunParseError::InvalidAttributeData);
+    let missing = Err(StunParseError::MissingAttribute(AttributeType::USERNAME));
+    for (name, stated, digits, expected) in [
+        ("two", 16, "00060001 61000000 00060001 62000000", Ok("a")),
+        (
+            "the first malformed",
+            16,
+            "00060001 ff000000 00060001 62000000",
+            malformed,
+        ),
+        ("another type", 8, "00140001 61000000", missing),
+        (
+            "behind FINGERPRINT",
+            16,
+            "80280004 00000000 00060001 61000000",
+            missing,
+        ),
+        (
+            "behind a digest",
+            32,
+            "00080014 0000000000000000000000000000000000000000 00060001 61000000",
+            missing,
+        ),
+    ] {
+        let bytes = request_of(rt.alloc(), stated, digits)?;
+        let message = Message::from_bytes(bytes.as_slice())?;
+        let read: Result<Username, StunParseError> = message.attribute();
+        match read {
+            Ok(username) => assert_eq!(rt; Ok(username.username()), expected, "{name}"),
+            Err(error) => assert_eq!(rt; Err(error), expected, "{name}"),
+        }
     }
     Ok(())
 }

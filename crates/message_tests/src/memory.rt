@@ -2,6 +2,7 @@
 ghost use Rattle.std.specs.Prelude.{◌≡◌, ◌≤◌, [], length, IfOk};
 
 use fail_alloc::RefusingAllocator;
+use linked_list_allocator::LocalHeap;
 use std::alloc::{AllocError, Allocator, Global};
 use std::process::Abort;
 use std::test::Fail;
@@ -46,6 +47,22 @@ fn keys(rt: HostRuntime) -> Result<(), Fail> {
     assert_eq!(rt; key.as_bytes(), LONG_KEY.as_slice());
     assert_eq!(rt; key.clone()?.as_bytes(), LONG_KEY.as_slice());
     assert_eq!(rt; (heap.allocations(), heap.live()), (2, 1));
+    Ok(())
+}
+
+/// A key and its copy take as many bytes as they have, in blocks of 16. A longer key takes more.
+#[test]
+fn keys_in_a_small_heap(rt: HostRuntime) -> Result<(), Fail> {
+    let heap = LocalHeap::new(rt.alloc(), 512)?;
+    let key = IntegrityKey::from_bytes(&heap, &LONG_KEY)?;
+    assert_eq!(rt; heap.used(), 48);
+    let copy = key.clone()?;
+    assert_eq!(rt; heap.used(), 96);
+    let longer = IntegrityKey::from_bytes(&heap, &[5; 128])?;
+    assert_eq!(rt; longer.as_bytes(), [5; 128].as_slice());
+    assert_eq!(rt; longer.clone()?.as_bytes(), [5; 128].as_slice());
+    assert_eq!(rt; heap.used(), 224);
+    assert_eq!(rt; copy.as_bytes(), key.as_bytes());
     Ok(())
 }
 

@@ -44,5 +44,9 @@ fn keys_are_silent(rt: HostRuntime) -> Result<(), Fail> {
     let long: IntegrityKey = IntegrityKey::from_bytes(alloc, &[119; 64])?;
     expect_silent(&rt, alloc, &long)?;
     let prepared = PreparedKey::new(long, IntegrityAlgorithm::Sha1);
+    assert_eq!(rt;
+        format!(in alloc; "{prepared:?}")?.as_str(),
+        "PreparedKey { .. }"
+    );
     expect_silent(&rt, alloc, &prepared)
 }

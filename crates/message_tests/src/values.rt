@@ -1,8 +1,9 @@
-//! Ids, moments and credentials: what is made of them, what they are equal by, and that `Debug` shows no secret.
+//! Ids, moments, texts and credentials: what is made of them, what they are equal by, and that `Debug` shows no secret.
 use crate::rfc5769::{PASSWORD, REQUEST};
 use std::alloc::Global;
 use std::test::Fail;
 use std::time::Duration;
+use stun_base::compare::is_same_text;
 use stun_base::key::userhash;
 use stun_types::message::{
     IntegrityAlgorithm, LongTermCredentials, LongTermKeyCredentials, Message,
@@ -42,6 +43,16 @@ fn an_id_is_three_words(rt: HostRuntime) {
 fn moments_apart(rt: HostRuntime) {
     assert_eq!(rt; at(1500) - at(500), Duration::from_millis(1000));
     assert_eq!(rt; at(500) - at(1500), Duration::ZERO);
+}
+
+/// Each byte counts, and the length.
+#[test]
+fn texts_are_compared(rt: HostRuntime) {
+    let others: [&[u8]; 5] = [b"bbc", b"acc", b"abd", b"ab", b""];
+    for other in others {
+        assert!(rt; !is_same_text(b"abc", other));
+        assert!(rt; is_same_text(other, other));
+    }
 }
 
 fn password(alloc: Global, text: &str) -> Result<ShortTermCredentials, Fail> {

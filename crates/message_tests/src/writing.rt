@@ -74,9 +74,10 @@ fn refuses_without_room(rt: HostRuntime) -> Result<(), Fail> {
     assert_eq!(rt; writer.data(), header.as_slice());
     assert_eq!(rt; writer.room(), 4);
     assert_eq!(rt; &room[20..], [0xff; 4].as_slice());
-    let mut short = [0; 19];
+    let mut short = [0xff; 19];
     let answer = Message::builder_request(BINDING, id, MessageWriteMutSlice::new(&mut short));
     assert_eq!(rt; answer.err(), Some(StunWriteError::TooSmall));
+    assert_eq!(rt; short, [0xff; 19]);
     Ok(())
 }
 
@@ -138,6 +139,18 @@ fn refuses_what_is_too_long(rt: HostRuntime) -> Result<(), Fail> {
     assert_eq!(rt; answer.err(), Some(StunWriteError::TooLarge));
     let answer = write_long(rt.alloc(), 65536);
     assert_eq!(rt; answer.err(), Some(StunWriteError::TooLarge));
+    Ok(())
+}
+
+/// One attribute takes the whole of the longest message.
+#[test]
+fn writes_the_longest_attribute(rt: HostRuntime) -> Result<(), Fail> {
+    let mut value = Vec::new(rt.alloc());
+    value.resize(65528, 0xff)?;
+    let id = TransactionId::from_u128(1).ok_or("96 bits")?;
+    let mut writer = Message::builder_request(BINDING, id, MessageWriteVec::new(rt.alloc()))?;
+    writer.add_attribute(&RawAttribute::new(AttributeType::new(0x8022), value.as_slice()))?;
+    assert_eq!(rt; writer.data().len(), 65552);
     Ok(())
 }
 
@@ -295,6 +308,7 @@ fn each_call_signs_alike(rt: HostRuntime) -> Result<(), Fail> {
             let writer = MessageWriteMutSlice::new(&mut room);
             let written = signed(alloc, call, algorithm, writer)?.finish();
             assert_eq!(rt; written, expected.as_slice());
+            assert!(rt; room.iter().skip(expected.len()).all(|byte| *byte == 0xff));
             let written = signed(alloc, call, algorithm, ArrayWriter::<72>::new())?.finish();
             assert_eq!(rt; written.bytes(), expected.as_slice());
         }

@@ -23,19 +23,33 @@ impl Write for FailingWriter {
     }
 }
 
-/// What is handed to a writer that fails after so many calls, what comes after the failure too.
+/// What is handed to a writer that fails after so many calls, under each option of a formatter in turn, what comes after the
+/// failure too.
 fn cut<T: Debug>(alloc: Global, value: &T, calls: u32) -> String {
     let mut writer = FailingWriter {
         text: String::new(alloc),
         calls,
     };
-    let _failed = write!(writer, "{value:#?}");
+    let _answer = write!(writer, "{value:?}");
+    writer.calls = calls;
+    let _answer = write!(writer, "{value:#?}");
+    writer.calls = calls;
+    let _answer = write!(writer, "{value:40?}");
+    writer.calls = calls;
+    let _answer = write!(writer, "{value:040?}");
+    writer.calls = calls;
+    let _answer = write!(writer, "{value:*<40?}");
+    writer.calls = calls;
+    let _answer = write!(writer, "{value:.3?}");
+    writer.calls = calls;
+    let _answer = write!(writer, "{value:+?}");
     let FailingWriter { text, calls: _ } = writer;
     text
 }
 
-/// What is written of a value: plainly, in lines, within a width, inside another value, and where the writer fails.
-pub fn shown<T: Debug>(alloc: Global, value: &T) -> Result<[String; 7], Fail> {
+/// What is written of a value: plainly, in lines, within a width, inside another value, where the writer fails, and under each
+/// option where it does not, whatever the answer is.
+pub fn shown<T: Debug>(alloc: Global, value: &T) -> Result<[String; 8], Fail> {
     let nested = Some(value);
     Ok([
         format!(in alloc; "{value:?}")?,
@@ -45,6 +59,7 @@ pub fn shown<T: Debug>(alloc: Global, value: &T) -> Result<[String; 7], Fail> {
         cut(alloc, value, 0),
         cut(alloc, value, 1),
         cut(alloc, value, 2),
+        cut(alloc, value, u32::MAX),
     ])
 }
 

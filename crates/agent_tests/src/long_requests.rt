@@ -1,5 +1,4 @@
-//! A request of more bytes than a datagram of IPv6 always carries is kept like any other (RFC 8489, section 6.1, leaves its size
-//! to whoever sends it).
+//! The longest request is kept like any other (RFC 8489, section 6.1, leaves its size to whoever sends it).
 use std::test::Fail;
 use stun_agent::agent::StunAgent;
 use stun_base::transport::TransportType;
@@ -9,15 +8,16 @@ use stun_types::prelude::*;
 use test_support::datagrams::{at, local, peer};
 
 #[test]
-fn a_request_of_many_bytes_is_kept(rt: HostRuntime) -> Result<(), Fail> {
+fn the_longest_request_is_kept(rt: HostRuntime) -> Result<(), Fail> {
     let alloc = rt.alloc();
     let mut agent = StunAgent::builder(alloc, TransportType::Udp, local()).build();
     let id = TransactionId::from_u128(1).ok_or("96 bits")?;
     let mut writer = Message::builder_request(BINDING, id, MessageWriteVec::new(alloc))?;
-    writer.add_attribute(&RawAttribute::new(AttributeType::new(0x8022), &[0x61; 4000]))?;
+    // The length in the header is a multiple of 4 and has 16 bits.
+    writer.add_attribute(&RawAttribute::new(AttributeType::new(0x8022), &[0x61; 65528]))?;
     let request = writer.finish();
     let length = request.len();
-    assert_eq!(rt; length, 4024);
+    assert_eq!(rt; length, 65552);
     let sent = agent.send_request(request, peer(), at(0))?;
     assert_eq!(rt; sent.data.len(), length);
     let again = agent.poll_transmit(at(500)).ok_or("it is due")?;

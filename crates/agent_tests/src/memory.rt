@@ -171,7 +171,7 @@ fn a_peer_is_validated_or_not(rt: HostRuntime) -> Result<(), Fail> {
 
 /// What is to be sent, owned or not.
 fn owns(rt: &impl Abort, heap: &Heap, nth: u64) -> Result<bool, Fail> {
-    let bytes = message(REQUEST, 1);
+    let bytes = [7; 4000];
     let lent = Transmit::new(Data::Borrowed(&bytes), TransportType::Udp, local(), peer());
     heap.refuse(nth);
     let answer = lent.into_owned(heap);
@@ -221,14 +221,16 @@ fn waits_and_sends_again(rt: &impl Abort, agent: &mut StunAgent<&Heap>) -> Resul
     assert_eq!(rt; agent.poll(at(499)), wait(500));
     assert!(rt; agent.next_transmit(at(499)).is_none());
     assert!(rt; agent.poll_transmit(at(499)).is_none());
+    assert!(rt; agent.poll_transmit_within(at(499), 0)?.is_none());
     agent
         .mut_request_transaction(id(3)?)
         .ok_or("it is outstanding")?
         .cancel_retransmissions();
-    for _ in 0..2 {
-        assert!(rt; agent.next_transmit(at(500)).is_some());
-        assert!(rt; agent.poll_transmit(at(500)).is_some());
-    }
+    // A message of no attributes has 20 bytes.
+    assert!(rt; agent.poll_transmit_within(at(500), 19).is_err());
+    assert!(rt; agent.poll_transmit_within(at(500), 20)?.is_some());
+    assert!(rt; agent.next_transmit(at(500)).is_some());
+    assert!(rt; agent.poll_transmit(at(500)).is_some());
     assert!(rt; agent.poll_transmit(at(500)).is_none());
     assert_eq!(rt; agent.next_awaited(), Some(at(1500)));
     Ok(())

@@ -1,11 +1,10 @@
 //! What the errors of runs and of authenticators say, what `Debug` shows of a call, and a signing that a server refuses in a
 //! run.
 use std::test::Fail;
-use std::time::Duration;
-use stun_auth::auth::{Feature, LongTermClientAuth, LongTermServerAuth};
+use stun_auth::auth::{LongTermClientAuth, LongTermServerAuth};
 use stun_proto::replay::{NegotiateError, ServerCall, ServerReply, Stopped, negotiate, serve};
 use stun_types::attribute::AttributeType;
-use stun_types::message::{IntegrityAlgorithm, Message, StunWriteError, TransactionId};
+use stun_types::message::{Message, StunWriteError, TransactionId};
 use test_support::datagrams::{address, at};
 use test_support::secrets::{are_silent, shown};
 use test_support::spelled::bytes_of;
@@ -93,54 +92,6 @@ fn debug_shows_no_password_of_a_call(rt: HostRuntime) -> Result<(), Fail> {
     let texts = shown(alloc, &call)?;
     assert_eq!(rt; texts[0].as_str(), "AddUser { .. }");
     assert!(rt; are_silent(&texts, &["alice", "wonderland"]));
-    Ok(())
-}
-
-/// A call with values of an address, and one with values of a server's settings, shows its name alone.
-#[test]
-fn debug_shows_the_name_of_a_call(rt: HostRuntime) -> Result<(), Fail> {
-    let alloc = rt.alloc();
-    let from = address(1, 5000);
-    let message = bytes_of(alloc, REQUEST)?;
-    let validate = ServerCall::Validate {
-        from,
-        now: at(0),
-        message,
-        words: [7; 16],
-    };
-    assert_eq!(rt;
-        format!(in alloc; "{validate:?}")?.as_str(),
-        "Validate { .. }"
-    );
-    let sign = ServerCall::Sign {
-        to: from,
-        message: bytes_of(alloc, REQUEST)?,
-    };
-    assert_eq!(rt; format!(in alloc; "{sign:?}")?.as_str(), "Sign { .. }");
-    let calls = [
-        (
-            ServerCall::RemoveUser(String::from_str(alloc, "alice")?),
-            "RemoveUser(..)",
-        ),
-        (
-            ServerCall::AddIntegrity(IntegrityAlgorithm::Sha1),
-            "AddIntegrity(..)",
-        ),
-        (
-            ServerCall::SetIntegrity(IntegrityAlgorithm::Sha1),
-            "SetIntegrity(..)",
-        ),
-        (ServerCall::SetAnonymous(Feature::Auto), "SetAnonymous(..)"),
-        (ServerCall::RemoveClient(from), "RemoveClient(..)"),
-        (
-            ServerCall::SetExpiry(Duration::from_secs(30)),
-            "SetExpiry(..)",
-        ),
-        (ServerCall::ForgetExpired(at(0)), "ForgetExpired(..)"),
-    ];
-    for (call, text) in &calls {
-        assert_eq!(rt; format!(in alloc; "{call:?}")?.as_str(), *text);
-    }
     Ok(())
 }
 

@@ -1,4 +1,4 @@
-//! Tests of the authenticators of a client, and of what nonces say.
+//! Tests of the long-term authenticator of a client.
 #![tactic(auto)]
 
 #[cfg(test)]
@@ -12,10 +12,6 @@ mod memory;
 #[cfg(test)]
 mod messages;
 #[cfg(test)]
-mod nonces;
-#[cfg(test)]
 mod secrets;
-#[cfg(test)]
-mod short_term;
 #[cfg(test)]
 mod signing;

@@ -1,13 +1,7 @@
-//! Tests of whole runs: a driven agent, a server's list of calls, a meeting, and a nonce that is renewed.
+//! Tests of whole runs: a server's list of calls, and a meeting.
 #![tactic(auto)]
 
 #[cfg(test)]
-mod drive;
-#[cfg(test)]
 mod negotiate;
 #[cfg(test)]
-mod renewal;
-#[cfg(test)]
 mod serve;
-#[cfg(test)]
-mod unchecked;

@@ -1,4 +1,4 @@
-//! Tests that cross crates: the loops of a client and of a server on the same datagrams, and the public paths.
+//! Tests that cross crates: the loops of a client and of a server on the same datagrams.
 #![tactic(auto)]
 
 #[cfg(test)]
@@ -6,8 +6,4 @@ mod client_loop;
 #[cfg(test)]
 mod dialogue;
 #[cfg(test)]
-mod paths;
-#[cfg(test)]
 mod server_loop;
-#[cfg(test)]
-mod texts;

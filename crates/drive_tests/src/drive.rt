@@ -333,6 +333,7 @@ fn refuse_one<A: Allocator + Copy>(
     heap.refuse(nth);
     let first = run(heap, &mut agent, events, at(MIXED_END))?;
     let met_none = heap.met_none();
+    assert!(rt; first.is_ok() || !met_none);
     expect_run(rt, heap, &mut agent, events, first, whole.as_slice())?;
     assert_eq!(rt; agent.stats(), other.stats());
     Ok(met_none)

@@ -5,12 +5,13 @@ use std::alloc::Global;
 use std::process::Abort;
 use std::test::Fail;
 use stun_auth::auth::{Feature, LongTermClientAuth, LongTermServerAuth};
+use stun_base::instant::Instant;
 use stun_types::message::{IntegrityAlgorithm, MessageClass};
 use test_support::client::{self, Answer, RESEND, full_client, sha1_client, told};
 use test_support::parts::Part;
 use test_support::server::{
-    ONES, STALE_NONCE, ZEROS, address, asked, full_server, knocked, sha1_server, signed_bytes,
-    signed_challenge,
+    ONES, STALE_NONCE, UNAUTHORIZED, ZEROS, address, asked, full_server, knocked, sha1_server,
+    signed_bytes, signed_challenge,
 };
 use test_support::spelled::bytes_of;
 
@@ -18,6 +19,7 @@ use test_support::spelled::bytes_of;
 const LATE: u64 = 3_600_000_000_001;
 
 /// What both sides send: requests at the first nonce and at the second, and between them the error.
+#[derive(Clone, Copy)]
 struct Letters {
     first: &'static str,
     error: &'static str,
@@ -52,6 +54,12 @@ const PLAIN: Letters = Letters {
     00140005 7265616c6d000000 00060004 75736572 80020004 00010000 001d0004 00010000
     00080014 1fff4ae22c9d9fa0aae5b87986f75fe6cf54b544",
 };
+
+/// A 401 to an address whose client is known: signed under that client's key, without a list.
+const SIGNED_CHALLENGE: &str = "01110070 2112a442 000000000000000000000001
+    00090010 00000401 556e617574686f72697a6564
+    0015001d 6f624d61744a6f73327741414141414141414141414141414141414141000000 00140005 7265616c6d000000
+    001d0004 00020000 001c0020 862c4567c2aa3090d3fbc4ec60d96f56030c22b0acbfb0991b828bf7d67fdc0a";
 
 /// A server, and the client at the first address.
 #[derive(Drop)]
@@ -149,5 +157,50 @@ fn a_plain_client_renews_its_nonce(rt: HostRuntime) -> Result<(), Fail> {
     };
     sides.expect_renewal(&rt, rt.alloc(), &PLAIN, IntegrityAlgorithm::Sha1)?;
     assert!(rt; sides.server.nonce_for_client(address(1)) == Some("BBBBBBBBBBBBBBBB"));
+    Ok(())
+}
+
+/// Other messages of the address come first, and expired nonces are forgotten: a known client's address is kept.
+#[test]
+fn a_nonce_is_renewed_after_nonces_are_forgotten(rt: HostRuntime) -> Result<(), Fail> {
+    let alloc = rt.alloc();
+    let sha256 = IntegrityAlgorithm::Sha256;
+    let mut sides = Sides {
+        server: full_server(alloc, Feature::Auto)?,
+        client: full_client(alloc, Feature::Auto)?,
+    };
+    sides.challenge(&rt, alloc)?;
+    sides.expect_validated(&rt, alloc, (STRONG.first, 0), sha256)?;
+    let unsigned = bytes_of(alloc, client::BARE_REQUEST)?;
+    let answer = asked(
+        &mut sides.server,
+        unsigned.as_slice(),
+        (address(1), LATE),
+        ONES,
+    )?;
+    assert_eq!(rt; answer, UNAUTHORIZED);
+    sides.server.forget_expired(Instant::MAX);
+    sides.expect_stale(&rt, alloc, (STRONG.first, STRONG.error), sha256)?;
+    sides.expect_validated(&rt, alloc, (STRONG.second, LATE), sha256)
+}
+
+/// A client that begins anew at the address of a known one gives up, until the server forgets that one.
+#[test]
+fn a_client_that_begins_anew_gives_up_beside_a_known_one(rt: HostRuntime) -> Result<(), Fail> {
+    let alloc = rt.alloc();
+    let mut sides = Sides {
+        server: full_server(alloc, Feature::Auto)?,
+        client: full_client(alloc, Feature::Auto)?,
+    };
+    sides.challenge(&rt, alloc)?;
+    sides.expect_validated(&rt, alloc, (STRONG.first, 0), IntegrityAlgorithm::Sha256)?;
+    let mut anew = full_client(alloc, Feature::Auto)?;
+    let signed = signed_challenge(alloc, &mut sides.server)?;
+    let expected = bytes_of(alloc, SIGNED_CHALLENGE)?;
+    assert_eq!(rt; signed.as_slice(), expected.as_slice());
+    assert_eq!(rt; told(&mut anew, signed.as_slice())?, client::UNAUTHORIZED);
+    sides.server.remove_client(address(1));
+    let offered = signed_challenge(alloc, &mut sides.server)?;
+    assert_eq!(rt; told(&mut anew, offered.as_slice())?, RESEND);
     Ok(())
 }

@@ -1,10 +1,12 @@
 //! What the errors of runs and of authenticators say, what `Debug` shows of a call, and a signing that a server refuses in a
 //! run.
+use std::alloc::Global;
 use std::test::Fail;
-use stun_auth::auth::{LongTermClientAuth, LongTermServerAuth};
+use std::time::Duration;
+use stun_auth::auth::{Feature, LongTermClientAuth, LongTermServerAuth};
 use stun_proto::replay::{NegotiateError, ServerCall, ServerReply, Stopped, negotiate, serve};
 use stun_types::attribute::AttributeType;
-use stun_types::message::{Message, StunWriteError, TransactionId};
+use stun_types::message::{IntegrityAlgorithm, Message, StunWriteError, TransactionId};
 use test_support::datagrams::{address, at};
 use test_support::secrets::{are_silent, shown};
 use test_support::spelled::bytes_of;
@@ -92,6 +94,53 @@ fn debug_shows_no_password_of_a_call(rt: HostRuntime) -> Result<(), Fail> {
     let texts = shown(alloc, &call)?;
     assert_eq!(rt; texts[0].as_str(), "AddUser { .. }");
     assert!(rt; are_silent(&texts, &["alice", "wonderland"]));
+    Ok(())
+}
+
+/// `Debug` of a call is this text.
+fn is_shown_as(alloc: Global, call: ServerCall, text: &str) -> Result<bool, Fail> {
+    let shown = format!(in alloc; "{call:?}")?;
+    Ok(shown.as_str() == text)
+}
+
+/// A call with values of an address shows its name alone.
+#[test]
+fn debug_shows_the_name_of_a_call(rt: HostRuntime) -> Result<(), Fail> {
+    let alloc = rt.alloc();
+    let from = address(1, 5000);
+    let validate = ServerCall::Validate {
+        from,
+        now: at(0),
+        message: bytes_of(alloc, REQUEST)?,
+        words: [7; 16],
+    };
+    assert!(rt; is_shown_as(alloc, validate, "Validate { .. }")?);
+    let sign = ServerCall::Sign {
+        to: from,
+        message: bytes_of(alloc, REQUEST)?,
+    };
+    assert!(rt; is_shown_as(alloc, sign, "Sign { .. }")?);
+    let remove = ServerCall::RemoveClient(from);
+    assert!(rt; is_shown_as(alloc, remove, "RemoveClient(..)")?);
+    Ok(())
+}
+
+/// A call with values of a server's settings shows its name alone.
+#[test]
+fn debug_shows_the_name_of_a_setting(rt: HostRuntime) -> Result<(), Fail> {
+    let alloc = rt.alloc();
+    let remove = ServerCall::RemoveUser(String::from_str(alloc, "alice")?);
+    assert!(rt; is_shown_as(alloc, remove, "RemoveUser(..)")?);
+    let add = ServerCall::AddIntegrity(IntegrityAlgorithm::Sha1);
+    assert!(rt; is_shown_as(alloc, add, "AddIntegrity(..)")?);
+    let set = ServerCall::SetIntegrity(IntegrityAlgorithm::Sha1);
+    assert!(rt; is_shown_as(alloc, set, "SetIntegrity(..)")?);
+    let anonymous = ServerCall::SetAnonymous(Feature::Auto);
+    assert!(rt; is_shown_as(alloc, anonymous, "SetAnonymous(..)")?);
+    let expiry = ServerCall::SetExpiry(Duration::from_secs(30));
+    assert!(rt; is_shown_as(alloc, expiry, "SetExpiry(..)")?);
+    let forget = ServerCall::ForgetExpired(at(0));
+    assert!(rt; is_shown_as(alloc, forget, "ForgetExpired(..)")?);
     Ok(())
 }
 

@@ -1,0 +1,5 @@
+//! Tests of driven agents.
+#![tactic(auto)]
+
+#[cfg(test)]
+mod drive;

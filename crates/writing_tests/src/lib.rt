@@ -1,0 +1,7 @@
+//! Tests of messages that are written, and of the memory that messages ask for.
+#![tactic(auto)]
+
+#[cfg(test)]
+mod memory;
+#[cfg(test)]
+mod writing;

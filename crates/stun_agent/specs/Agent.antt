@@ -13,7 +13,7 @@ use Rattle.stun_agent.specs.declared.agent.StunAgentPollRet.TheVariants.{Transac
 use Rattle.stun_agent.specs.declared.error.StunError.{StunError}
 use Rattle.stun_agent.specs.declared.error.StunError.TheVariants.{AlreadyInProgress, ProtocolViolation, ParseError}
 use Rattle.stun_agent.specs.Datagrams.{Datagram}
-use Rattle.stun_agent.specs.Integrity.{integrity_of}
+use Rattle.stun_agent.specs.Integrity.{signing_algorithm}
 use Rattle.stun_agent.specs.Peers.{Peers, with_peer}
 use Rattle.stun_agent.specs.Statistics.{Statistics, Tally, new_statistics, counted, request_sent, request_sent_again, response_sent, indication_sent, request_received, response_received, indication_received, timed_out as one_timed_out, cancelled as one_cancelled}
 use Rattle.stun_agent.specs.Timing.{Settings, default_settings}
@@ -99,7 +99,7 @@ request_refusal agent bytes to =
 
 -- the transaction of a request
 abbrev pub request_of : Agent → List ℕ → SocketAddr → ℕ → Transaction
-request_of agent bytes to now = new_transaction bytes to (integrity_of bytes) agent.settings now
+request_of agent bytes to now = new_transaction bytes to (signing_algorithm bytes) agent.settings now
 
 -- the agent after it has sent a request, which is then outstanding
 abbrev pub after_send_request : Agent → List ℕ → SocketAddr → ℕ → Agent

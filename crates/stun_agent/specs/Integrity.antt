@@ -8,13 +8,13 @@ use Rattle.stun_types.specs.Visible.{visible}
 use Rattle.stun_types.specs.Walk.{Member}
 
 -- the types of integrity attributes
-abbrev pub is_integrity : ℕ → Bool
-is_integrity kind = (kind == MESSAGE_INTEGRITY_SHA256) || (kind == MESSAGE_INTEGRITY)
+abbrev pub is_integrity_kind : ℕ → Bool
+is_integrity_kind kind = (kind == MESSAGE_INTEGRITY_SHA256) || (kind == MESSAGE_INTEGRITY)
 
 -- the algorithm of the last integrity attribute among these
 abbrev pub last_integrity : List Member → Option IntegrityAlgorithm
-last_integrity members = option_map (λ m. integrity_algorithm m.1) (find (λ m. is_integrity m.1.kind) (reverse members))
+last_integrity members = option_map (λ m. integrity_algorithm m.1) (find (λ m. is_integrity_kind m.1.kind) (reverse members))
 
 -- the algorithm of the last visible integrity attribute
-abbrev pub integrity_of : List ℕ → Option IntegrityAlgorithm
-integrity_of bytes = last_integrity (visible bytes)
+abbrev pub signing_algorithm : List ℕ → Option IntegrityAlgorithm
+signing_algorithm bytes = last_integrity (visible bytes)

@@ -1,6 +1,6 @@
 //! The algorithm that a request is signed with.
 ghost use Rattle.std.specs.Prelude.{◌≡◌};
-ghost use Rattle.stun_agent.specs.Integrity.{integrity_of};
+ghost use Rattle.stun_agent.specs.Integrity.{signing_algorithm};
 ghost use Rattle.stun_agent.specs.code.Integrity.{integrity_after};
 
 use stun_base::algorithm::IntegrityAlgorithm;
@@ -9,7 +9,7 @@ use stun_types::message::MessageAttributesIter;
 
 /// The algorithm of the last visible integrity attribute.
 pub(crate) fn integrity_of(bytes: &[u8]) -> Option<IntegrityAlgorithm>
-    ensures { result ≡ integrity_of bytes.now }
+    ensures { result ≡ signing_algorithm bytes.now }
 {
     let mut last = None;
     for (_, attribute) in MessageAttributesIter::new(bytes) {

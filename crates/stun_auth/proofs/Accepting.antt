@@ -168,21 +168,23 @@ client_from : (v : Result ClientSeen Refusal) (a : IntegrityAlgorithm) → answe
 client_from (Ok client) a h = (client, refl, cc)
 client_from (Err refusal) a h = cc
 
-formed : (b : Bool) (v : Result ClientSeen Refusal) (a : IntegrityAlgorithm) → cond b (Err BadRequest) (answer_to v) ≡ Ok (Validated a) → answer_to v ≡ Ok (Validated a)
-formed true v a h = cc
-formed false v a h = h
-
-unresponded : (s : Sight) (now : ℕ) (words : List ℕ) (r : Reading) → is_response r.class ≡ false
-    → answer s now words r ≡ cond (is_malformed r) (Err BadRequest) (answer_to (verdict_at s (standing s now words) r))
+pub unresponded : (s : Sight) (now : ℕ) (words : List ℕ) (r : Reading) → is_response r.class ≡ false
+    → answer s now words r ≡ answer_to (verdict_at s (standing s now words) r)
 unresponded s now words r h =
-    ap (λ b. cond b (validated_or_failed (client_verified s.registered r s.place)) (cond (is_malformed r) (Err BadRequest) (answer_to (verdict_at s (standing s now words) r)))) h
+    ap (λ b. cond b (validated_or_failed (client_verified s.registered r s.place)) (answer_to (verdict_at s (standing s now words) r))) h
 
--- what is accepted is not malformed
-whole : (protected complete : Bool) (rest : Result ClientSeen Refusal) (client : ClientSeen)
-    → cond (not protected) (Err Refused.Unauthorized) (cond (not complete) (Err Refused.BadRequest) rest) ≡ Ok client → (protected && not complete) ≡ false
-whole true true rest client h = refl
-whole true false rest client h = cc
-whole false complete rest client h = cc
+-- what is malformed is refused, whatever nonce is current
+incomplete : (protected complete : Bool) (rest : Result ClientSeen Refusal) → (protected && not complete) ≡ true
+    → cond (not protected) (Err Refused.Unauthorized) (cond (not complete) (Err Refused.BadRequest) rest) ≡ Err Refused.BadRequest
+incomplete true true rest h = cc
+incomplete true false rest h = refl
+incomplete false complete rest h = cc
+
+pub malformed-answer : (s : Sight) (now : ℕ) (words : List ℕ) (r : Reading) → is_response r.class ≡ false → is_malformed r ≡ true → answer s now words r ≡ Err BadRequest
+malformed-answer s now words r plain malformed =
+    let p = standing s now words in
+    unresponded s now words r plain
+    ∙ ap answer_to (sym (by_steps-verdict s.registered s.feature p.nonce p.offered r) ∙ incomplete (is_some r.integrity) (is_complete r) _ malformed)
 
 pub answer-accepted : (s : Sight) (now : ℕ) (words : List ℕ) (r : Reading) → ValidatesAccepted s now words r (answer s now words r)
 answer-accepted s now words r plain a = (forth, back)
@@ -190,7 +192,7 @@ answer-accepted s now words r plain a = (forth, back)
     forth : answer s now words r ≡ Ok (Validated a) → AcceptedWith s now words r a
     forth h =
         let p = standing s now words in
-        let found = client_from (verdict_at s p r) a (formed (is_malformed r) (verdict_at s p r) a (sym (unresponded s now words r plain) ∙ h)) in (
+        let found = client_from (verdict_at s p r) a (sym (unresponded s now words r plain) ∙ h) in (
           found.0.name,
           accepted_from_verdict s.registered s.feature p.nonce p.offered r (record { name = found.0.name; algorithm = a })
               (found.1 ∙ ap (λ x. Ok (record { name = found.0.name; algorithm = x })) found.2),
@@ -201,7 +203,4 @@ answer-accepted s now words r plain a = (forth, back)
         let p = standing s now words in
         let client : ClientSeen = record { name = one.0; algorithm = a } in
         let judged = verdict_from_accepted s.registered s.feature p.nonce p.offered r client one.1 in
-        let well_formed : is_malformed r ≡ false = whole (is_some r.integrity) (is_complete r) _ client (by_steps-verdict s.registered s.feature p.nonce p.offered r ∙ judged) in
-        unresponded s now words r plain
-        ∙ ap (λ b. cond b (Err BadRequest) (answer_to (verdict_at s p r))) well_formed
-        ∙ ap answer_to judged
+        unresponded s now words r plain ∙ ap answer_to judged

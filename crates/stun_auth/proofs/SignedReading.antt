@@ -20,8 +20,8 @@ use Rattle.stun_types.specs.Writing.{IsOpen, is_set_apart}
 use Rattle.stun_auth.specs.AddedAttribute.{password_algorithm, password_algorithms}
 use Rattle.stun_auth.specs.Additions.{Addition, attribute, integrity, Page, added_all, is_too_long}
 use Rattle.stun_auth.specs.Joined.{IsReadBack, IsTyped, Protection, added_last, last_value, protection_in}
-use Rattle.stun_auth.specs.Reading.{error_code, has_integrity, last, last_of, reading_of}
-use Rattle.stun_auth.specs.Signed.{Added, IsBuilt, IsText, IsTextOf, IsUnsigned, IsWithinLimits, IsWritable, ReadsAs, additions_of, if_there}
+use Rattle.stun_auth.specs.Reading.{error_code, has_visible_integrity, last, last_of, reading_of}
+use Rattle.stun_auth.specs.Signed.{Added, IsBuilt, IsText, IsUnsigned, IsWithinLimits, ReadsAs, additions_of, if_there}
 use Rattle.stun_auth.proofs.JoinedLemmas.{IsShort, WritingLaws, all_short, has_added, not_above, or_none}
 use Rattle.stun_auth.proofs.JoinedReading.{or_nothing, read_back}
 use Rattle.stun_auth.proofs.ReadingLemmas.{is_some-cond}
@@ -195,7 +195,7 @@ read_added reading kind message list bytes o back apart none is =
     ∙ ap (option_and_then reading) (back kind apart ∙ (ap (option_or (added_last kind list)) none ∙ (or_nothing (added_last kind list) ∙ is)))
 
 -- texts, hash and algorithms that are written are read again
-text_again : (kind most : ℕ) (o : Option (List ℕ)) → IfSome o (IsTextOf most) → option_and_then (text_of kind most) (option_map (typed_as kind) o) ≡ o
+text_again : (kind most : ℕ) (o : Option (List ℕ)) → IfSome o (λ bytes. IsUtf8 bytes × (length bytes ≤ most)) → option_and_then (text_of kind most) (option_map (typed_as kind) o) ≡ o
 text_again kind most None fits = refl
 text_again kind most (Some bytes) fits = text_of-written kind most bytes fits
 
@@ -216,44 +216,6 @@ algorithm_again : (o : Option IntegrityAlgorithm) → option_map integrity_of (o
 algorithm_again None = refl
 algorithm_again (Some Sha1) = refl
 algorithm_again (Some Sha256) = refl
-
--- ---- the whole reading
-pub reads_as : WritingLaws → (a : Added) (message : List ℕ) (room : ℕ) (page : Page) → IsUnsigned message → IsWritable a
-    → added_all (additions_of a) (record { bytes = message; room = room }) ≡ Ok page → ReadsAs (class_in message) (error_code message) a (reading_of page.bytes)
-unfolding reading_of
-reads_as laws a message room page unsigned writable done =
-    let bytes = page.bytes in
-    let list = additions_of a in
-    let is_open = unsigned.is_open in
-    let added = has_added laws list message room page is_open (typed-additions a) done in
-    let back = read_back message list bytes added in
-    let none = unsigned.none in
-    let protection = protection-additions a in
-    let same_class : class_in bytes ≡ class_in message = ap class_of added.type_is in
-    let same_error : last error_of ERROR_CODE bytes ≡ last error_of ERROR_CODE message =
-    by_value error_of (last_of ERROR_CODE (visible bytes)) ∙ (ap (option_and_then error_of) (back ERROR_CODE refl ∙ ap (λ found. option_or found (last_value ERROR_CODE message)) (last-error a))
-    ∙ sym (by_value error_of (last_of ERROR_CODE (visible message)))) in
-    record {
-      class_is = same_class;
-      error_is = λ i. if is_error (same_class i) then option_map (λ (e : CodeAndReason). e.code) (same_error i) else None;
-      realm_is = read_added (text_of REALM 763) REALM message list bytes (option_map (typed_as REALM) a.realm) back refl
-          (none_before laws REALM message is_open none.1.0) (last-realm a) ∙ text_again REALM 763 a.realm writable.realm;
-      nonce_is = read_added (text_of NONCE 763) NONCE message list bytes (option_map (typed_as NONCE) a.nonce) back refl
-          (none_before laws NONCE message is_open none.0) (last-nonce a) ∙ text_again NONCE 763 a.nonce writable.nonce;
-      username_is = read_added (text_of USERNAME 513) USERNAME message list bytes (option_map (typed_as USERNAME) a.username) back refl
-          (none_before laws USERNAME message is_open none.1.1.0) (last-username a) ∙ text_again USERNAME 513 a.username writable.username;
-      userhash_is = read_added hash_of USERHASH message list bytes (option_map (typed_as USERHASH) a.userhash) back refl
-          (none_before laws USERHASH message is_open none.1.1.1.0) (last-userhash a) ∙ hash_again a.userhash writable.userhash;
-      algorithms_are = ap (option_map (map integrity_of)) (read_added password_algorithms_in PASSWORD_ALGORITHMS message list bytes (option_map password_algorithms a.algorithms) back refl
-          (none_before laws PASSWORD_ALGORITHMS message is_open none.1.1.1.1.0) (last-algorithms a)) ∙ list_again a.algorithms;
-      algorithm_is = ap (option_map integrity_of) (read_added password_algorithm_in PASSWORD_ALGORITHM message list bytes (option_map password_algorithm a.algorithm) back refl
-          (none_before laws PASSWORD_ALGORITHM message is_open none.1.1.1.1.1.0) (last-algorithm a)) ∙ algorithm_again a.algorithm;
-      integrity_is = is_some-cond (has_integrity bytes) (verified_algorithm bytes) ∙ (added.integrity_is ∙ ap is_some protection);
-      digest_stands = λ p is.
-          let has : has_integrity bytes ≡ true = added.integrity_is ∙ ap is_some (protection ∙ is) in
-          ap (λ holds. option_and_then (λ (verify : List ℕ → Option IntegrityAlgorithm). verify p.key) (if holds then Some (verified_algorithm bytes) else None)) has
-          ∙ added.digest_stands p (protection ∙ is);
-    }
 
 -- ---- what was written is within its limits
 
@@ -285,15 +247,43 @@ both_there : {A : Type 0} (o : Option A) (P Q : A → Type 0) → IfSome o P →
 both_there None P Q p q = tt
 both_there (Some x) P Q p q = (p, q)
 
--- so texts can be read again
-pub written-again : (a : Added) (page done : Page) → IsText a → added_all (additions_of a) page ≡ Ok done → IsWritable a
-written-again a page done texts is =
-    let within = written-within a page done is in
+-- ---- the whole reading
+pub reads_as : WritingLaws → (a : Added) (message : List ℕ) (room : ℕ) (page : Page) → IsUnsigned message → IsText a
+    → added_all (additions_of a) (record { bytes = message; room = room }) ≡ Ok page → ReadsAs (class_in message) (error_code message) a (reading_of page.bytes)
+unfolding reading_of
+reads_as laws a message room page unsigned texts done =
+    let bytes = page.bytes in
+    let list = additions_of a in
+    let within = written-within a (record { bytes = message; room = room }) page done in
+    let is_open = unsigned.is_open in
+    let added = has_added laws list message room page is_open (typed-additions a) done in
+    let back = read_back message list bytes added in
+    let none = unsigned.none in
+    let protection = protection-additions a in
+    let same_class : class_in bytes ≡ class_in message = ap class_of added.type_is in
+    let same_error : last error_of ERROR_CODE bytes ≡ last error_of ERROR_CODE message =
+    by_value error_of (last_of ERROR_CODE (visible bytes)) ∙ (ap (option_and_then error_of) (back ERROR_CODE refl ∙ ap (λ found. option_or found (last_value ERROR_CODE message)) (last-error a))
+    ∙ sym (by_value error_of (last_of ERROR_CODE (visible message)))) in
     record {
-      nonce = both_there a.nonce IsUtf8 (λ bytes. length bytes ≤ 763) texts.nonce within.nonce;
-      realm = both_there a.realm IsUtf8 (λ bytes. length bytes ≤ 763) texts.realm within.realm;
-      username = both_there a.username IsUtf8 (λ bytes. length bytes ≤ 513) texts.username within.username;
-      userhash = texts.userhash;
+      class_is = same_class;
+      error_is = λ i. if is_error (same_class i) then option_map (λ (e : CodeAndReason). e.code) (same_error i) else None;
+      realm_is = read_added (text_of REALM 763) REALM message list bytes (option_map (typed_as REALM) a.realm) back refl
+          (none_before laws REALM message is_open none.1.0) (last-realm a) ∙ text_again REALM 763 a.realm (both_there a.realm IsUtf8 (λ bytes. length bytes ≤ 763) texts.realm within.realm);
+      nonce_is = read_added (text_of NONCE 763) NONCE message list bytes (option_map (typed_as NONCE) a.nonce) back refl
+          (none_before laws NONCE message is_open none.0) (last-nonce a) ∙ text_again NONCE 763 a.nonce (both_there a.nonce IsUtf8 (λ bytes. length bytes ≤ 763) texts.nonce within.nonce);
+      username_is = read_added (text_of USERNAME 513) USERNAME message list bytes (option_map (typed_as USERNAME) a.username) back refl
+          (none_before laws USERNAME message is_open none.1.1.0) (last-username a) ∙ text_again USERNAME 513 a.username (both_there a.username IsUtf8 (λ bytes. length bytes ≤ 513) texts.username within.username);
+      userhash_is = read_added hash_of USERHASH message list bytes (option_map (typed_as USERHASH) a.userhash) back refl
+          (none_before laws USERHASH message is_open none.1.1.1.0) (last-userhash a) ∙ hash_again a.userhash texts.userhash;
+      algorithms_are = ap (option_map (map integrity_of)) (read_added password_algorithms_in PASSWORD_ALGORITHMS message list bytes (option_map password_algorithms a.algorithms) back refl
+          (none_before laws PASSWORD_ALGORITHMS message is_open none.1.1.1.1.0) (last-algorithms a)) ∙ list_again a.algorithms;
+      algorithm_is = ap (option_map integrity_of) (read_added password_algorithm_in PASSWORD_ALGORITHM message list bytes (option_map password_algorithm a.algorithm) back refl
+          (none_before laws PASSWORD_ALGORITHM message is_open none.1.1.1.1.1.0) (last-algorithm a)) ∙ algorithm_again a.algorithm;
+      integrity_is = is_some-cond (has_visible_integrity bytes) (verified_algorithm bytes) ∙ (added.integrity_is ∙ ap is_some protection);
+      digest_stands = λ p is.
+          let has : has_visible_integrity bytes ≡ true = added.integrity_is ∙ ap is_some (protection ∙ is) in
+          ap (λ holds. option_and_then (λ (verify : List ℕ → Option IntegrityAlgorithm). verify p.key) (if holds then Some (verified_algorithm bytes) else None)) has
+          ∙ added.digest_stands p (protection ∙ is);
     }
 
 -- of a message that was built, class and error code are what it was built with

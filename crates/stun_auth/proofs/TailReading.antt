@@ -15,7 +15,7 @@ use Rattle.stun_types.specs.Text.{text_of}
 use Rattle.stun_types.specs.Userhash.{hash_of}
 use Rattle.stun_types.specs.Visible.{visible}
 use Rattle.stun_types.specs.Walk.{Member}
-use Rattle.stun_auth.specs.Reading.{has_integrity, is_integrity, last, last_of, reading_of}
+use Rattle.stun_auth.specs.Reading.{has_visible_integrity, is_integrity, last, last_of, reading_of}
 use Rattle.stun_auth.specs.ShortTerm.{Secret, short_term_answer, verdict_of}
 use Rattle.stun_auth.proofs.JoinedReading.{or_nothing}
 
@@ -73,7 +73,7 @@ reading-alike bytes others alike =
     let nonce = last-alike (text_of NONCE 763) NONCE bytes others alike refl in
     let username = last-alike (text_of USERNAME 513) USERNAME bytes others alike refl in
     let userhash = last-alike hash_of USERHASH bytes others alike refl in
-    let integrity : has_integrity bytes ≡ has_integrity others =
+    let integrity : has_visible_integrity bytes ≡ has_visible_integrity others =
     ap is_some (sym (find-besides (visible bytes)) ∙ (ap (find (λ (m : Member). is_integrity m.1)) alike.shown ∙ find-besides (visible others))) in
     λ i. record {
       class = class i;

@@ -90,7 +90,7 @@ pub kept-unchanged : (s : Sight) (now : ℕ) (words : List ℕ) (r : Reading) (p
 kept-unchanged s now words r place there stands same =
     let stays : standing s now words ≡ place =
     ap (λ o. standing_of o (nonce_of s.registered.algorithms s.feature words) now (moment_after now s.expiry)) there
-    ∙ ap (λ b. cond b place (renewed (Some place) (nonce_of s.registered.algorithms s.feature words) (moment_after now s.expiry) None)) stands in record {
+    ∙ ap (λ b. cond b place (renewed (Some place) (nonce_of s.registered.algorithms s.feature words) (moment_after now s.expiry))) stands in record {
       no_nonce = ap (λ o. needs_nonce r && not (stands_at now o)) there ∙ ap (λ b. needs_nonce r && not b) stands ∙ needed-false (needs_nonce r);
       same_place = if-same (needs_nonce r) (Some (with_accepted (standing s now words) (verdict_at s (standing s now words) r))) s.place
           (ap (λ p. Some (with_accepted p (verdict_at s p r))) stays ∙ ap Some same ∙ sym there);

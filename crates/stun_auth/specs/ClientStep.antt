@@ -139,14 +139,14 @@ after_digest state success None = record { answer = Err IntegrityFailed; state =
 after_digest state success (Some algorithm) = record { answer = Ok (Validated algorithm); state = if success then confirmed state else state }
 
 -- the kept challenge with another realm and nonce, and the same key
-abbrev pub renewed : ClientState → List ℕ → List ℕ → ClientState
-renewed initial realm nonce = initial
-renewed (authenticating c) realm nonce = authenticating (record c { realm = realm; nonce = nonce })
-renewed (authenticated c) realm nonce = authenticated (record c { realm = realm; nonce = nonce })
+abbrev pub with_realm_and_nonce : ClientState → List ℕ → List ℕ → ClientState
+with_realm_and_nonce initial realm nonce = initial
+with_realm_and_nonce (authenticating c) realm nonce = authenticating (record c { realm = realm; nonce = nonce })
+with_realm_and_nonce (authenticated c) realm nonce = authenticated (record c { realm = realm; nonce = nonce })
 
 -- a stale nonce, which brings the next one
 abbrev pub after_stale : ClientState → Option IntegrityAlgorithm → Option (List ℕ) → Option (List ℕ) → ClientStep
-after_stale state digest (Some realm) (Some nonce) = record { answer = Ok (ResendRequest digest); state = renewed state realm nonce }
+after_stale state digest (Some realm) (Some nonce) = record { answer = Ok (ResendRequest digest); state = with_realm_and_nonce state realm nonce }
 after_stale state digest None _ = after_digest state false digest
 after_stale state digest (Some realm) None = after_digest state false digest
 

@@ -10,7 +10,7 @@ use Rattle.stun_types.specs.Visible.{visible}
 use Rattle.stun_types.specs.Walk.{Member}
 use Rattle.stun_types.specs.Writing.{IsOpen, integrity_attribute, is_set_apart}
 use Rattle.stun_auth.specs.Additions.{Addition, attribute, integrity, Page, growth_of, with_addition}
-use Rattle.stun_auth.specs.Reading.{has_integrity, last_of}
+use Rattle.stun_auth.specs.Reading.{has_visible_integrity, last_of}
 
 -- the type of an attribute is a number of 16 bits
 abbrev pub IsTyped : Addition → Type 0
@@ -56,7 +56,7 @@ pub record HasAdded (before : List ℕ) (list : List Addition) (after : List ℕ
   pub transaction_id_is : transaction_id_field after ≡ transaction_id_field before
   pub visible_is : visible after ≡ visible before ++ added_members before list
   -- a well-formed integrity attribute is there where a digest was added, and only there
-  pub integrity_is : has_integrity after ≡ is_some (protection_in list)
+  pub integrity_is : has_visible_integrity after ≡ is_some (protection_in list)
   -- without a digest more can be added
   pub is_open : protection_in list ≡ None → IsOpen after
   -- with one, it verifies under its key

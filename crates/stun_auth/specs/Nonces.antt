@@ -12,6 +12,10 @@ use Rattle.stun_auth.specs.Algorithms.{contains}
 use Rattle.stun_auth.specs.Feature.{is_possible}
 use Rattle.stun_auth.specs.declared.algorithm_set.AlgorithmSet.{AlgorithmSet}
 
+-- the shortest time that a nonce may last, in nanoseconds: 30 seconds
+abbrev pub MINIMUM_EXPIRY : ℕ
+MINIMUM_EXPIRY = 30000000000
+
 -- what a nonce begins with that carries security bits
 abbrev pub cookie : List ℕ
 cookie = codes "obMatJos2"

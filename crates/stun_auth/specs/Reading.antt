@@ -31,8 +31,8 @@ is_integrity attribute =
     ((attribute.kind == MESSAGE_INTEGRITY) || (attribute.kind == MESSAGE_INTEGRITY_SHA256)) && is_well_formed attribute
 
 -- whether one is visible
-abbrev pub has_integrity : List ℕ → Bool
-has_integrity bytes = is_some (find (λ m. is_integrity m.1) (visible bytes))
+abbrev pub has_visible_integrity : List ℕ → Bool
+has_visible_integrity bytes = is_some (find (λ m. is_integrity m.1) (visible bytes))
 
 -- Each attribute is its last visible one, where that is well formed.
 pub record Reading : Type 0 where
@@ -69,5 +69,5 @@ reading_of bytes = record {
   userhash = last hash_of USERHASH bytes;
   algorithms = option_map (map integrity_of) (last password_algorithms_in PASSWORD_ALGORITHMS bytes);
   algorithm = option_map integrity_of (last password_algorithm_in PASSWORD_ALGORITHM bytes);
-  integrity = if has_integrity bytes then Some (verified_algorithm bytes) else None;
+  integrity = if has_visible_integrity bytes then Some (verified_algorithm bytes) else None;
 }

@@ -1,6 +1,5 @@
 -- What a server keeps for an address (RFC 8489, section 9.2.4).
 use Rattle.std.specs.Prelude.{ℕ, List, Option, Some, None}
-use Rattle.std.specs.Option.{option_or}
 use Rattle.stun_base.specs.declared.algorithm.IntegrityAlgorithm.{IntegrityAlgorithm}
 use Rattle.stun_auth.specs.declared.algorithm_set.AlgorithmSet.{AlgorithmSet}
 
@@ -16,8 +15,7 @@ pub record PlaceSeen : Type 0 where
   pub offered : Option AlgorithmSet
   pub client : Option ClientSeen
 
--- a place with a new nonce, and with a new client if there is one: what was offered stays
-abbrev pub renewed : Option PlaceSeen → List ℕ → ℕ → Option ClientSeen → PlaceSeen
-renewed None nonce expires client = record { nonce = nonce; expires = expires; offered = None; client = client }
-renewed (Some place) nonce expires client =
-    record { nonce = nonce; expires = expires; offered = place.offered; client = option_or client place.client }
+-- a place with a new nonce: what was offered and who is known stay
+abbrev pub renewed : Option PlaceSeen → List ℕ → ℕ → PlaceSeen
+renewed None nonce expires = record { nonce = nonce; expires = expires; offered = None; client = None }
+renewed (Some place) nonce expires = record place { nonce = nonce; expires = expires }

@@ -38,8 +38,8 @@ stands_at now (Some place) = nat_le now place.expires
 
 -- the place where a nonce is current, or else the place with a new nonce
 abbrev pub standing_of : Option PlaceSeen → List ℕ → ℕ → ℕ → PlaceSeen
-standing_of None nonce now end = renewed None nonce end None
-standing_of (Some place) nonce now end = if nat_le now place.expires then place else renewed (Some place) nonce end None
+standing_of None nonce now end = renewed None nonce end
+standing_of (Some place) nonce now end = if nat_le now place.expires then place else renewed (Some place) nonce end
 
 -- the place once a nonce is needed: the current one stays, else one is made of the random words
 abbrev pub standing : Sight → ℕ → List ℕ → PlaceSeen

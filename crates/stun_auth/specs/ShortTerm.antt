@@ -30,7 +30,7 @@ short_term_refusal None message room = None
 short_term_refusal (Some secret) message room = signing_refusal message room secret.algorithm
 
 -- the integrity attribute of an algorithm can be after a message in a writer with so much room
-pub record HasRoomFor (algorithm : IntegrityAlgorithm) (message : List ℕ) (room : ℕ) : Type 0 where
+pub record HasRoomForDigest (algorithm : IntegrityAlgorithm) (message : List ℕ) (room : ℕ) : Type 0 where
   pub unsigned : has_integrity message ≡ false
   pub short : length_with message (digest_length algorithm) ≤ max_length
   pub fits : attribute_length (digest_length algorithm) ≤ room
@@ -38,7 +38,7 @@ pub record HasRoomFor (algorithm : IntegrityAlgorithm) (message : List ℕ) (roo
 -- nothing refuses the signing of a message in a writer with so much room
 abbrev pub ShortTermMaySign : Option Secret → List ℕ → ℕ → Type 0
 ShortTermMaySign None message room = ⊤
-ShortTermMaySign (Some secret) message room = HasRoomFor secret.algorithm message room
+ShortTermMaySign (Some secret) message room = HasRoomForDigest secret.algorithm message room
 
 -- the algorithm whose digest verifies, or why none does
 abbrev pub verdict_of : Option IntegrityAlgorithm → ValidateError → Result (Option IntegrityAlgorithm) ValidateError

@@ -55,24 +55,13 @@ additions_of a =
     (if_there (λ algorithm. attribute (attributes.password_algorithm algorithm)) a.algorithm
     (if_there (λ (p : Protection). integrity p.algorithm p.key) a.integrity []))))))
 
--- a text within the limit of its attribute
-abbrev pub IsTextOf : ℕ → List ℕ → Type 0
-IsTextOf most text = IsUtf8 text × (length text ≤ most)
-
--- texts and hash are within their limits (sections 14.3, 14.4, 14.9 and 14.10)
-pub record IsWritable (a : Added) : Type 0 where
-  pub nonce : IfSome a.nonce (IsTextOf TEXT_LIMIT)
-  pub realm : IfSome a.realm (IsTextOf TEXT_LIMIT)
-  pub username : IfSome a.username (IsTextOf USERNAME_LIMIT)
-  pub userhash : IfSome a.userhash (λ hash. length hash ≡ 32)
-
--- texts are within their limits
+-- texts are within their limits (sections 14.3, 14.9 and 14.10)
 pub record IsWithinLimits (a : Added) : Type 0 where
   pub nonce : IfSome a.nonce (λ text. length text ≤ TEXT_LIMIT)
   pub realm : IfSome a.realm (λ text. length text ≤ TEXT_LIMIT)
   pub username : IfSome a.username (λ text. length text ≤ USERNAME_LIMIT)
 
--- texts are UTF-8, and a hash has its length
+-- texts are UTF-8, and a hash has its length (section 14.4)
 pub record IsText (a : Added) : Type 0 where
   pub nonce : IfSome a.nonce IsUtf8
   pub realm : IfSome a.realm IsUtf8

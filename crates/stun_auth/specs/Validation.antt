@@ -11,7 +11,7 @@ use Rattle.stun_auth.specs.declared.feature.Feature.{Feature}
 use Rattle.stun_auth.specs.declared.feature.Feature.TheVariants.{Auto}
 use Rattle.stun_auth.specs.declared.server_reason.Refusal.{Refusal}
 use Rattle.stun_auth.specs.declared.server_reason.LongTermServerAuthErrorReason.{LongTermServerAuthErrorReason}
-use Rattle.stun_auth.specs.declared.server_reason.LongTermServerAuthErrorReason.TheVariants.{IntegrityFailed, BadRequest}
+use Rattle.stun_auth.specs.declared.server_reason.LongTermServerAuthErrorReason.TheVariants.{IntegrityFailed}
 use Rattle.stun_auth.specs.declared.server_reason.LongTermServerValidation.{LongTermServerValidation}
 use Rattle.stun_auth.specs.declared.server_reason.LongTermServerValidation.TheVariants.{Validated}
 use Rattle.stun_base.specs.MessageType.{is_response}
@@ -57,7 +57,7 @@ validated_or_failed (Some a) = Ok (Validated a)
 abbrev pub is_complete : Reading → Bool
 is_complete r = is_some r.realm && is_some r.nonce && (is_some r.userhash || is_some r.username)
 
--- whether integrity is there and one of these is not: refused without a nonce
+-- whether integrity is there and one of these is not, which is refused whatever nonce is current: none is made for it
 abbrev pub is_malformed : Reading → Bool
 is_malformed r = is_some r.integrity && not (is_complete r)
 
@@ -83,7 +83,6 @@ verdict_at s place r = verdict s.registered s.feature place.nonce place.offered 
 abbrev pub answer : Sight → ℕ → List ℕ → Reading → Answer
 answer s now words r =
     if is_response r.class then validated_or_failed (client_verified s.registered r s.place)
-    else if is_malformed r then Err BadRequest
     else answer_to (verdict_at s (standing s now words) r)
 
 -- the place that is left

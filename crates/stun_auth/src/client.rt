@@ -34,11 +34,11 @@ enum State<A: Allocator> {
 }
 
 impl<A: Allocator> State<A> {
-    ghost use Rattle.stun_auth.specs.ClientStep.{confirmed, renewed};
+    ghost use Rattle.stun_auth.specs.ClientStep.{confirmed, with_realm_and_nonce};
 
     /// Replaces the kept realm and nonce. The key stays.
     fn renew(&mut self, realm: ShortText<A>, nonce: ShortText<A>)
-        ensures { state_seen self.new ≡ renewed (state_seen self.old) (string_bytes realm.text)
+        ensures { state_seen self.new ≡ with_realm_and_nonce (state_seen self.old) (string_bytes realm.text)
             (string_bytes nonce.text) }
     {
         match self {

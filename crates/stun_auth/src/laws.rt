@@ -29,7 +29,7 @@ ghost use Rattle.stun_auth.specs.Seen.{ClientSeen, PlaceSeen};
 ghost use Rattle.stun_auth.specs.Server.{Sight, stands_at};
 ghost use Rattle.stun_auth.specs.ServerSigning.{after_signing, server_signed};
 ghost use Rattle.stun_auth.specs.ShortTerm.{Secret, short_term_answer};
-ghost use Rattle.stun_auth.specs.Signed.{Added, ClientMaySign, HasRoomFor, IsBuilt, IsSignable, IsSmall, IsText, IsUnsigned, IsWithinLimits, IsWritable, ReadsAs, ServerMaySign, added_by_client, added_by_server, additions_of, error_attribute};
+ghost use Rattle.stun_auth.specs.Signed.{Added, ClientMaySign, HasRoomFor, IsBuilt, IsSignable, IsSmall, IsText, IsUnsigned, IsWithinLimits, ReadsAs, ServerMaySign, added_by_client, added_by_server, additions_of, error_attribute};
 ghost use Rattle.stun_auth.specs.Validation.{ChangesNothing, ServerSeen, ValidatesAccepted, after_message, answer, needs_nonce, sight, verdict_at};
 
 use crate::client_answer::{
@@ -62,7 +62,7 @@ pub fn additions_are_read_back()
 /// it did not add is not there, and the digest verifies under the key that it was made with.
 pub fn signed_messages_are_read()
     ensures { (a : Added) (message : List ℕ) (room : ℕ) (page : Page) → IsUnsigned message
-        → IsWritable a
+        → IsText a
         → added_all (additions_of a) (record { bytes = message; room = room }) ≡ Ok page
         → ReadsAs (class_in message) (error_code message) a (reading_of page.bytes) }
 {

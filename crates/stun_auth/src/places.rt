@@ -5,9 +5,8 @@ ghost use Rattle.std.specs.Option.{option_map, option_copied};
 ghost use Rattle.std.specs.FinMap as map;
 ghost use Rattle.std.specs.String.{string_bytes};
 ghost use Rattle.stun_auth.specs.Forgetting.{is_forgotten, places_kept};
-ghost use Rattle.stun_auth.specs.Seen.{renewed};
 ghost use Rattle.stun_auth.specs.Places.{with_change, with_client, with_offer};
-ghost use Rattle.stun_auth.specs.code.Places.{client_seen, place_seen};
+ghost use Rattle.stun_auth.specs.code.Places.{client_seen, place_seen, renewed_with};
 
 use crate::algorithm_set::AlgorithmSet;
 use crate::short_text::ShortText;
@@ -53,13 +52,12 @@ pub(crate) struct Place<A: Allocator> {
 
 impl<A: Allocator> Place<A> {
     ghost use Rattle.stun_auth.specs.Forgetting.{is_forgotten};
-    ghost use Rattle.stun_auth.specs.Seen.{renewed};
     ghost use Rattle.stun_auth.specs.Places.{with_offer};
-    ghost use Rattle.stun_auth.specs.code.Places.{place_seen, client_seen};
+    ghost use Rattle.stun_auth.specs.code.Places.{place_seen, client_seen, renewed_with};
 
     /// The place of an address that had none.
     fn new(nonce: ShortText<A>, expires: Instant, client: Option<Client<A>>) -> Self
-        ensures { place_seen result ≡ renewed None (string_bytes nonce.text) expires
+        ensures { place_seen result ≡ renewed_with None (string_bytes nonce.text) expires
             (option_map client_seen client) }
     {
         Place {
@@ -99,7 +97,7 @@ impl<A: Allocator> Place<A> {
 
     /// Gives the place another nonce, and another client if there is one.
     fn renew(&mut self, nonce: ShortText<A>, expires: Instant, client: Option<Client<A>>)
-        ensures { place_seen self.new ≡ renewed (Some (place_seen self.old))
+        ensures { place_seen self.new ≡ renewed_with (Some (place_seen self.old))
             (string_bytes nonce.text) expires (option_map client_seen client) }
     {
         self.nonce = nonce;
@@ -194,7 +192,7 @@ impl<A: Allocator + Copy> Places<A> {
         client: Option<Client<A>>,
     ) -> Result<(), AllocError>
         ensures ok { OnOk result (self.new ≡ map.insert self.old address
-            (renewed (map.get self.old address) (string_bytes nonce.text) expires
+            (renewed_with (map.get self.old address) (string_bytes nonce.text) expires
             (option_map client_seen client))) }
         ensures err { OnErr result (self.new ≡ self.old) }
     {

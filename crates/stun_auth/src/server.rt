@@ -8,6 +8,7 @@ ghost use Rattle.std.specs.FinMap as map;
 ghost use Rattle.std.specs.String.{string_bytes};
 ghost use Rattle.stun_auth.specs.Algorithms.{listed, only, with_algorithm};
 ghost use Rattle.stun_auth.specs.Forgetting.{after_forgetting};
+ghost use Rattle.stun_auth.specs.Nonces.{MINIMUM_EXPIRY};
 ghost use Rattle.stun_auth.specs.Seen.{PlaceSeen};
 ghost use Rattle.stun_auth.specs.Places.{with_change, with_client};
 ghost use Rattle.stun_auth.specs.Registered.{with_user, without_user};
@@ -37,7 +38,7 @@ const DEFAULT_NONCE_EXPIRY_SECONDS: u64 = 3600;
 
 /// The shortest time that a nonce may last: 30 seconds.
 pub fn minimum_nonce_expiry_duration() -> Duration
-    ensures { as_nanos result ≡ 30000000000 }
+    ensures { as_nanos result ≡ MINIMUM_EXPIRY }
 {
     Duration::from_secs(MINIMUM_NONCE_EXPIRY_SECONDS)
 }
@@ -211,8 +212,8 @@ impl<A: Allocator + Copy> LongTermServerAuth<A> {
     /// that were offered to it are gone, and what was kept for them is freed. Other addresses stay as they are.
     ///
     /// It does not allocate. It walks the places once, so call it now and then, as once in the time that a nonce is current,
-    /// and not at each message. A forgotten address is met as a new one: what comes with a nonce that was made before is
-    /// refused, and its sender is challenged anew.
+    /// and not at each message. A forgotten address is met as a new one: what comes from there with an earlier nonce is refused
+    /// as stale, and where it repeats the algorithms of a forgotten offer, as a bad request.
     pub fn forget_expired(&mut self, now: Instant)
         ensures { self.new ≡ after_forgetting self.old now }
     {
@@ -221,7 +222,7 @@ impl<A: Allocator + Copy> LongTermServerAuth<A> {
 
     /// Sets how long nonces last that are made from here on: at least `minimum_nonce_expiry_duration()`, which is 30 seconds.
     pub fn set_nonce_expiry_duration(&mut self, expiry: Duration)
-        requires { 30000000000 ≤ as_nanos expiry }
+        requires { MINIMUM_EXPIRY ≤ as_nanos expiry }
         ensures { self.new ≡ record self.old { expiry = as_nanos expiry } }
     {
         self.expiry = expiry;

@@ -7,5 +7,5 @@ abbrev pub hex_byte : ℕ → List ℕ
 hex_byte byte = digit_glyph false (byte / 16) ∷ digit_glyph false (byte % 16) ∷ []
 
 -- a type, a number of 16 bits, as 0x and four digits
-abbrev pub text_of : ℕ → List ℕ
-text_of kind = codes "0x" ++ hex_byte (kind / 256) ++ hex_byte (kind % 256)
+abbrev pub type_text : ℕ → List ℕ
+type_text kind = codes "0x" ++ hex_byte (kind / 256) ++ hex_byte (kind % 256)

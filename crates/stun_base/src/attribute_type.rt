@@ -1,7 +1,7 @@
 //! The type of an attribute, and the types of the registry that messages here have.
 
 ghost use Rattle.std.specs.Prelude.{◌≡◌, Some};
-ghost use Rattle.stun_base.specs.AttributeText.{text_of};
+ghost use Rattle.stun_base.specs.AttributeText.{type_text};
 
 use std::fmt;
 
@@ -53,7 +53,7 @@ impl AttributeType {
 }
 
 impl fmt::Display for AttributeType {
-    ghost output = { λ kind. Some (text_of kind.0) };
+    ghost output = { λ kind. Some (type_text kind.0) };
 
     #[tactic(auto, using(crate::proofs::HexLemmas::hex_byte_written))]
     fn fmt<W: fmt::Write>(&self, f: &mut fmt::Formatter<W>) -> fmt::Result {

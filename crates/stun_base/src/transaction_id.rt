@@ -1,7 +1,7 @@
 //! The id of a transaction.
 
 ghost use Rattle.std.specs.Prelude.{◌≡◌, ◌<◌, ◌≤◌, ◌^◌, ◌↔◌, length, IsSome, IfSome, Some};
-ghost use Rattle.stun_base.specs.TransactionId.{number_of_words};
+ghost use Rattle.stun_base.specs.TransactionId.{value_of_words};
 ghost use Rattle.stun_base.specs.Words.{next_words, after_words};
 
 use byteorder::{BigEndian, ByteOrder};
@@ -55,7 +55,7 @@ impl TransactionId {
     /// of that quality.
     #[tactic(auto, unfolding(crate::specs::Words::next_words, crate::specs::Words::after_words))]
     pub fn generate<R: Rng>(rng: &mut R) -> TransactionId
-        ensures value { result ≡ number_of_words 0 (next_words 3 (R.stream rng.old)) }
+        ensures value { result ≡ value_of_words (next_words 3 (R.stream rng.old)) }
         ensures source { R.stream rng.new ≡ after_words 3 (R.stream rng.old) }
     {
         let high = rng.next_u32() as u128;

@@ -3,7 +3,7 @@ use Rattle.std.specs.Prelude.{◌≡◌, ℕ, List, [], ◌∷◌, ◌++◌, cod
 use Rattle.std.specs.Fmt.{decimal}
 use Rattle.std.specs.Io.KnownBytes.{Appends}
 use Rattle.stun_base.specs.declared.error.StunParseError.{StunParseError}
-use Rattle.stun_base.specs.AttributeText.{text_of}
+use Rattle.stun_base.specs.AttributeText.{type_text}
 use Rattle.stun_types.specs.Message.{refusal}
 use Rattle.stun_inspect.specs.declared.status.Status.{Status}
 use Rattle.stun_inspect.specs.declared.status.Status.TheVariants.{Good, Bad}
@@ -18,7 +18,7 @@ use Rattle.stun_inspect.specs.Verdict.{line_of}
 abbrev pub IsLineOn : List ℕ → Told → List ℕ → Type 0
 IsLineOn message told line =
     (rest : List ℕ) × (line
-    ≡ decimal told.place ++ (codes " " ++ (text_of told.attribute.kind ++ (codes " " ++ (rest ++ (ending_of message told ++ 10 ∷ []))))))
+    ≡ decimal told.place ++ (codes " " ++ (type_text told.attribute.kind ++ (codes " " ++ (rest ++ (ending_of message told ++ 10 ∷ []))))))
 
 -- a text is one line on each attribute, in order
 abbrev pub AreLinesOn : List ℕ → List Told → List ℕ → Type 0

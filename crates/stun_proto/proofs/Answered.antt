@@ -3,7 +3,7 @@ use Rattle.std.proofs.Common.{◌≡◌, ℕ, List, Some, true, false, ◌∙◌
 use Rattle.std.specs.Prelude.{cond, not, ◌&&◌, ◌||◌}
 use Rattle.std.specs.Option.{is_some}
 use Rattle.std.specs.declared.result.Result.{Result}
-use Rattle.stun_auth.specs.declared.server_reason.LongTermServerAuthErrorReason.TheVariants.{Unauthorized, BadRequest}
+use Rattle.stun_auth.specs.declared.server_reason.LongTermServerAuthErrorReason.TheVariants.{Unauthorized}
 use Rattle.stun_base.specs.MessageType.{is_response}
 use Rattle.stun_auth.specs.Reading.{Reading}
 use Rattle.stun_auth.specs.Reasons.{ServerRefusal}
@@ -18,8 +18,7 @@ module _ (s : Sight) (now : ℕ) (words : List ℕ) (r : Reading) (p : PlaceSeen
   judged : (o : Result ClientSeen ServerRefusal) → is_malformed r ≡ false → verdict_at s p r ≡ o
       → (answer s now words r ≡ answer_to o) × (place_after s now words r ≡ Some (with_accepted p o))
   judged o whole verdict = (
-    ap (λ b. cond b (validated_or_failed (client_verified s.registered r s.place)) (cond (is_malformed r) (Err BadRequest) (answer_to (verdict_at s (standing s now words) r)))) asks
-        ∙ ap (λ b. cond b (Err BadRequest) (answer_to (verdict_at s (standing s now words) r))) whole
+    ap (λ b. cond b (validated_or_failed (client_verified s.registered r s.place)) (answer_to (verdict_at s (standing s now words) r))) asks
         ∙ ap (λ q. answer_to (verdict_at s q r)) at ∙ ap answer_to verdict,
     ap (λ b. cond (not (b || is_malformed r)) (Some (with_accepted (standing s now words) (verdict_at s (standing s now words) r))) s.place) asks
         ∙ ap (λ b. cond (not b) (Some (with_accepted (standing s now words) (verdict_at s (standing s now words) r))) s.place) whole

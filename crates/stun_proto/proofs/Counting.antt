@@ -21,7 +21,7 @@ use Rattle.stun_base.specs.Header.{transaction_id_field}
 use Rattle.stun_proto.specs.declared.replay.event.AgentEvent.{AgentEvent}
 use Rattle.stun_proto.specs.declared.replay.event.AgentEvent.TheVariants.{Send, SendRequest, Receive, Cancel, CancelRetransmissions, Configure, ValidatePeer}
 use Rattle.stun_proto.specs.Counters.{count_of, is_time_out, is_cancellation, is_sent, sent_bytes, Adds, CountsSteps, RunsCountSteps}
-use Rattle.stun_proto.specs.Run.{Phase, sending, Turn, sends, rests, ends, again, stops, Turns, turn, none, Run, done, event, transmitted, ended, after_event, steps_of_event}
+use Rattle.stun_proto.specs.Run.{Phase, Turn, sends, rests, ends, again, stops, Turns, turn, none, Run, done, event, transmitted, ended, after_event, steps_of_event}
 use Rattle.stun_proto.specs.Steps.{Step, Transmitted, Sent, Received, Refused, TimedOut, Cancelled}
 
 -- ---- tallies

@@ -62,7 +62,7 @@ module _ (users : Registered) (feature : Feature) (expiry : ℕ) (bound : ℕ) (
   pub standing_kept : (p : PlaceSeen) → IsKept users feature bound removable p → (now : ℕ) (words : List ℕ) → IsKept users feature bound removable (standing (seen_at (Some p)) now words)
   standing_kept p k now words = by (nat_le now p.expires) refl
     where
-      by : (b : Bool) → nat_le now p.expires ≡ b → kept (cond b p (renewed (Some p) (nonce_of users.algorithms feature words) (moment_after now expiry) None))
+      by : (b : Bool) → nat_le now p.expires ≡ b → kept (cond b p (renewed (Some p) (nonce_of users.algorithms feature words) (moment_after now expiry)))
       by true h = k
       by false h = record {
         words = words;

@@ -31,7 +31,7 @@ use Rattle.stun_auth.specs.Validation.{ServerSeen, after_message, answer, place_
 use Rattle.stun_proto.specs.Best.{best}
 use Rattle.stun_proto.specs.Honest.{AgreesOn, AreShort, ComesTo, HaveOwnHashes, IsHonest, IsReady}
 use Rattle.stun_proto.specs.Matching.{AreJoined, AreTexts, Matches}
-use Rattle.stun_proto.specs.Negotiation.{Meeting, Met, asked, challenge_read, challenged, confirmed, failure, first_answered, first_asked, negotiated, responded, second_answered, second_asked, succeeded, success}
+use Rattle.stun_proto.specs.Negotiation.{Meeting, Met, asked, challenge_read, challenged, success_read, failure, first_answered, first_asked, negotiated, responded, second_answered, second_asked, succeeded, success}
 use Rattle.stun_proto.specs.Serving.{after_calls}
 use Rattle.stun_proto.proofs.Answered.{protected, unprotected}
 use Rattle.stun_proto.proofs.Chosen.{best-had, choose-best}
@@ -158,7 +158,7 @@ module _ (say : NoncesAsk) (found : SignedIsRead) (m : Meeting) (who : NameAndPa
   }
 
   second_at : standing (seen offering) m.second.now m.second.words ≡ offering
-  second_at = ap (λ b. cond b offering (renewed (Some offering) (nonce_of users.algorithms server.feature m.second.words) (moment_after m.second.now server.expiry) None)) (le-leb m.second.now (moment_after m.first.now server.expiry) ready.in_time)
+  second_at = ap (λ b. cond b offering (renewed (Some offering) (nonce_of users.algorithms server.feature m.second.words) (moment_after m.second.now server.expiry))) (le-leb m.second.now (moment_after m.first.now server.expiry) ready.in_time)
 
   second_served : (a : IntegrityAlgorithm) → contains a users.algorithms ≡ true → (r : Reading) → IsRequest (challenge a) r
       → (answer (seen offering) m.second.now m.second.words r ≡ Ok (Served.Validated a)) × (place_after (seen offering) m.second.now m.second.words r ≡ Some (taken a))
@@ -178,7 +178,7 @@ module _ (say : NoncesAsk) (found : SignedIsRead) (m : Meeting) (who : NameAndPa
       }
 
   agreed_on : (a : IntegrityAlgorithm) → contains a users.algorithms ≡ true → (last : ServerSeen) → sight last m.from ≡ seen (taken a)
-      → AgreesOn m.from who a (confirmed a last (record { answer = Ok (Read.Validated a); state = authenticated (challenge a) }))
+      → AgreesOn m.from who a (success_read a last (record { answer = Ok (Read.Validated a); state = authenticated (challenge a) }))
   agreed_on a had last is = record {
     ending = refl;
     server_client = ap (λ (v : Sight). option_and_then (λ (p : PlaceSeen). p.client) v.place) is;
@@ -222,8 +222,8 @@ module _ (say : NoncesAsk) (found : SignedIsRead) (m : Meeting) (who : NameAndPa
             let reads = found.success m.second.id (seen (taken a)) (taken a) (record { name = who.username; algorithm = a }) (challenge a).key page refl refl
             (key_found say users server.feature offering (challenge a) who (matched a had)) texts.realm (say.text users.algorithms server.feature m.first.words) (sym (ap (responded (success m.second.id)) is) ∙ signed) in
             let last_is = sight-after_signing before m.from ∙ ap (λ (v : Sight). record v { place = option_map (with_offer v.registered.algorithms) v.place }) is in
-            subst (λ o. ComesTo m.from who o (confirmed a (after_signing before m.from true) (client_step m.settings (authenticating (challenge a)) (reading_of page.bytes)))) (sym chosen)
-            (subst (λ step. AgreesOn m.from who a (confirmed a (after_signing before m.from true) step)) (sym (success_step m.settings (challenge a) (reading_of page.bytes) a reads))
+            subst (λ o. ComesTo m.from who o (success_read a (after_signing before m.from true) (client_step m.settings (authenticating (challenge a)) (reading_of page.bytes)))) (sym chosen)
+            (subst (λ step. AgreesOn m.from who a (success_read a (after_signing before m.from true) step)) (sym (success_step m.settings (challenge a) (reading_of page.bytes) a reads))
             (agreed_on a had (after_signing before m.from true) last_is)),
       ))
 

@@ -12,7 +12,6 @@ use Rattle.stun_auth.specs.Reading.{Reading, reading_of}
 use Rattle.stun_auth.specs.Seen.{ClientSeen, PlaceSeen}
 use Rattle.stun_auth.specs.Server.{Sight, client_of, named, or_refused, standing, verdict}
 use Rattle.stun_auth.specs.Server.{refusal as auth_refusal}
-use Rattle.stun_auth.specs.declared.server_reason.LongTermServerAuthErrorReason.TheVariants.{BadRequest}
 use Rattle.stun_auth.specs.Validation.{AcceptedWith, ServerSeen, answer, answer_to, client_verified, is_malformed, place_after, sight, validated_or_failed, with_accepted}
 use Rattle.stun_proto.specs.Accepting.{ValidatesAccepted}
 use Rattle.stun_proto.specs.Isolation.{concerns, own, own_place_after, place_unless, sight_over}
@@ -46,7 +45,7 @@ answered_place v now words r = by (is_response r.class) (is_malformed r)
 
     by : (response malformed : Bool)
         → cond (not (response || malformed)) (Some (client_by_reply p (named v.registered v.feature r)
-        (reply_of_answer (cond response (validated_or_failed (client_verified v.registered r v.place)) (cond malformed (Err BadRequest) (answer_to (verdict v.registered v.feature p.nonce p.offered r))))))) v.place
+        (reply_of_answer (cond response (validated_or_failed (client_verified v.registered r v.place)) (answer_to (verdict v.registered v.feature p.nonce p.offered r)))))) v.place
         ≡ cond (not (response || malformed)) (Some (with_accepted p (verdict v.registered v.feature p.nonce p.offered r))) v.place
     by true malformed = refl
     by false true = refl

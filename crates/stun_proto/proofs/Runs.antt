@@ -6,7 +6,6 @@ use Rattle.stun_base.specs.declared.algorithm.IntegrityAlgorithm.{IntegrityAlgor
 use Rattle.stun_base.specs.declared.error.StunWriteError.{StunWriteError}
 use Rattle.stun_base.specs.declared.error.StunWriteError.TheVariants.{NotAllowed, MessageIntegrityExists, AttributeExists, TooLarge, TooSmall, IntegrityFailed, OutOfMemory}
 use Rattle.stun_types.specs.WriteVec.{Written}
-use Rattle.stun_auth.specs.declared.client_answer.LongTermClientAuthErrorReason.TheVariants as Client
 use Rattle.stun_auth.specs.declared.client_answer.LongTermClientValidation.TheVariants as Read
 use Rattle.stun_auth.specs.declared.server_reason.LongTermServerAuthErrorReason.{LongTermServerAuthErrorReason}
 use Rattle.stun_auth.specs.declared.server_reason.LongTermServerAuthErrorReason.TheVariants as Server
@@ -18,7 +17,7 @@ use Rattle.stun_auth.specs.Reading.{reading_of}
 use Rattle.stun_auth.specs.ServerSigning.{after_signing}
 use Rattle.stun_auth.specs.Validation.{Answer, ServerSeen, after_message, answer, sight}
 use Rattle.stun_proto.specs.Negotiating.{error_of, met_by}
-use Rattle.stun_proto.specs.Negotiation.{Meeting, Met, asked, challenge_answered, challenged, ended, failure, first_answered, first_asked, negotiated, outcome_of, responded, second_answered, second_asked, succeeded, success, unwritten}
+use Rattle.stun_proto.specs.Negotiation.{Meeting, Met, asked, challenge_answered, challenged, ended, failure, first_answered, first_asked, negotiated, outcome_of_success, responded, second_answered, second_asked, succeeded, success, unwritten}
 use Rattle.stun_proto.specs.Serving.{after_calls}
 use Rattle.stun_proto.specs.Sides.{Sides, sides_after_calls, sides_after_challenge, sides_after_first, sides_after_second, sides_after_success, if_accepted, if_resent, if_unauthorized, sides, sides_of}
 use Rattle.stun_proto.specs.code.Sides.{IsRun}
@@ -109,13 +108,13 @@ module _ (m : Meeting) (client : ClientSide) (before : ServerSeen) where
         (subst (λ s. Contains (there_signed ∷ []) (sides client.state s)) (sym left) (here there_signed []))))))
 
     -- the client has answered
-    pub success_read : (new : ClientSide) (given : ClientAnswer) (outcome : Outcome) → given ≡ last_step.answer → new ≡ stepped client last_step → outcome ≡ outcome_of a given
+    pub success_read : (new : ClientSide) (given : ClientAnswer) (outcome : Outcome) → given ≡ last_step.answer → new ≡ stepped client last_step → outcome ≡ outcome_of_success a given
         → IsRun (Ok outcome) client new server (succeeded m a client.state before (responded (success m.second.id) (sight before m.from))) (first ∷ sides_after_success m client.state before)
     success_read new given outcome told left_client is =
         run_ended outcome client new server _ (first ∷ sides_after_success m client.state before) (ap (λ (k : ClientSide). k.settings) left_client)
-        (ap (λ x. ended x new.state server) (is ∙ ap (outcome_of a) told)
-        ∙ ap (λ (k : ClientSide). ended (outcome_of a last_step.answer) k.state server) left_client
-        ∙ ap (ended (outcome_of a last_step.answer) last_step.state) left
+        (ap (λ x. ended x new.state server) (is ∙ ap (outcome_of_success a) told)
+        ∙ ap (λ (k : ClientSide). ended (outcome_of_success a last_step.answer) k.state server) left_client
+        ∙ ap (ended (outcome_of_success a last_step.answer) last_step.state) left
         ∙ ap (succeeded m a client.state before) signed)
 
   -- ---- the second request

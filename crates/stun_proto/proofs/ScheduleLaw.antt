@@ -21,7 +21,7 @@ use Rattle.stun_base.specs.declared.message_type.MessageClass.TheVariants.{Reque
 use Rattle.stun_base.specs.declared.transport.TransportType.{TransportType}
 use Rattle.stun_types.specs.Message.{refusal}
 use Rattle.stun_agent.specs.Agent.{Agent, with_transactions, is_elsewhere, answered, sending_refusal, after_send, request_refusal, request_of, after_send_request, takes_message, tallied, with_validated, after_class, after_response, sent_by_poll, after_poll_transmit, ended_by_poll, after_poll}
-use Rattle.stun_agent.specs.Integrity.{integrity_of}
+use Rattle.stun_agent.specs.Integrity.{signing_algorithm}
 use Rattle.stun_agent.specs.Statistics.{response_received}
 use Rattle.stun_agent.specs.Timing.{Settings, timeout, slots, final_wait, planned_end, sum_of_timeouts}
 use Rattle.stun_agent.specs.Transactions.{IsAscending, Transaction, at, without, cancelled, silenced, configured, next_sent, first_over, wake_up, an_hour, is_due, awaited, after_slot, after_slots, slot_passed, repeats, round_trip}
@@ -480,7 +480,7 @@ pub keeps_plan : (until start : ℕ) (bytes : List ℕ) (to : SocketAddr) (a b c
 unfolding own plan_from
 keeps_plan until start bytes to a b c events at_start run bound within ascends accepted t r order quiet =
     let id = transaction_id_field bytes in
-    let integrity = integrity_of bytes in
+    let integrity = signing_algorithm bytes in
     let fresh = request_of a bytes to start in
     let first = first_transmission start a.settings (omega arith) in
     let n = slots a.transport a.settings in

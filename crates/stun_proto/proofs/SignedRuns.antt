@@ -1,25 +1,18 @@
 -- What is read of each message of a run, and that it can be signed, by the laws on what signing adds.
-use Rattle.std.proofs.Common.{◌≡◌, ℕ, zero, suc, ◌+◌, ◌-◌, ◌<◌, ◌≤◌, ◌^◌, List, [], ◌∷◌, length, Bool, true, false, Option, Some, None, refl, sym, ◌∙◌, ap, subst, Ok, Err, arith}
-use Rattle.std.specs.Prelude.{cond, codes, IsOk, IsUtf8, nat_lt, ◌||◌, ◌&&◌, if◌then◌else◌}
+use Rattle.std.proofs.Common.{◌≡◌, ℕ, zero, suc, ◌+◌, ◌-◌, ◌<◌, ◌≤◌, ◌^◌, List, [], ◌∷◌, length, Bool, true, false, Option, Some, None, refl, sym, ◌∙◌, ap, subst, Ok, arith}
+use Rattle.std.specs.Prelude.{codes, IsOk, IsUtf8, nat_lt, ◌||◌, ◌&&◌, if◌then◌else◌}
 use Rattle.std.specs.Option.{IsSome, option_map}
-use Rattle.std.specs.declared.result.Result.{Result}
-use Rattle.std.proofs.lemmas.Bool.{ltb-false, ltb-true}
+use Rattle.std.proofs.lemmas.Bool.{ltb-true}
 use Rattle.std.specs.Str.{IsAscii}
 use Rattle.std.proofs.lemmas.Str.{IsUtf8-from_ascii}
 use Rattle.std.proofs.lemmas.Str.Ascii.{IsAscii-nil}
 use Rattle.sha2.proofs.Facts256.{length-sha256}
 use Rattle.stun_base.specs.MessageType.{class_of, type_number, class_in, is_response, is_success, is_error}
-use Rattle.stun_base.specs.declared.algorithm.IntegrityAlgorithm.{IntegrityAlgorithm}
-use Rattle.stun_base.specs.declared.error.StunWriteError.{StunWriteError}
-use Rattle.stun_base.specs.declared.error.StunWriteError.TheVariants.{TooLarge}
 use Rattle.stun_base.specs.declared.message_type.MessageClass.{MessageClass}
 use Rattle.stun_base.specs.declared.message_type.MessageClass.TheVariants as Class
-use Rattle.stun_types.specs.Attribute.{TypedValue}
 use Rattle.stun_types.specs.ErrorCode.{CodeAndReason, IsError}
 use Rattle.stun_types.specs.Grammar.{spelled}
-use Rattle.stun_types.specs.Writing.{attribute_refusal}
-use Rattle.stun_auth.specs.AddedAttribute as attributes
-use Rattle.stun_auth.specs.Additions.{Addition, Page, added_all, added_one, after, attribute, growth_of, is_too_long, unless_refused, with_addition}
+use Rattle.stun_auth.specs.Additions.{Page, added_all}
 use Rattle.stun_auth.specs.declared.algorithm_set.AlgorithmSet.{AlgorithmSet}
 use Rattle.stun_auth.specs.declared.algorithm_set.AlgorithmSet.TheVariants.{OnlySha1, OnlySha256, Both}
 use Rattle.stun_auth.specs.declared.feature.Feature.{Feature}
@@ -29,11 +22,11 @@ use Rattle.stun_auth.specs.ClientSigning.{client_additions, kept_challenge}
 use Rattle.stun_auth.specs.ClientStep.{STALE_NONCE, UNAUTHORIZED, naming_of}
 use Rattle.stun_auth.specs.Nonces.{nonce_of}
 use Rattle.stun_auth.specs.Reading.{error_code, reading_of}
-use Rattle.stun_auth.specs.Registered.{Registered, key_at}
+use Rattle.stun_auth.specs.Registered.{key_at}
 use Rattle.stun_auth.specs.Seen.{ClientSeen, PlaceSeen}
 use Rattle.stun_auth.specs.Server.{Sight}
 use Rattle.stun_auth.specs.ServerSigning.{server_signed}
-use Rattle.stun_auth.specs.Signed.{Added, IsBuilt, IsSmall, IsUnsigned, IsWritable, ReadsAs, added_at, added_by_client, added_by_server, added_for, added_if_kept, added_under, added_under_key, added_without_client, additions_of, error_attribute, is_listed, nothing, only_if, plain_name, hashed_name}
+use Rattle.stun_auth.specs.Signed.{Added, IsBuilt, IsSmall, IsText, IsUnsigned, ReadsAs, added_at, added_by_client, added_by_server, added_for, added_if_kept, added_under, added_under_key, added_without_client, additions_of, error_attribute, is_listed, nothing, only_if, plain_name, hashed_name}
 use Rattle.stun_proto.specs.Negotiation.{asked, error, failure, request, responded, success}
 use Rattle.stun_proto.specs.Signing.{page_of}
 use Rattle.stun_proto.specs.Renewal.{IsAsked, IsTold}
@@ -41,7 +34,7 @@ use Rattle.stun_proto.proofs.Signed.{IsBare, IsFailure, IsRequest, IsSuccess, Si
 
 -- the laws on signing
 pub record SigningLaws : Type 0 where
-  pub read : (a : Added) (message : List ℕ) (room : ℕ) (page : Page) → IsUnsigned message → IsWritable a
+  pub read : (a : Added) (message : List ℕ) (room : ℕ) (page : Page) → IsUnsigned message → IsText a
       → added_all (additions_of a) (record { bytes = message; room = room }) ≡ Ok page → ReadsAs (class_in message) (error_code message) a (reading_of page.bytes)
   pub bare : (message_type transaction_id : ℕ) → message_type < 2 ^ 14 → IsBuilt (spelled message_type transaction_id []) (class_of message_type) None
   pub failure : (message_type transaction_id : ℕ) (error : CodeAndReason) → message_type < 2 ^ 14 → IsError error
@@ -77,56 +70,13 @@ from_small (b ∷ bytes) h =
     let split = both (nat_lt b 128) (all_small bytes) h in
     in_front b bytes (ltb-true b 128 split.0) (from_small bytes split.1)
 
--- ---- what was added is within its limits
-
-first_fits : (a : TypedValue) (others : List Addition) (page done : Page) → added_all (attribute a ∷ others) page ≡ Ok done → is_too_long a ≡ false
-unfolding added_one
-first_fits a others page done is =
-    elim (is_too_long a) as (λ b. is_too_long a ≡ b → b ≡ false) [
-      | true ↦ λ long. impossible (sym (ap (λ b. after (unless_refused (cond b (Some TooLarge) (attribute_refusal page.bytes page.room a.kind (length a.value)))
-          (record { bytes = with_addition (attribute a) page.bytes; room = page.room - growth_of (attribute a) })) (added_all others)) long) ∙ is)
-      | false ↦ λ _. refl
-    ] refl
-  where
-    impossible : Err TooLarge ≡ Ok done → true ≡ false
-    impossible h = cc
-
-others_added : (addition : Addition) (others : List Addition) (page done : Page) → added_all (addition ∷ others) page ≡ Ok done
-    → (next : Page) × (added_all others next ≡ Ok done)
-others_added addition others page done is = by_result (added_one addition page) is
-  where
-    by_result : (o : Result Page StunWriteError) → after o (added_all others) ≡ Ok done → (next : Page) × (added_all others next ≡ Ok done)
-    by_result (Ok next) h = (next, h)
-    by_result (Err reason) h = cc
-
-long_text : (text : List ℕ) → (false || nat_lt 763 (length text)) ≡ false → length text ≤ 763
-long_text text h = ltb-false 763 (length text) h
-
-long_name : (text : List ℕ) → ((nat_lt 513 (length text)) || false) ≡ false → length text ≤ 513
-long_name text h = ltb-false 513 (length text) (without (nat_lt 513 (length text)) h)
-  where
-    without : (b : Bool) → (b || false) ≡ false → b ≡ false
-    without true h = cc
-    without false h = refl
-
--- nonce and realm come first
-two_fit : (nonce realm : List ℕ) (others : List Addition) (page done : Page)
-    → added_all (attribute (attributes.nonce nonce) ∷ attribute (attributes.realm realm) ∷ others) page ≡ Ok done
-    → (length nonce ≤ 763) × (length realm ≤ 763) × ((next : Page) × (added_all others next ≡ Ok done))
-two_fit nonce realm others page done is =
-    let behind = others_added (attribute (attributes.nonce nonce)) (attribute (attributes.realm realm) ∷ others) page done is in (
-      long_text nonce (first_fits (attributes.nonce nonce) (attribute (attributes.realm realm) ∷ others) page done is),
-      long_text realm (first_fits (attributes.realm realm) others behind.0 done behind.1),
-      others_added (attribute (attributes.realm realm)) others behind.0 done behind.1,
-    )
-
 module _ (laws : SigningLaws) where
   -- what is read of a built message that was signed
-  reads_as : (message : List ℕ) (class : MessageClass) (code : Option ℕ) (a : Added) (page : Page) → IsBuilt message class code → IsWritable a
+  reads_as : (message : List ℕ) (class : MessageClass) (code : Option ℕ) (a : Added) (page : Page) → IsBuilt message class code → IsText a
       → added_all (additions_of a) (page_of message) ≡ Ok page → ReadsAs class code a (reading_of page.bytes)
-  reads_as message class code a page built writable is =
+  reads_as message class code a page built texts is =
       subst (λ k. ReadsAs k code a (reading_of page.bytes)) built.class_is
-      (subst (λ e. ReadsAs (class_in message) e a (reading_of page.bytes)) built.error_is (laws.read a message _ page built.unsigned writable is))
+      (subst (λ e. ReadsAs (class_in message) e a (reading_of page.bytes)) built.error_is (laws.read a message _ page built.unsigned texts is))
 
   request_built : (id : ℕ) → IsBuilt (request id) Class.Request None
   unfolding request
@@ -156,14 +106,10 @@ module _ (laws : SigningLaws) where
   abbrev by_naming : Challenge → Naming → Added
   by_naming c n = record (added_under true c) { username = plain_name n; userhash = hashed_name n }
 
-  writable_under : (c : Challenge) (hashes : Bool) (name realm : List ℕ) (page done : Page) → IsUtf8 c.realm → IsUtf8 c.nonce → IsUtf8 name
-      → added_all (additions_of (by_naming c (naming_of hashes name realm))) page ≡ Ok done → IsWritable (by_naming c (naming_of hashes name realm))
-  writable_under c true name realm page done realm_text nonce_text name_text added =
-      let two = two_fit c.nonce c.realm (additions_of (record (by_naming c (naming_of true name realm)) { nonce = None; realm = None })) page done added in
-      record { nonce = (nonce_text, two.0); realm = (realm_text, two.1); username = tt; userhash = length-sha256 _ }
-  writable_under c false name realm page done realm_text nonce_text name_text added =
-      let two = two_fit c.nonce c.realm (additions_of (record (by_naming c (naming_of false name realm)) { nonce = None; realm = None })) page done added in
-      record { nonce = (nonce_text, two.0); realm = (realm_text, two.1); username = (name_text, long_name name (first_fits (attributes.username name) (additions_of (record (by_naming c (naming_of false name realm)) { nonce = None; realm = None; username = None })) two.2.0 done two.2.1)); userhash = tt }
+  texts_under : (c : Challenge) (hashes : Bool) (name realm : List ℕ) → IsUtf8 c.realm → IsUtf8 c.nonce → IsUtf8 name
+      → IsText (by_naming c (naming_of hashes name realm))
+  texts_under c true name realm realm_text nonce_text name_text = record { nonce = nonce_text; realm = realm_text; username = tt; userhash = length-sha256 _ }
+  texts_under c false name realm realm_text nonce_text name_text = record { nonce = nonce_text; realm = realm_text; username = name_text; userhash = tt }
 
   listed_there : (set : AlgorithmSet) → is_listed (listed set) ≡ true
   listed_there OnlySha1 = refl
@@ -181,7 +127,7 @@ module _ (laws : SigningLaws) where
       let message = is.message in
       let added = by_naming c (naming_of hashes name realm) in
       let done = sym (ap (λ n. added_all (additions_of (by_naming c n)) message) naming_is) ∙ asked_by state (Some c) message page kept is.signed in
-      let r = laws.read added message.bytes message.room page is.unsigned (writable_under c hashes name realm message page realm_text nonce_text name_text done) done in
+      let r = laws.read added message.bytes message.room page is.unsigned (texts_under c hashes name realm realm_text nonce_text name_text) done in
       let there = ap is_listed listed_is ∙ listed_there set in
       record {
         response = ap is_response (r.class_is ∙ is.class_is);
@@ -223,18 +169,6 @@ module _ (laws : SigningLaws) where
   unauthorized_is : IsError (error UNAUTHORIZED)
   unauthorized_is = record { from_300 = omega arith; below_700 = omega arith; text = IsUtf8-from_ascii (codes "Unauthorized") (from_small (codes "Unauthorized") refl); short = omega arith }
 
-  writable_offer : (users : Registered) (nonce : List ℕ) (page done : Page) → IsUtf8 users.realm → IsUtf8 nonce
-      → added_all (additions_of (added_without_client true users nonce)) page ≡ Ok done → IsWritable (added_without_client true users nonce)
-  writable_offer users nonce page done realm_text nonce_text added =
-      let two = two_fit nonce users.realm (additions_of (record (added_without_client true users nonce) { nonce = None; realm = None })) page done added in
-      record { nonce = (nonce_text, two.0); realm = (realm_text, two.1); username = tt; userhash = tt }
-
-  writable_known : (users : Registered) (nonce : List ℕ) (a : IntegrityAlgorithm) (key : List ℕ) (page done : Page) → IsUtf8 users.realm → IsUtf8 nonce
-      → added_all (additions_of (added_under_key true users nonce a key)) page ≡ Ok done → IsWritable (added_under_key true users nonce a key)
-  writable_known users nonce a key page done realm_text nonce_text added =
-      let two = two_fit nonce users.realm (additions_of (record (added_under_key true users nonce a key) { nonce = None; realm = None })) page done added in
-      record { nonce = (nonce_text, two.0); realm = (realm_text, two.1); username = tt; userhash = tt }
-
   challenge_read : (id : ℕ) (s : Sight) (p : PlaceSeen) (page : Page) → s.place ≡ Some p → p.client ≡ None → IsUtf8 s.registered.realm → IsUtf8 p.nonce
       → responded (failure UNAUTHORIZED id) s ≡ Ok page
       → IsFailure UNAUTHORIZED s.registered.realm p.nonce (reading_of page.bytes) × ((reading_of page.bytes).algorithms ≡ Some (listed s.registered.algorithms))
@@ -242,7 +176,7 @@ module _ (laws : SigningLaws) where
       let message = failure UNAUTHORIZED id in
       let added = added_without_client true s.registered p.nonce in
       let done = responded_by message s added page (offered s p place client) signed in
-      let r = reads_as message Class.Error (Some UNAUTHORIZED) added page (failure_built UNAUTHORIZED id unauthorized_is) (writable_offer s.registered p.nonce (page_of message) page realm_text nonce_text done) done in
+      let r = reads_as message Class.Error (Some UNAUTHORIZED) added page (failure_built UNAUTHORIZED id unauthorized_is) (record { nonce = nonce_text; realm = realm_text; username = tt; userhash = tt }) done in
       (record { error = r.error_is; realm = r.realm_is; nonce = r.nonce_is }, r.algorithms_are)
 
   -- an error of code 438, with or without a client
@@ -250,10 +184,10 @@ module _ (laws : SigningLaws) where
     abbrev error_told : Page
     error_told = told.message
 
-    reads_failure : (a : Added) → a.realm ≡ Some s.registered.realm → a.nonce ≡ Some p.nonce → IsWritable a
+    reads_failure : (a : Added) → a.realm ≡ Some s.registered.realm → a.nonce ≡ Some p.nonce → IsText a
         → added_all (additions_of a) error_told ≡ Ok page → IsFailure STALE_NONCE s.registered.realm p.nonce (reading_of page.bytes)
-    reads_failure a realm nonce writable done =
-        let r = laws.read a error_told.bytes error_told.room page told.unsigned writable done in
+    reads_failure a realm nonce texts done =
+        let r = laws.read a error_told.bytes error_told.room page told.unsigned texts done in
         record { error = r.error_is ∙ told.code_is; realm = r.realm_is ∙ realm; nonce = r.nonce_is ∙ nonce }
 
     added_so : (a : Added) → added_by_server s true ≡ Some a → added_all (additions_of a) error_told ≡ Ok page
@@ -272,12 +206,12 @@ module _ (laws : SigningLaws) where
     by_key c client None gone = keyless c client gone
     by_key c client (Some key) found =
         let done = added_so (added_under_key true s.registered p.nonce c.algorithm key) (known s p c key place client found) in
-        reads_failure (added_under_key true s.registered p.nonce c.algorithm key) refl refl (writable_known s.registered p.nonce c.algorithm key error_told page realm_text nonce_text done) done
+        reads_failure (added_under_key true s.registered p.nonce c.algorithm key) refl refl (record { nonce = nonce_text; realm = realm_text; username = tt; userhash = tt }) done
 
     by_client : (o : Option ClientSeen) → p.client ≡ o → IsFailure STALE_NONCE s.registered.realm p.nonce (reading_of page.bytes)
     by_client None client =
         let done = added_so (added_without_client true s.registered p.nonce) (offered s p place client) in
-        reads_failure (added_without_client true s.registered p.nonce) refl refl (writable_offer s.registered p.nonce error_told page realm_text nonce_text done) done
+        reads_failure (added_without_client true s.registered p.nonce) refl refl (record { nonce = nonce_text; realm = realm_text; username = tt; userhash = tt }) done
     by_client (Some c) client = by_key c client (key_at s.registered c.name c.algorithm) refl
 
     stale_read : IsFailure STALE_NONCE s.registered.realm p.nonce (reading_of page.bytes)
@@ -289,7 +223,7 @@ module _ (laws : SigningLaws) where
   success_read id s p c key page place client found realm_text nonce_text signed =
       let added = added_under_key true s.registered p.nonce c.algorithm key in
       let done = responded_by (success id) s added page (known s p c key place client found) signed in
-      let r = reads_as (success id) Class.Success None added page (success_built id) (writable_known s.registered p.nonce c.algorithm key (page_of (success id)) page realm_text nonce_text done) done in
+      let r = reads_as (success id) Class.Success None added page (success_built id) (record { nonce = nonce_text; realm = realm_text; username = tt; userhash = tt }) done in
       record { error = r.error_is; success = ap is_success r.class_is; digest = r.digest_stands (record { algorithm = c.algorithm; key = key }) refl }
 
   pub signed_is_read : SignedIsRead

@@ -17,7 +17,7 @@ use Rattle.stun_auth.specs.ServerSigning.{after_signing}
 use Rattle.stun_auth.specs.Validation.{ServerSeen}
 use Rattle.stun_proto.specs.Serving.{places_unless, reply_of_signing, reply_unless}
 use Rattle.stun_proto.specs.code.Signed.{signed_page}
-use Rattle.stun_proto.specs.Signing.{after, if_signed, message_unless, signing, with_all}
+use Rattle.stun_proto.specs.Signing.{next_if_written, if_signed, message_unless, signing, with_all}
 
 -- what was added was not refused
 pub not_refused : (o : Option StunWriteError) (u : Unit {0}) (P : Type 0) → MatchOption o P (λ reason. ◌≡◌ {A = Result (Unit {0}) StunWriteError} (Ok u) (Err reason)) → o ≡ None
@@ -29,7 +29,7 @@ pub with_all-more : (a : TypedValue) (place : ℕ) (members : List Member) (mess
     → attribute_refusal message (LENGTH_LIMIT - length message) a.kind (length a.value) ≡ None → new ≡ with_attribute message a
     → with_all members new ≡ with_all ((place, a) ∷ members) message
 with_all-more a place members message new allowed is =
-    ap (with_all members) is ∙ sym (ap (λ o. after (message_unless o (with_attribute message a)) (with_all members)) allowed)
+    ap (with_all members) is ∙ sym (ap (λ o. next_if_written (message_unless o (with_attribute message a)) (with_all members)) allowed)
 
 -- what follows either way from two facts about a signing
 pub either_signed : (signed : Result Written StunWriteError) {P Q P' Q' R : Type 0} → (P → P' → R) → (Q → Q' → R)

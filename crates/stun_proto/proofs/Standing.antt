@@ -49,7 +49,7 @@ module _ (users : Registered) (feature : Feature) (expiry : ℕ) (address : Sock
 
   pub standing_in_time : (known : Option ClientSeen) (now : ℕ) (words : List ℕ) → nat_le now end ≡ true → standing (seen (Some (place_of known))) now words ≡ place_of known
   standing_in_time known now words h =
-      ap (λ b. cond b (place_of known) (renewed (Some (place_of known)) (nonce_of users.algorithms feature words) (moment_after now expiry) None)) h
+      ap (λ b. cond b (place_of known) (renewed (Some (place_of known)) (nonce_of users.algorithms feature words) (moment_after now expiry))) h
 
   -- a place that is left with the nonce
   abbrev IsLeft : Option PlaceSeen → Type 0

@@ -8,7 +8,7 @@ use Rattle.stun_base.specs.declared.error.StunWriteError.{StunWriteError}
 use Rattle.stun_base.specs.declared.error.StunWriteError.TheVariants.{NotAllowed, MessageIntegrityExists, AttributeExists, TooLarge, TooSmall, IntegrityFailed, OutOfMemory}
 use Rattle.stun_auth.specs.Client.{ClientSettings, ClientState}
 use Rattle.stun_auth.specs.Validation.{ServerSeen}
-use Rattle.stun_proto.specs.Negotiation.{Meeting, Met, Turn, ended, unwritten}
+use Rattle.stun_proto.specs.Negotiation.{Meeting, Met, Round, ended, unwritten}
 use Rattle.stun_proto.specs.declared.replay.call.ServerCall.{ServerCall}
 use Rattle.stun_proto.specs.declared.replay.negotiation.NegotiateError.{NegotiateError}
 use Rattle.stun_proto.specs.declared.replay.negotiation.NegotiateError.TheVariants.{Memory, Write}
@@ -19,7 +19,7 @@ abbrev pub lists : List (Bor (List ServerCall)) → List (List ServerCall)
 lists between = map (λ (calls : Bor (List ServerCall)). calls.now) between
 
 -- the request at an index
-abbrev pub turn_at : ℕ → List ℕ → List ℕ → List (List ℕ) → List (List ServerCall) → Turn
+abbrev pub turn_at : ℕ → List ℕ → List ℕ → List (List ℕ) → List (List ServerCall) → Round
 turn_at i ids moments words between = record {
   id = slice_index ids i;
   now = slice_index moments i;

@@ -31,9 +31,9 @@ use Rattle.stun_proto.specs.declared.replay.negotiation.Outcome.TheVariants.{Val
 
 -- ---- who meets
 
--- a request: its id, the moment at which the server reads it, the random words of a nonce, and the server's calls just before the 401
--- is read, or before the second request is
-pub record Turn : Type 0 where
+-- a request and its answer: the id, the moment at which the server reads the request, the random words of a nonce, and the server's
+-- calls just before the 401 is read, or before the second request is
+pub record Round : Type 0 where
   pub id : ℕ
   pub now : ℕ
   pub words : List ℕ
@@ -43,8 +43,8 @@ pub record Turn : Type 0 where
 pub record Meeting : Type 0 where
   pub settings : ClientSettings
   pub from : SocketAddr
-  pub first : Turn
-  pub second : Turn
+  pub first : Round
+  pub second : Round
 
 -- how a run ends, with an outcome or with a signing that is refused, and how both sides are left
 pub record Met : Type 0 where
@@ -94,18 +94,18 @@ abbrev pub ended : Outcome → ClientState → ServerSeen → Met
 ended outcome state server = record { ending = Ok outcome; client = state; server = server }
 
 -- the success: read by the client
-abbrev pub outcome_of : IntegrityAlgorithm → ClientAnswer → Outcome
-outcome_of a (Ok (Read.Validated b)) = Validated a
-outcome_of a (Ok (Read.ResendRequest b)) = ClientRefused Client.Unauthorized
-outcome_of a (Err reason) = ClientRefused reason
+abbrev pub outcome_of_success : IntegrityAlgorithm → ClientAnswer → Outcome
+outcome_of_success a (Ok (Read.Validated b)) = Validated a
+outcome_of_success a (Ok (Read.ResendRequest b)) = ClientRefused Client.Unauthorized
+outcome_of_success a (Err reason) = ClientRefused reason
 
-abbrev pub confirmed : IntegrityAlgorithm → ServerSeen → ClientStep → Met
-confirmed a server step = ended (outcome_of a step.answer) step.state server
+abbrev pub success_read : IntegrityAlgorithm → ServerSeen → ClientStep → Met
+success_read a server step = ended (outcome_of_success a step.answer) step.state server
 
 -- signed by the server
 abbrev pub succeeded : Meeting → IntegrityAlgorithm → ClientState → ServerSeen → Result Page StunWriteError → Met
 succeeded m a state server (Err reason) = unwritten reason state server
-succeeded m a state server (Ok page) = confirmed a (after_signing server m.from true) (client_step m.settings state (reading_of page.bytes))
+succeeded m a state server (Ok page) = success_read a (after_signing server m.from true) (client_step m.settings state (reading_of page.bytes))
 
 -- the second request: answered by the server
 abbrev pub second_answered : Meeting → ClientState → ServerSeen → Answer → Met
@@ -141,11 +141,7 @@ abbrev pub first_answered : Meeting → ClientState → ServerSeen → Answer �
 first_answered m state server (Ok (Served.Validated a)) = ended (AlreadyValidated a) state server
 first_answered m state server (Err Server.Unauthorized) =
     challenged m state server (responded (failure UNAUTHORIZED m.first.id) (sight server m.from))
-first_answered m state server (Err Server.IntegrityFailed) = ended (ServerRefused Server.IntegrityFailed) state server
-first_answered m state server (Err Server.UnsupportedFeature) = ended (ServerRefused Server.UnsupportedFeature) state server
-first_answered m state server (Err Server.BadRequest) = ended (ServerRefused Server.BadRequest) state server
-first_answered m state server (Err Server.StaleNonce) = ended (ServerRefused Server.StaleNonce) state server
-first_answered m state server (Err Server.OutOfMemory) = ended (ServerRefused Server.OutOfMemory) state server
+first_answered m state server (Err reason) = ended (ServerRefused reason) state server
 
 abbrev pub first_read : Meeting → ClientState → ServerSeen → Reading → Met
 first_read m state server r =

@@ -14,6 +14,7 @@ use Rattle.stun_auth.specs.declared.server_reason.LongTermServerValidation.TheVa
 use Rattle.stun_auth.specs.Additions.{Page}
 use Rattle.stun_auth.specs.Algorithms.{only, with_algorithm}
 use Rattle.stun_auth.specs.Forgetting.{places_kept}
+use Rattle.stun_auth.specs.Nonces.{MINIMUM_EXPIRY}
 use Rattle.stun_auth.specs.Places.{PlacesSeen, with_change, with_client}
 use Rattle.stun_base.specs.MessageType.{class_in, is_response}
 use Rattle.stun_auth.specs.Reading.{reading_of}
@@ -95,9 +96,9 @@ feature_after f (Call.RemoveClient address) = f
 feature_after f (Call.SetExpiry expiry) = f
 feature_after f (Call.ForgetExpired now) = f
 
--- whether a nonce would last for less than 30 seconds, which a server does not take
+-- whether a nonce would last for less than a server takes
 abbrev pub is_too_short : Duration → Bool
-is_too_short expiry = nat_lt (as_nanos expiry) 30000000000
+is_too_short expiry = nat_lt (as_nanos expiry) MINIMUM_EXPIRY
 
 -- how long nonces last
 abbrev pub expiry_after : ℕ → ServerCall → ℕ

@@ -7,6 +7,7 @@ use Rattle.stun_types.specs.Message.{refusal}
 use Rattle.stun_auth.specs.declared.algorithm_set.AlgorithmSet.{AlgorithmSet}
 use Rattle.stun_auth.specs.declared.feature.Feature.{Feature}
 use Rattle.stun_auth.specs.declared.server_reason.LongTermServerValidation.TheVariants.{Validated}
+use Rattle.stun_auth.specs.Nonces.{MINIMUM_EXPIRY}
 use Rattle.stun_auth.specs.Places.{with_change, with_client}
 use Rattle.stun_auth.specs.Reading.{reading_of}
 use Rattle.stun_auth.specs.Registered.{without_user}
@@ -31,9 +32,9 @@ abbrev pub with_feature : Option Feature → ServerSeen → ServerSeen
 with_feature None s = s
 with_feature (Some feature) s = record s { feature = feature }
 
--- nonces last this long, and 30 seconds at the least
+-- nonces last this long, and no shorter than they may
 abbrev pub with_expiry : ℕ → ServerSeen → ServerSeen
-with_expiry nanoseconds s = record s { expiry = max nanoseconds 30000000000 }
+with_expiry nanoseconds s = record s { expiry = max nanoseconds MINIMUM_EXPIRY }
 
 abbrev pub without_named : Option Refusal → ServerSeen → List ℕ → ServerSeen
 without_named refusal s name = kept_if_refused refusal s (record s { registered = without_user s.registered name })

@@ -43,10 +43,10 @@ renewal_seen renewal = (string_bytes renewal.nonce.text, renewal.expires)
 
 -- the place at which a message is judged: with the new nonce, if one was made, and else as it is kept
 abbrev pub place_with : Option PlaceSeen → Option (List ℕ × ℕ) → PlaceSeen
-place_with None None = renewed None [] 0 None
-place_with None (Some new) = renewed None new.0 new.1 None
+place_with None None = renewed None [] 0
+place_with None (Some new) = renewed None new.0 new.1
 place_with (Some place) None = place
-place_with (Some place) (Some new) = renewed (Some place) new.0 new.1 None
+place_with (Some place) (Some new) = renewed (Some place) new.0 new.1
 
 -- the answer that is told of what a message came to
 abbrev pub answered : {A : Type 0} → Judgement A → Answer
@@ -70,7 +70,7 @@ place_left place (New client) = record place { client = Some (client_seen client
 abbrev pub places_left : {A : Type 0} → PlacesSeen → SocketAddr → Option (List ℕ × ℕ) → Judgement A → PlacesSeen
 places_left places from None judged = with_change places from (λ p. place_left p judged)
 places_left places from (Some new) judged =
-    map.insert places from (place_left (renewed (map.get places from) new.0 new.1 None) judged)
+    map.insert places from (place_left (renewed (map.get places from) new.0 new.1) judged)
 
 -- the nonce that is made for a server's address where none is current
 abbrev pub new_nonce : ServerSeen → ℕ → List ℕ → Option PlaceSeen → Option (List ℕ × ℕ)

@@ -1,5 +1,5 @@
 -- One call of a turn, with the step that it adds.
-use Rattle.std.specs.Prelude.{ℕ, ◌≡◌, ◌+◌, ◌≤◌, Bool, true, false, if◌then◌else◌, List, [], ◌∷◌, ◌++◌, length, Option, Some, None, ◌<◌, ◌⊎◌}
+use Rattle.std.specs.Prelude.{ℕ, ◌≡◌, ◌≤◌, Bool, true, false, if◌then◌else◌, List, [], ◌∷◌, ◌++◌, length, Option, Some, None, ◌<◌, ◌⊎◌}
 use Rattle.stun_agent.specs.Agent.{Agent, sent_by_poll, after_poll_transmit, ended_by_poll, after_poll}
 use Rattle.stun_agent.specs.Transactions.{Transaction, wake_up}
 use Rattle.stun_proto.specs.code.Work.{work, IsIdle}

@@ -1,10 +1,10 @@
 -- A meeting as the code has it.
 use Rattle.stun_auth.specs.Client.{ClientSettings}
-use Rattle.stun_proto.specs.Negotiation.{Meeting, Turn}
+use Rattle.stun_proto.specs.Negotiation.{Meeting, Round}
 use Rattle.stun_proto.specs.declared.replay.negotiation.meeting.Meeting as code
 use Rattle.stun_proto.specs.declared.replay.negotiation.meeting.Turn as code_turn
 
-abbrev pub turn_of : code_turn.Turn → Turn
+abbrev pub turn_of : code_turn.Turn → Round
 turn_of t = record { id = t.id; now = t.moment; words = t.words; before = t.before.now }
 
 -- of a client that is set so

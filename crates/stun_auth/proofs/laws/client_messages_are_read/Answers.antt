@@ -1,5 +1,5 @@
 use Rattle.std.proofs.Common.{◌∙◌, ap, sym}
-use Rattle.stun_auth.proofs.SignedReading.{reads_built, written-again}
+use Rattle.stun_auth.proofs.SignedReading.{reads_built}
 use Rattle.stun_auth.proofs.laws.client_messages_are_read.Goals as goal
 use Rattle.stun_auth.specs.Additions.{added_all}
 use Rattle.stun_auth.specs.Signed.{added_by_client}
@@ -10,4 +10,4 @@ returns c = λ request state class error message room page built texts done.
     let a = added_by_client request state in
     let added = sym (ap (λ list. added_all list (record { bytes = message; room = room })) same) ∙ done in
     reads_built a message class error page built
-    (c.signed_messages_are_read.ensures a message room page built.unsigned (written-again a (record { bytes = message; room = room }) page texts added) added)
+    (c.signed_messages_are_read.ensures a message room page built.unsigned texts added)

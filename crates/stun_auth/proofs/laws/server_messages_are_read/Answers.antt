@@ -1,5 +1,5 @@
 use Rattle.std.proofs.Common.{◌∙◌, sym}
-use Rattle.stun_auth.proofs.SignedReading.{reads_built, written-again}
+use Rattle.stun_auth.proofs.SignedReading.{reads_built}
 use Rattle.stun_auth.proofs.laws.server_messages_are_read.Goals as goal
 
 pub returns : goal.returns
@@ -7,4 +7,4 @@ returns c = λ s response a class error message room page built is texts done.
     let same = c.sides_add_by_attribute.ensures.server s response (record { bytes = message; room = room }) a is in
     let added = sym same ∙ done in
     reads_built a message class error page built
-    (c.signed_messages_are_read.ensures a message room page built.unsigned (written-again a (record { bytes = message; room = room }) page texts added) added)
+    (c.signed_messages_are_read.ensures a message room page built.unsigned texts added)

@@ -2,7 +2,7 @@
 #![tactic(none)]
 
 ghost use Rattle.std.specs.Prelude.{◌≡◌};
-ghost use Rattle.stun_proto.specs.Negotiation.{negotiated, outcome_of};
+ghost use Rattle.stun_proto.specs.Negotiation.{negotiated, outcome_of_success};
 ghost use Rattle.stun_proto.specs.Sides.{sides_of};
 ghost use Rattle.stun_proto.specs.code.FirstAnswers.{end_of_challenge, end_of_first};
 ghost use Rattle.stun_proto.specs.code.Meetings.{meeting_of};
@@ -121,7 +121,7 @@ fn outcome(
     algorithm: IntegrityAlgorithm,
     answer: Result<LongTermClientValidation, LongTermClientAuthErrorReason>,
 ) -> Outcome
-    ensures { result ≡ outcome_of algorithm answer }
+    ensures { result ≡ outcome_of_success algorithm answer }
 {
     match answer {
         Ok(LongTermClientValidation::Validated(_)) => Outcome::Validated(algorithm),

@@ -6,7 +6,7 @@ use Rattle.stun_proto.specs.Honest.{AreShort, ComesTo, strongest}
 use Rattle.stun_proto.specs.Matching.{AreTexts}
 use Rattle.stun_proto.specs.code.Meetings.{turn_of}
 use Rattle.stun_proto.specs.Negotiating.{lists, meeting, met_by, turn_at}
-use Rattle.stun_proto.specs.Negotiation.{Meeting, Turn, negotiated}
+use Rattle.stun_proto.specs.Negotiation.{Meeting, Round, negotiated}
 use Rattle.stun_proto.specs.Sides.{sides_of}
 use Rattle.stun_proto.specs.code.Sides.{IsRun}
 use Rattle.stun_proto.proofs.Outcomes.{ends_at_strongest}
@@ -24,8 +24,8 @@ whole g c =
     let k = c.args.client.now in
     let s = c.args.server.now in
     let same =
-    ap (λ (t : Turn). let m : Meeting = record { settings = k.settings; from = c.args.from; first = t; second = turn_of c.turn_at-second.result } in m) c.turn_at-first.ensures.turn
-    ∙ ap (λ (t : Turn). let m : Meeting = record { settings = k.settings; from = c.args.from; first = turn_at 0 c.args.ids c.args.moments c.args.words (lists c.args.between); second = t } in m) c.turn_at-second.ensures.turn in
+    ap (λ (t : Round). let m : Meeting = record { settings = k.settings; from = c.args.from; first = t; second = turn_of c.turn_at-second.result } in m) c.turn_at-first.ensures.turn
+    ∙ ap (λ (t : Round). let m : Meeting = record { settings = k.settings; from = c.args.from; first = turn_at 0 c.args.ids c.args.moments c.args.words (lists c.args.between); second = t } in m) c.turn_at-second.ensures.turn in
     subst (λ (m : Meeting). IsRun c.meet.result k c.meet.new.client c.meet.new.server (negotiated m k.state s) (sides_of m k.state s)) same c.meet.ensures
 
 pub turn_at-first-requires : goal.turn_at-first-requires
@@ -57,7 +57,7 @@ returns-clause-headline g c = λ who client.
     let m = meeting k.settings c.args.from c.args.ids c.args.moments c.args.words (lists c.args.between) in
     let name = subst (λ (o : Option NameAndPassword). IfSome o (λ user. IsUtf8 user.username)) client.ready.credentials c.name_is_text.ensures in
     let texts : AreTexts s.registered.realm who.username = record { realm = c.realm_is_text.ensures; username = name } in
-    let drawn : length m.first.words ≡ 16 = subst (λ (t : Turn). length t.words ≡ 16) c.turn_at-first.ensures.turn c.turn_at-first.ensures.count in
+    let drawn : length m.first.words ≡ 16 = subst (λ (t : Round). length t.words ≡ 16) c.turn_at-first.ensures.turn c.turn_at-first.ensures.count in
     let words : length m.first.words ≤ 16 = omega (arith, drawn) in
     let short : AreShort s.registered.realm who.username m.first.words = record { realm = client.realm_fits; username = client.name_fits; words = words } in
     let honest = c.short_names_are_signed.ensures m who s texts short client.ready in

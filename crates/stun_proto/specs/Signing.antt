@@ -34,12 +34,12 @@ abbrev pub next_if_written : {X : Type 0} → Result (List ℕ) StunWriteError �
 next_if_written (Ok message) next = next message
 next_if_written (Err reason) next = Err reason
 
--- a message with these attributes next_if_written its own, or the first refusal
+-- a message with these attributes after its own, or the first refusal
 abbrev pub with_all : List Member → List ℕ → Result (List ℕ) StunWriteError
 with_all [] message = Ok message
 with_all (m ∷ members) message = next_if_written (added m.1 message) (with_all members)
 
--- the visible attributes of a message, written next_if_written a new header with its type and id, or the first refusal
+-- the visible attributes of a message, written after a new header with its type and id, or the first refusal
 abbrev pub written_anew : List ℕ → Result (List ℕ) StunWriteError
 written_anew message = with_all (visible message) (spelled (type_field message) (transaction_id_field message) [])
 
@@ -49,9 +49,9 @@ signing s message = next_if_written (written_anew message) (λ anew. server_sign
 
 -- what signing leaves, where nothing is refused
 abbrev pub if_signed : {X : Type 0} → Result Page StunWriteError → X → X → X
-if_signed (Ok signed) before next_if_written = next_if_written
-if_signed (Err reason) before next_if_written = before
+if_signed (Ok signed) before after = after
+if_signed (Err reason) before after = before
 
--- the place of an address next_if_written a signed message: what a response offered is kept
+-- the place of an address after a signed message: what a response offered is kept
 abbrev pub place_offered : Sight → Bool → Option PlaceSeen
 place_offered s response = if response then option_map (with_offer s.registered.algorithms) s.place else s.place

@@ -26,4 +26,5 @@ pub mod SoonerLemmas
 pub mod StatisticsLemmas
 pub mod TimingLemmas
 pub mod TransactionLemmas
+pub mod TranscriptLemmas
 pub mod WorkLemmas

@@ -44,7 +44,7 @@ total-cons tally tallies =
     cc
 
 -- nothing more to count, after something that was counted
-counted-counted-nothing : (tally : Tally) (s : Statistics) → counted no_tally (counted tally s) ≡ counted tally s
+pub counted-counted-nothing : (tally : Tally) (s : Statistics) → counted no_tally (counted tally s) ≡ counted tally s
 counted-counted-nothing tally s =
     let e0 : raised (raised s.requests_sent tally.requests_sent) 0 ≡ raised s.requests_sent tally.requests_sent = omega arith in
     let e1 : raised (raised s.requests_received tally.requests_received) 0 ≡ raised s.requests_received tally.requests_received = omega arith in

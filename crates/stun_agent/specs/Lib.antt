@@ -22,6 +22,8 @@ pub mod Requests
 pub mod AgentLends
 -- what is done to an agent, call by call
 pub mod Steps
+-- what the calls of a list count
+pub mod Transcript
 -- what holds of an agent whatever is done to it
 pub mod Laws
 -- what no clause of a public call says: codings of models, views of structs, steps of the code

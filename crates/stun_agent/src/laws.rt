@@ -4,6 +4,7 @@ ghost use Rattle.std.specs.declared.net.socket_addr.SocketAddr.{SocketAddr};
 ghost use Rattle.stun_base.specs.Address.{same_address};
 ghost use Rattle.stun_agent.specs.Laws.{IsNeverEarly, WaitsAsTold, IgnoresUnknown, IgnoresElsewhere, EndsAlike, EndsOnce, IsTransmittedAtMost, KeepsCount};
 ghost use Rattle.stun_agent.specs.Statistics.{new_statistics};
+ghost use Rattle.stun_agent.specs.Transcript.{CountsCalls, CountsNothing};
 ghost use Rattle.stun_agent.specs.Timing.{settings_of, default_settings};
 ghost use Rattle.stun_agent.specs.Peers.{Peers, is_peer, with_peer};
 
@@ -60,6 +61,14 @@ pub fn both_transports_end_at_one_moment()
 /// cancelled, and those outstanding.
 pub fn statistics_tell_how_many_requests_are_outstanding()
     ensures { KeepsCount }
+{}
+
+/// Over any list of calls each counter is the number, or the sum of the bytes, of what it counts, each call telling its part
+/// by its answer (`tally_of`): sums that stop once at the greatest number, and the shortest, longest and all round trips. An
+/// agent that keeps no statistics never begins to.
+pub fn statistics_count_the_calls()
+    ensures counts { CountsCalls }
+    ensures nothing { CountsNothing }
 {}
 
 /// Validating an address adds it to the peers and no other, and two addresses are told apart where they differ, and there alone.

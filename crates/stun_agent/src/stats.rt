@@ -8,6 +8,9 @@ ghost use Rattle.stun_agent.specs.Statistics.{together, total, counted_in_turn, 
 use std::marker::Model;
 use std::time::Duration;
 
+#[cfg(test)]
+mod tests;
+
 /// What an agent has counted since it was built, or since `reset`.
 ///
 /// Bytes are those of whole messages. No counter wraps: it stays at the greatest number of 64

@@ -83,7 +83,7 @@ pub record IsAccepted (users : Registered) (feature : Feature) (ours : List ℕ)
 
 -- ---- the refusals, in a table
 
--- the nonce that a message names, if any
+-- the nonce that a message names. One that names none is refused by the second row, before this is looked at
 abbrev pub their_nonce : Reading → List ℕ
 their_nonce r = unwrap_or r.nonce []
 

@@ -212,8 +212,9 @@ impl<A: Allocator + Copy> LongTermServerAuth<A> {
     /// that were offered to it are gone, and what was kept for them is freed. Other addresses stay as they are.
     ///
     /// It does not allocate. It walks the places once, so call it now and then, as once in the time that a nonce is current,
-    /// and not at each message. A forgotten address is met as a new one: what comes from there with an earlier nonce is refused
-    /// as stale, and where it repeats the algorithms of a forgotten offer, as a bad request.
+    /// and not at each message. A forgotten address is met as a new one: an unsigned request draws a 401 as its first did,
+    /// a signed one with an earlier nonce is refused as stale, or, where it repeats the algorithms of a forgotten offer, as a bad
+    /// request.
     pub fn forget_expired(&mut self, now: Instant)
         ensures { self.new ≡ after_forgetting self.old now }
     {

@@ -1,4 +1,4 @@
-//! Tests of the authenticator of a server.
+//! Tests of the authenticator of a server: its answers, nonces, clients, users and settings.
 #![tactic(auto)]
 
 #[cfg(test)]
@@ -8,14 +8,8 @@ mod clients;
 #[cfg(test)]
 mod expect;
 #[cfg(test)]
-mod memory;
-#[cfg(test)]
 mod messages;
 #[cfg(test)]
 mod settings;
-#[cfg(test)]
-mod signing;
-#[cfg(test)]
-mod unchecked;
 #[cfg(test)]
 mod users;

@@ -1,5 +1,5 @@
 //! A server's nonces, settings and sizes (RFC 8489, sections 9.2 and 9.2.4).
-use crate::expect::{expect_nonce, expect_sizes};
+use crate::expect::expect_nonce;
 use std::alloc::{Allocator, Global};
 use std::process::Abort;
 use std::test::Fail;
@@ -7,7 +7,7 @@ use std::time::Duration;
 use stun_auth::auth::{Feature, LongTermServerAuth, minimum_nonce_expiry_duration};
 use stun_types::message::IntegrityAlgorithm;
 use test_support::server::{
-    ONES, UNAUTHORIZED, ZEROS, address, full_server, knocked, sha1_server, sha256_server,
+    ONES, UNAUTHORIZED, ZEROS, address, full_server, knocked, sha1_server, sha256_server, sizes,
 };
 
 /// Words that spell the letters at both ends of their three ranges, and one that is past 62.
@@ -27,11 +27,11 @@ fn expect_challenge<A: Allocator + Copy>(
     (nonce, response): (&str, usize),
 ) -> Result<(), Fail> {
     expect_nonce(rt, server, None);
-    expect_sizes(rt, server, (0, 0));
+    assert_eq!(rt; sizes(server), (0, 0));
     let answer = knocked(alloc, server, address(1), words)?;
     assert_eq!(rt; answer, UNAUTHORIZED);
     expect_nonce(rt, server, Some(nonce));
-    expect_sizes(rt, server, (0, response));
+    assert_eq!(rt; sizes(server), (0, response));
     Ok(())
 }
 

@@ -120,6 +120,16 @@ pub fn asked<A: Allocator + Copy>(
     }
 }
 
+/// What a server answers to a request of these attributes, which comes from the first address at the first moment.
+pub fn answered<A: Allocator + Copy>(
+    alloc: Global,
+    server: &mut LongTermServerAuth<A>,
+    parts: &[Part<'_>],
+) -> Result<Answer, Fail> {
+    let bytes = message(alloc, MessageClass::Request, parts)?;
+    Ok(asked(server, bytes.as_slice(), (address(1), 0), ZEROS)?)
+}
+
 /// An unsigned request at the first moment.
 pub fn knocked<A: Allocator + Copy>(
     alloc: Global,
@@ -129,6 +139,12 @@ pub fn knocked<A: Allocator + Copy>(
 ) -> Result<Answer, Fail> {
     let bytes = message(alloc, MessageClass::Request, &[])?;
     Ok(asked(server, bytes.as_slice(), (from, 0), words)?)
+}
+
+/// How many bytes signing adds to a request and to a response to the first address.
+pub fn sizes<A: Allocator + Copy>(server: &LongTermServerAuth<A>) -> (usize, usize) {
+    let request = server.message_signature_bytes(address(1), true);
+    (request, server.message_signature_bytes(address(1), false))
 }
 
 /// A message in a writer, signed for the first address.

@@ -1,8 +1,6 @@
-//! Several users and clients of a server, and its calls that do not allocate.
+//! Several users and clients of a server.
 //!
 //! The digests are those of Python's modules `hashlib` and `hmac`.
-use crate::expect::{expect_answer, expect_nonce, expect_sizes};
-use fail_alloc::RefusingAllocator;
 use std::alloc::Global;
 use std::net::{IpAddr, Ipv6Addr, SocketAddr};
 use std::process::Abort;
@@ -12,8 +10,8 @@ use stun_auth::auth::{Feature, LongTermServerAuth};
 use stun_types::message::{LongTermCredentials, MessageClass};
 use test_support::parts::message;
 use test_support::server::{
-    Answer, FULL_REQUEST, ONES, PLAIN_REQUEST, SHA1, SHA256, UNAUTHORIZED, ZEROS, address, asked,
-    knocked, offering_server, plain_server, sha1_server,
+    Answer, ONES, PLAIN_REQUEST, SHA1, UNAUTHORIZED, ZEROS, address, answered, asked, knocked,
+    plain_server, sha1_server, sizes,
 };
 use test_support::spelled::bytes_of;
 
@@ -67,11 +65,11 @@ fn users_stand_beside_each_other(rt: HostRuntime) -> Result<(), Fail> {
     )?;
     add_other(alloc, &mut server)?;
     expect_spelled(&rt, alloc, &mut server, (address(1), SECOND_REQUEST), SHA1)?;
-    expect_answer(&rt, alloc, &mut server, &PLAIN_REQUEST, SHA1)?;
+    assert_eq!(rt; answered(alloc, &mut server, &PLAIN_REQUEST)?, SHA1);
     // NONCE 20, REALM 12, MESSAGE-INTEGRITY 24.
-    expect_sizes(&rt, &server, (24, 56));
+    assert_eq!(rt; sizes(&server), (24, 56));
     server.remove_user("other");
-    expect_answer(&rt, alloc, &mut server, &PLAIN_REQUEST, SHA1)?;
+    assert_eq!(rt; answered(alloc, &mut server, &PLAIN_REQUEST)?, SHA1);
     expect_spelled(
         &rt,
         alloc,
@@ -105,7 +103,7 @@ fn expect_nonce_at(
     let bytes = message(alloc, MessageClass::Request, &[])?;
     let answer = asked(server, bytes.as_slice(), (address(1), nanos), ONES)?;
     assert_eq!(rt; answer, UNAUTHORIZED);
-    expect_nonce(rt, server, Some(nonce));
+    assert_eq!(rt; server.nonce_for_client(address(1)), Some(nonce));
     Ok(())
 }
 
@@ -120,7 +118,7 @@ fn moments_may_go_back(rt: HostRuntime) -> Result<(), Fail> {
     let bytes = message(alloc, MessageClass::Request, &[])?;
     for nanos in [0, 130_000_000_000] {
         let _kept = asked(&mut server, bytes.as_slice(), (address(1), nanos), ZEROS)?;
-        expect_nonce(&rt, &server, Some(made));
+        assert_eq!(rt; server.nonce_for_client(address(1)), Some(made));
     }
     let _renewed = asked(
         &mut server,
@@ -128,28 +126,9 @@ fn moments_may_go_back(rt: HostRuntime) -> Result<(), Fail> {
         (address(1), 130_000_000_001),
         ZEROS,
     )?;
-    expect_nonce(&rt, &server, Some("AAAAAAAAAAAAAAAA"));
-    Ok(())
-}
-
-/// To remove a user or a client asks for no memory, and gives some back.
-#[test]
-fn removals_do_not_allocate(rt: HostRuntime) -> Result<(), Fail> {
-    let alloc = rt.alloc();
-    let heap = RefusingAllocator::new(alloc);
-    let mut server = offering_server(alloc, &heap)?;
-    expect_answer(&rt, alloc, &mut server, &FULL_REQUEST, SHA256)?;
-    let (allocations, live) = (heap.allocations(), heap.live());
-    heap.refuse(1);
-    server.remove_client(address(2));
-    server.remove_client(address(1));
-    assert!(rt; heap.live() < live);
-    let live = heap.live();
-    server.remove_user("nobody");
-    assert_eq!(rt; heap.live(), live);
-    server.remove_user("user");
-    assert!(rt; heap.live() < live);
-    assert!(rt; heap.is_waiting());
-    assert_eq!(rt; heap.allocations(), allocations);
+    assert_eq!(rt;
+        server.nonce_for_client(address(1)),
+        Some("AAAAAAAAAAAAAAAA")
+    );
     Ok(())
 }

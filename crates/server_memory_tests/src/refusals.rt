@@ -1,31 +1,17 @@
 //! Each allocation that a server asks for refused in turn: it is then as before, and the call succeeds when it is made again.
-use crate::expect::{expect_answer, expect_nonce, expect_sizes};
 use fail_alloc::RefusingAllocator;
 use std::alloc::Global;
 use std::process::Abort;
 use std::test::Fail;
 use stun_auth::auth::{Feature, LongTermServerAuth};
-use stun_types::attribute::PasswordAlgorithmValue;
-use stun_types::message::{
-    IntegrityAlgorithm, MessageClass, MessageWriteMutSlice, MessageWriteVec, StunWriteError,
-};
+use stun_types::message::{MessageClass, MessageWriteVec, StunWriteError};
 use stun_types::prelude::*;
-use test_support::parts::{BOTH, FULL_NONCE, MD5_KEY, Part, begin, message};
+use test_support::parts::{FULL_NONCE, begin, message};
 use test_support::server::{
-    Answer, BAD_REQUEST, FAILED, FULL_REQUEST, ONES, OUT_OF_MEMORY, SHA1, SHA256, STALE_NONCE,
-    UNAUTHORIZED, ZEROS, address, asked, full_server, knocked, offering_server, signed_challenge,
-    signed_for, user,
+    Answer, BAD_REQUEST, FULL_REQUEST, ONES, OUT_OF_MEMORY, SHA256, STALE_NONCE, UNAUTHORIZED,
+    ZEROS, address, asked, full_server, knocked, offering_server, signed_challenge, signed_for,
+    sizes, user,
 };
-
-/// A request that the offering server validates by HMAC-SHA1.
-const WEAK_REQUEST: [Part<'static>; 6] = [
-    Part::Nonce(FULL_NONCE),
-    Part::Realm("realm"),
-    Part::Username("user"),
-    Part::List(BOTH),
-    Part::Choice(PasswordAlgorithmValue::MD5),
-    Part::Sha1(&MD5_KEY),
-];
 
 type Heap = RefusingAllocator<Global>;
 
@@ -50,11 +36,11 @@ fn first_request(rt: &impl Abort, heap: &Heap, bytes: &[u8], nth: u64) -> Result
         assert_eq!(rt; answer, UNAUTHORIZED);
     } else {
         assert_eq!(rt; answer, OUT_OF_MEMORY);
-        expect_nonce(rt, &server, None);
+        assert_eq!(rt; server.nonce_for_client(address(1)), None);
         let again = asked(&mut server, bytes, (address(1), 0), ZEROS)?;
         assert_eq!(rt; again, UNAUTHORIZED);
     }
-    expect_nonce(rt, &server, Some(FULL_NONCE));
+    assert_eq!(rt; server.nonce_for_client(address(1)), Some(FULL_NONCE));
     Ok(is_last)
 }
 
@@ -78,12 +64,12 @@ fn accepted_request(
         assert_eq!(rt; answer, SHA256);
     } else {
         assert_eq!(rt; answer, OUT_OF_MEMORY);
-        expect_sizes(rt, &server, (0, 60));
+        assert_eq!(rt; sizes(&server), (0, 60));
         let again = asked(&mut server, bytes, (address(1), 0), ONES)?;
         assert_eq!(rt; again, SHA256);
     }
-    expect_nonce(rt, &server, Some(FULL_NONCE));
-    expect_sizes(rt, &server, (44, 92));
+    assert_eq!(rt; server.nonce_for_client(address(1)), Some(FULL_NONCE));
+    assert_eq!(rt; sizes(&server), (44, 92));
     assert_eq!(rt; is_last, nth == 2);
     Ok(is_last)
 }
@@ -113,15 +99,18 @@ fn late_request(
         assert_eq!(rt; answer, STALE_NONCE);
     } else {
         assert_eq!(rt; answer, OUT_OF_MEMORY);
-        expect_nonce(rt, &server, Some(FULL_NONCE));
+        assert_eq!(rt; server.nonce_for_client(address(1)), Some(FULL_NONCE));
         // Up to its end the old nonce is current, with the list that was offered.
         let again = asked(&mut server, bytes, (address(1), LATE - 1), ONES)?;
         assert_eq!(rt; again, SHA256);
     }
-    expect_sizes(rt, &server, (44, 92));
+    assert_eq!(rt; sizes(&server), (44, 92));
     let last = asked(&mut server, bytes, (address(1), LATE), ONES)?;
     assert_eq!(rt; last, STALE_NONCE);
-    expect_nonce(rt, &server, Some("obMatJos2wAAABBBBBBBBBBBBBBBB"));
+    assert_eq!(rt;
+        server.nonce_for_client(address(1)),
+        Some("obMatJos2wAAABBBBBBBBBBBBBBBB")
+    );
     Ok(is_last)
 }
 
@@ -257,7 +246,7 @@ fn success(
         Err(StunWriteError::OutOfMemory)
     };
     assert_eq!(rt; answer, expected);
-    expect_sizes(rt, &server, (44, 92));
+    assert_eq!(rt; sizes(&server), (44, 92));
     let (answer, _) = signed_short(heap, &mut server, 0)?;
     assert_eq!(rt; answer, Ok(112));
     Ok(is_last)
@@ -268,77 +257,4 @@ fn a_success_is_signed_or_not(rt: HostRuntime) -> Result<(), Fail> {
     let heap = RefusingAllocator::new(rt.alloc());
     let bytes = message(rt.alloc(), MessageClass::Request, &FULL_REQUEST)?;
     heap.each_refusal(|nth| success(&rt, (rt.alloc(), &heap), bytes.as_slice(), nth))
-}
-
-/// Where a nonce is current, or none is needed, a refusal of the message does not allocate.
-#[test]
-fn refusals_take_no_memory(rt: HostRuntime) -> Result<(), Fail> {
-    let alloc = rt.alloc();
-    let heap = RefusingAllocator::new(alloc);
-    let mut server = offering_server(alloc, &heap)?;
-    heap.refuse(1);
-    let name = Part::Username("user");
-    let digest = Part::Sha1(b"key");
-    let realm = Part::Realm("realm");
-    let stale = Part::Nonce("obMatJos2wAAABBBBBBBBBBBBBBBB");
-    let standing = Part::Nonce(FULL_NONCE);
-    expect_answer(&rt, alloc, &mut server, &[], UNAUTHORIZED)?;
-    expect_answer(&rt, alloc, &mut server, &[digest], BAD_REQUEST)?;
-    expect_answer(
-        &rt,
-        alloc,
-        &mut server,
-        &[stale, realm, name, digest],
-        STALE_NONCE,
-    )?;
-    expect_answer(
-        &rt,
-        alloc,
-        &mut server,
-        &[standing, realm, name, digest],
-        UNAUTHORIZED,
-    )?;
-    assert!(rt; heap.is_waiting());
-    Ok(())
-}
-
-/// A client who is kept already does not allocate. The same user with another algorithm does, and is another client.
-#[test]
-fn a_kept_client_takes_no_memory(rt: HostRuntime) -> Result<(), Fail> {
-    let alloc = rt.alloc();
-    let heap = RefusingAllocator::new(alloc);
-    let mut server = offering_server(alloc, &heap)?;
-    expect_answer(&rt, alloc, &mut server, &FULL_REQUEST, SHA256)?;
-    heap.refuse(1);
-    expect_answer(&rt, alloc, &mut server, &FULL_REQUEST, SHA256)?;
-    expect_answer(&rt, alloc, &mut server, &FULL_REQUEST, SHA256)?;
-    assert!(rt; heap.is_waiting());
-    expect_answer(&rt, alloc, &mut server, &WEAK_REQUEST, OUT_OF_MEMORY)?;
-    assert!(rt; !heap.is_waiting());
-    expect_sizes(&rt, &server, (44, 92));
-    expect_answer(&rt, alloc, &mut server, &WEAK_REQUEST, SHA1)?;
-    expect_sizes(&rt, &server, (24, 72));
-    Ok(())
-}
-
-/// The settings and a response do not allocate, nor does signing into a slice.
-#[test]
-fn settings_and_responses_take_no_memory(rt: HostRuntime) -> Result<(), Fail> {
-    let heap = RefusingAllocator::new(rt.alloc());
-    let mut server = offering_server(rt.alloc(), &heap)?;
-    let bytes = message(rt.alloc(), MessageClass::Success, &[])?;
-    let realm = String::from_str(&heap, "realm")?;
-    let mut room = [0; 80];
-    heap.refuse(1);
-    let _new = LongTermServerAuth::new(&heap, realm);
-    server.set_supported_integrity(IntegrityAlgorithm::Sha1);
-    server.add_supported_integrity(IntegrityAlgorithm::Sha256);
-    server.set_anonymous_username(Feature::Disabled)?;
-    let answer = asked(&mut server, bytes.as_slice(), (address(1), 0), ONES)?;
-    assert_eq!(rt; answer, FAILED);
-    let writer = begin(MessageClass::Success, MessageWriteMutSlice::new(&mut room))?;
-    let signed = signed_for(&mut server, writer)?;
-    assert_eq!(rt; signed.data().len(), 80);
-    assert!(rt; heap.is_waiting());
-    Ok(())
 }

@@ -10,7 +10,7 @@ use Rattle.stun_auth.specs.Additions.{Page}
 use Rattle.stun_auth.specs.ServerSigning.{server_signed}
 use Rattle.stun_auth.specs.Signed.{Added, IsSignableByServer, ServerMaySign, added_by_server}
 use Rattle.stun_auth.specs.Validation.{ServerSeen, sight}
-use Rattle.server_tests.proofs.unchecked.signed_by_server.Goals as goal
+use Rattle.server_signing_tests.proofs.unchecked.signed_by_server.Goals as goal
 
 -- an empty page with a message
 abbrev page : List ℕ → Page

@@ -1,13 +1,12 @@
 //! Whom a server tells as the client of an address, and which addresses it forgets.
-use crate::expect::{expect_answer, expect_nonce};
 use fail_alloc::RefusingAllocator;
 use std::test::Fail;
 use stun_base::instant::Instant;
 use stun_types::message::{IntegrityAlgorithm, MessageClass};
 use test_support::parts::{PLAIN_NONCE, message};
 use test_support::server::{
-    BAD_REQUEST, FULL_REQUEST, ONES, PLAIN_REQUEST, SHA1, SHA256, STALE_NONCE, address, asked,
-    offering_server, plain_server,
+    BAD_REQUEST, FULL_REQUEST, ONES, PLAIN_REQUEST, SHA1, SHA256, STALE_NONCE, address, answered,
+    asked, offering_server, plain_server,
 };
 
 /// A validated request names the client of its address alone, until the client is removed.
@@ -16,7 +15,7 @@ fn a_client_is_told(rt: HostRuntime) -> Result<(), Fail> {
     let alloc = rt.alloc();
     let mut server = plain_server(alloc, alloc)?;
     assert!(rt; server.client(address(1)).is_none());
-    expect_answer(&rt, alloc, &mut server, &PLAIN_REQUEST, SHA1)?;
+    assert_eq!(rt; answered(alloc, &mut server, &PLAIN_REQUEST)?, SHA1);
     let told = Some(("user", IntegrityAlgorithm::Sha1));
     assert_eq!(rt; server.client(address(1)), told);
     assert!(rt; server.client(address(2)).is_none());
@@ -32,7 +31,7 @@ fn a_client_is_told(rt: HostRuntime) -> Result<(), Fail> {
 fn a_client_is_told_with_its_algorithm(rt: HostRuntime) -> Result<(), Fail> {
     let alloc = rt.alloc();
     let mut server = offering_server(alloc, alloc)?;
-    expect_answer(&rt, alloc, &mut server, &FULL_REQUEST, SHA256)?;
+    assert_eq!(rt; answered(alloc, &mut server, &FULL_REQUEST)?, SHA256);
     let told = Some(("user", IntegrityAlgorithm::Sha256));
     assert_eq!(rt; server.client(address(1)), told);
     Ok(())
@@ -44,14 +43,14 @@ fn an_address_with_a_client_is_kept(rt: HostRuntime) -> Result<(), Fail> {
     let alloc = rt.alloc();
     let heap = RefusingAllocator::new(alloc);
     let mut server = plain_server(alloc, &heap)?;
-    expect_answer(&rt, alloc, &mut server, &PLAIN_REQUEST, SHA1)?;
+    assert_eq!(rt; answered(alloc, &mut server, &PLAIN_REQUEST)?, SHA1);
     heap.refuse(1);
     server.forget_expired(Instant::MAX);
-    expect_nonce(&rt, &server, Some(PLAIN_NONCE));
+    assert_eq!(rt; server.nonce_for_client(address(1)), Some(PLAIN_NONCE));
     server.remove_client(address(1));
     let live = heap.live();
     server.forget_expired(Instant::MAX);
-    expect_nonce(&rt, &server, None);
+    assert_eq!(rt; server.nonce_for_client(address(1)), None);
     assert!(rt; heap.live() < live);
     assert!(rt; heap.is_waiting());
     Ok(())
@@ -63,9 +62,9 @@ fn a_current_nonce_is_kept(rt: HostRuntime) -> Result<(), Fail> {
     let alloc = rt.alloc();
     let mut server = plain_server(alloc, alloc)?;
     server.forget_expired(Instant::from_nanos(3_600_000_000_000));
-    expect_nonce(&rt, &server, Some(PLAIN_NONCE));
+    assert_eq!(rt; server.nonce_for_client(address(1)), Some(PLAIN_NONCE));
     server.forget_expired(Instant::from_nanos(3_600_000_000_001));
-    expect_nonce(&rt, &server, None);
+    assert_eq!(rt; server.nonce_for_client(address(1)), None);
     Ok(())
 }
 
@@ -81,5 +80,6 @@ fn a_forgotten_address_is_asked_anew(rt: HostRuntime) -> Result<(), Fail> {
     assert_eq!(rt; answer, STALE_NONCE);
     let mut server = offering_server(alloc, alloc)?;
     server.forget_expired(Instant::MAX);
-    expect_answer(&rt, alloc, &mut server, &FULL_REQUEST, BAD_REQUEST)
+    assert_eq!(rt; answered(alloc, &mut server, &FULL_REQUEST)?, BAD_REQUEST);
+    Ok(())
 }

@@ -1,5 +1,4 @@
 //! What a server signs is the same message, whether the call checks what it adds or not (RFC 8489, section 9.2.4).
-use crate::expect::expect_answer;
 use std::alloc::Global;
 use std::net::SocketAddr;
 use std::test::Fail;
@@ -10,7 +9,7 @@ use stun_types::message::{
 };
 use stun_types::prelude::*;
 use test_support::server::{
-    FULL_REQUEST, SHA256, ZEROS, address, full_server, knocked, offering_server,
+    FULL_REQUEST, SHA256, ZEROS, address, answered, full_server, knocked, offering_server,
 };
 
 /// A success with id 1 to an address, signed by the call that checks and by the other.
@@ -34,7 +33,7 @@ fn signed_by_server(
 fn a_server_signs_the_same_unchecked(rt: HostRuntime) -> Result<(), Fail> {
     let alloc = rt.alloc();
     let mut server = offering_server(alloc, alloc)?;
-    expect_answer(&rt, alloc, &mut server, &FULL_REQUEST, SHA256)?;
+    assert_eq!(rt; answered(alloc, &mut server, &FULL_REQUEST)?, SHA256);
     let (checked, unchecked) = signed_by_server(alloc, &mut server, address(1))?;
     // As long as a success with nonce, realm, the name of HMAC-SHA256 and its digest is.
     assert_eq!(rt; checked.len(), 112);

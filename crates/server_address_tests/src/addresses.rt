@@ -1,5 +1,4 @@
 //! How long a server's nonces last, and for whom; its users, and the responses of its clients.
-use crate::expect::{expect_answer, expect_nonce};
 use std::alloc::{Allocator, Global};
 use std::process::Abort;
 use std::test::Fail;
@@ -9,8 +8,8 @@ use stun_types::message::{IntegrityAlgorithm, MessageClass};
 use test_support::parts::{MD5_KEY, Part, message};
 use test_support::server::{
     Answer, BAD_REQUEST, FAILED, FULL_REQUEST, ONES, PLAIN_REQUEST, SHA1, SHA256, STALE_NONCE,
-    UNAUTHORIZED, ZEROS, address, asked, knocked, offering_server, plain_server, sha1_server,
-    signed_challenge, user,
+    UNAUTHORIZED, ZEROS, address, answered, asked, knocked, offering_server, plain_server,
+    sha1_server, signed_challenge, user,
 };
 
 /// What signs a response.
@@ -70,7 +69,10 @@ fn a_nonce_stands_for_an_hour(rt: HostRuntime) -> Result<(), Fail> {
         ONES,
     )?;
     assert_eq!(rt; answer, STALE_NONCE);
-    expect_nonce(&rt, &server, Some("BBBBBBBBBBBBBBBB"));
+    assert_eq!(rt;
+        server.nonce_for_client(address(1)),
+        Some("BBBBBBBBBBBBBBBB")
+    );
     Ok(())
 }
 
@@ -96,16 +98,24 @@ fn a_list_from_another_address_was_not_offered(rt: HostRuntime) -> Result<(), Fa
 fn a_new_password_takes_the_place_of_the_old(rt: HostRuntime) -> Result<(), Fail> {
     let mut server = plain_server(rt.alloc(), rt.alloc())?;
     server.add_user(user(rt.alloc(), "another")?)?;
-    expect_answer(&rt, rt.alloc(), &mut server, &PLAIN_REQUEST, UNAUTHORIZED)?;
+    assert_eq!(rt;
+        answered(rt.alloc(), &mut server, &PLAIN_REQUEST)?,
+        UNAUTHORIZED
+    );
     server.add_user(user(rt.alloc(), "pass")?)?;
-    expect_answer(&rt, rt.alloc(), &mut server, &PLAIN_REQUEST, SHA1)
+    assert_eq!(rt; answered(rt.alloc(), &mut server, &PLAIN_REQUEST)?, SHA1);
+    Ok(())
 }
 
 #[test]
 fn a_removed_user_is_refused(rt: HostRuntime) -> Result<(), Fail> {
     let mut server = plain_server(rt.alloc(), rt.alloc())?;
     server.remove_user("user");
-    expect_answer(&rt, rt.alloc(), &mut server, &PLAIN_REQUEST, UNAUTHORIZED)
+    assert_eq!(rt;
+        answered(rt.alloc(), &mut server, &PLAIN_REQUEST)?,
+        UNAUTHORIZED
+    );
+    Ok(())
 }
 
 /// Checks the answer to a success from the first address.
@@ -126,7 +136,7 @@ fn expect_response<A: Allocator + Copy>(
 fn a_response_is_judged_by_the_key_of_the_client(rt: HostRuntime) -> Result<(), Fail> {
     let mut server = plain_server(rt.alloc(), rt.alloc())?;
     expect_response(&rt, rt.alloc(), &mut server, &[DIGEST], FAILED)?;
-    expect_answer(&rt, rt.alloc(), &mut server, &PLAIN_REQUEST, SHA1)?;
+    assert_eq!(rt; answered(rt.alloc(), &mut server, &PLAIN_REQUEST)?, SHA1);
     expect_response(&rt, rt.alloc(), &mut server, &[DIGEST], SHA1)?;
     expect_response(
         &rt,
@@ -143,14 +153,14 @@ fn a_response_is_judged_by_the_key_of_the_client(rt: HostRuntime) -> Result<(), 
 fn a_response_makes_no_nonce(rt: HostRuntime) -> Result<(), Fail> {
     let mut server = sha1_server(rt.alloc(), Feature::Disabled)?;
     expect_response(&rt, rt.alloc(), &mut server, &[], FAILED)?;
-    expect_nonce(&rt, &server, None);
+    assert_eq!(rt; server.nonce_for_client(address(1)), None);
     Ok(())
 }
 
 #[test]
 fn a_response_of_a_removed_user_is_refused(rt: HostRuntime) -> Result<(), Fail> {
     let mut server = plain_server(rt.alloc(), rt.alloc())?;
-    expect_answer(&rt, rt.alloc(), &mut server, &PLAIN_REQUEST, SHA1)?;
+    assert_eq!(rt; answered(rt.alloc(), &mut server, &PLAIN_REQUEST)?, SHA1);
     server.remove_user("user");
     expect_response(&rt, rt.alloc(), &mut server, &[DIGEST], FAILED)
 }

@@ -1,7 +1,6 @@
 //! What a server's signing adds (RFC 8489, section 9.2.4).
 //!
 //! The digests are those of Python's module `hmac`.
-use crate::expect::{expect_answer, expect_nonce, expect_sizes};
 use std::alloc::{Allocator, Global};
 use std::process::Abort;
 use std::test::Fail;
@@ -13,8 +12,8 @@ use stun_types::prelude::*;
 use test_support::array_writer::ArrayWriter;
 use test_support::parts::{BOTH, HASHED_NONCE, MD5_KEY, Part, begin};
 use test_support::server::{
-    BAD_REQUEST, FULL_REQUEST, SHA1, SHA256, ZEROS, address, full_server, knocked, sha1_server,
-    signed_bytes, signed_for,
+    BAD_REQUEST, FULL_REQUEST, SHA1, SHA256, ZEROS, address, answered, full_server, knocked,
+    sha1_server, signed_bytes, signed_for, sizes,
 };
 use test_support::spelled::bytes_of;
 
@@ -105,7 +104,7 @@ fn fully_challenging_server(alloc: Global) -> Result<LongTermServerAuth, Fail> {
 /// A server with HMAC-SHA1 alone that has validated the client at the first address.
 fn server_of_client(rt: &impl Abort, alloc: Global) -> Result<LongTermServerAuth, Fail> {
     let mut server = challenging_server(alloc)?;
-    expect_answer(rt, alloc, &mut server, &SIGNED, SHA1)?;
+    assert_eq!(rt; answered(alloc, &mut server, &SIGNED)?, SHA1);
     Ok(server)
 }
 
@@ -114,7 +113,7 @@ fn server_of_strong_client(rt: &impl Abort, alloc: Global) -> Result<LongTermSer
     let mut server = fully_challenging_server(alloc)?;
     let error = (MessageClass::Error, [Part::Code(401)].as_slice());
     expect_signed(rt, alloc, &mut server, error, FULL_CHALLENGE)?;
-    expect_answer(rt, alloc, &mut server, &FULL_REQUEST, SHA256)?;
+    assert_eq!(rt; answered(alloc, &mut server, &FULL_REQUEST)?, SHA256);
     Ok(server)
 }
 
@@ -140,7 +139,7 @@ fn without_a_nonce_nothing_is_added(rt: HostRuntime) -> Result<(), Fail> {
 #[test]
 fn a_challenge_offers_the_algorithms(rt: HostRuntime) -> Result<(), Fail> {
     let mut server = challenging_server(rt.alloc())?;
-    expect_sizes(&rt, &server, (0, 56));
+    assert_eq!(rt; sizes(&server), (0, 56));
     let error = (MessageClass::Error, [Part::Code(401)].as_slice());
     expect_signed(&rt, rt.alloc(), &mut server, error, CHALLENGE)
 }
@@ -148,7 +147,7 @@ fn a_challenge_offers_the_algorithms(rt: HostRuntime) -> Result<(), Fail> {
 #[test]
 fn a_challenge_offers_the_strongest_first(rt: HostRuntime) -> Result<(), Fail> {
     let mut server = fully_challenging_server(rt.alloc())?;
-    expect_sizes(&rt, &server, (0, 60));
+    assert_eq!(rt; sizes(&server), (0, 60));
     let error = (MessageClass::Error, [Part::Code(401)].as_slice());
     expect_signed(&rt, rt.alloc(), &mut server, error, FULL_CHALLENGE)
 }
@@ -175,7 +174,7 @@ fn no_request_carries_a_challenge(rt: HostRuntime) -> Result<(), Fail> {
 #[test]
 fn messages_to_a_client_are_signed(rt: HostRuntime) -> Result<(), Fail> {
     let mut server = server_of_client(&rt, rt.alloc())?;
-    expect_sizes(&rt, &server, (24, 72));
+    assert_eq!(rt; sizes(&server), (24, 72));
     let success = (MessageClass::Success, [].as_slice());
     expect_signed(&rt, rt.alloc(), &mut server, success, SUCCESS_BY_SHA1)?;
     let request = (MessageClass::Request, [].as_slice());
@@ -185,7 +184,7 @@ fn messages_to_a_client_are_signed(rt: HostRuntime) -> Result<(), Fail> {
 #[test]
 fn messages_to_a_strong_client_name_its_algorithm(rt: HostRuntime) -> Result<(), Fail> {
     let mut server = server_of_strong_client(&rt, rt.alloc())?;
-    expect_sizes(&rt, &server, (44, 92));
+    assert_eq!(rt; sizes(&server), (44, 92));
     let success = (MessageClass::Success, [].as_slice());
     expect_signed(&rt, rt.alloc(), &mut server, success, SUCCESS_BY_SHA256)?;
     let indication = (MessageClass::Indication, [].as_slice());
@@ -249,7 +248,7 @@ fn without_its_user_a_client_is_sent_nothing(rt: HostRuntime) -> Result<(), Fail
         failed,
     );
     // What would be added is counted all the same.
-    expect_sizes(&rt, &server, (24, 72));
+    assert_eq!(rt; sizes(&server), (24, 72));
     Ok(())
 }
 
@@ -272,8 +271,8 @@ fn without_its_key_a_client_is_sent_nothing(rt: HostRuntime) -> Result<(), Fail>
 fn a_forgotten_client_leaves_its_nonce(rt: HostRuntime) -> Result<(), Fail> {
     let mut server = server_of_client(&rt, rt.alloc())?;
     server.remove_client(address(1));
-    expect_nonce(&rt, &server, Some(HASHED_NONCE));
-    expect_sizes(&rt, &server, (0, 56));
+    assert_eq!(rt; server.nonce_for_client(address(1)), Some(HASHED_NONCE));
+    assert_eq!(rt; sizes(&server), (0, 56));
     let error = (MessageClass::Error, [Part::Code(401)].as_slice());
     expect_signed(&rt, rt.alloc(), &mut server, error, CHALLENGE)
 }
@@ -287,7 +286,11 @@ fn a_refused_signing_offers_nothing(rt: HostRuntime) -> Result<(), Fail> {
     let list = (MessageClass::Error, [Part::List(BOTH)].as_slice());
     let exists = StunWriteError::AttributeExists(AttributeType::PASSWORD_ALGORITHMS);
     expect_refused(&rt, rt.alloc(), &mut server, list, exists);
-    expect_answer(&rt, rt.alloc(), &mut server, &FULL_REQUEST, BAD_REQUEST)
+    assert_eq!(rt;
+        answered(rt.alloc(), &mut server, &FULL_REQUEST)?,
+        BAD_REQUEST
+    );
+    Ok(())
 }
 
 #[test]
@@ -313,7 +316,7 @@ fn a_realm_is_within_its_limit(rt: HostRuntime) -> Result<(), Fail> {
     let mut server = LongTermServerAuth::new(rt.alloc(), realm_of(rt.alloc(), 763)?);
     let _challenged = knocked(rt.alloc(), &mut server, address(1), ZEROS)?;
     // NONCE 36, REALM 768, PASSWORD-ALGORITHMS 8, after a header of 20.
-    expect_sizes(&rt, &server, (0, 812));
+    assert_eq!(rt; sizes(&server), (0, 812));
     let bytes = signed_bytes(rt.alloc(), &mut server, MessageClass::Success, &[])?;
     assert_eq!(rt; bytes.len(), 832);
     Ok(())
@@ -323,7 +326,7 @@ fn a_realm_is_within_its_limit(rt: HostRuntime) -> Result<(), Fail> {
 fn a_realm_past_its_limit_is_refused(rt: HostRuntime) -> Result<(), Fail> {
     let mut server = LongTermServerAuth::new(rt.alloc(), realm_of(rt.alloc(), 764)?);
     let _challenged = knocked(rt.alloc(), &mut server, address(1), ZEROS)?;
-    expect_sizes(&rt, &server, (0, 812));
+    assert_eq!(rt; sizes(&server), (0, 812));
     let too_large = StunWriteError::TooLarge;
     expect_refused(
         &rt,

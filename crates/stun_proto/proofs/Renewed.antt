@@ -245,5 +245,5 @@ module _ (say : NoncesAsk) (found : SignedIsRead) (m : Renewal) (who : NameAndPa
   pub is_renewed : IsRenewed m who server p c
   is_renewed = record {
     first = λ asking asked. answered_first asking asked (bytes_eq p.nonce fresh) refl;
-    second = λ asking telling next differs asked is asked_again. accepted_second asking asked differs telling next is asked_again;
+    second = λ asking telling next stale. accepted_second asking stale.asked stale.other_nonce telling next stale.error stale.asked_again;
   }

@@ -139,6 +139,17 @@ pub record HasRunOut (m : Renewal) (who : NameAndPassword) (server : ServerSeen)
   pub calls_before_second : LeaveNonce m.from (end m server) m.may_be_removed m.before_second
   pub in_time : m.second.now ≤ end m server
 
+-- a client is told that its nonce is stale, and asks again
+pub record IsToldStale (m : Renewal) (server : ServerSeen) (p : PlaceSeen) (c : Challenge) (asking telling again : Page) : Type 0 where
+  -- the client signs a request under the nonce that has run out
+  pub asked : IsAsked (authenticated c) asking
+  -- the nonce that is current when the server reads it is another one
+  pub other_nonce : bytes_eq p.nonce (drawn m server) ≡ false
+  -- the server signs the error, later
+  pub error : IsTold (sight (at_error m server asking) m.from) telling
+  -- the client that has read the error signs a request again
+  pub asked_again : IsAsked (told m (authenticated c) telling) again
+
 -- a request is accepted, and server and client are joined after it
 pub record IsAcceptedAnew (m : Renewal) (who : NameAndPassword) (c : Challenge) (server : ServerSeen) (telling again : Page) : Type 0 where
   pub accepted : answer_at m m.second server again ≡ Ok (Validated c.algorithm)
@@ -149,9 +160,8 @@ pub record IsRenewed (m : Renewal) (who : NameAndPassword) (server : ServerSeen)
   -- the request is stale, unless the nonce that is current by now is the old one, drawn again
   pub first : (asking : Page) → IsAsked (authenticated c) asking
       → answer_at m m.first (at_first m server) asking ≡ (if bytes_eq p.nonce (drawn m server) then Ok (Validated c.algorithm) else Err StaleNonce)
-  -- once the client has read the error, its request is accepted
-  pub second : (asking telling again : Page) → bytes_eq p.nonce (drawn m server) ≡ false → IsAsked (authenticated c) asking
-      → IsTold (sight (at_error m server asking) m.from) telling → IsAsked (told m (authenticated c) telling) again
+  -- once the client has been told that its nonce is stale, its next request is accepted
+  pub second : (asking telling again : Page) → IsToldStale m server p c asking telling again
       → IsAcceptedAnew m who c (at_second m server asking) telling again
 
 -- a client that was authenticated stays so: one error of code 438 brings the nonce under which it is accepted again

@@ -71,22 +71,31 @@ steps_of_event now (CancelRetransmissions id) agent = []
 steps_of_event now (Configure id initial retransmits last max) agent = []
 steps_of_event now (ValidatePeer address) agent = []
 
--- ---- one turn at a moment: transmissions until there are none, then ends until there are none, and again while the next moment is this one
+-- ---- one turn at a moment: transmissions until there are none, then ends until there are none, and again while the next moment is this
+-- one
 pub data Phase : Type 0 where
   sending : Phase
   ending : Phase
 
 pub data Turn (now : ℕ) : Phase → Agent → List Step → Agent → Type 0 where
-  sends : {a b : Agent} {steps : List Step} (e : ℕ × Transaction) → sent_by_poll now a ≡ Some e → Turn now sending (after_poll_transmit now a) steps b → Turn now sending a (transmitted now e ∷ steps) b
-  rests : {a b : Agent} {steps : List Step} → sent_by_poll now a ≡ None → Turn now ending (after_poll_transmit now a) steps b → Turn now sending a steps b
-  ends : {a b : Agent} {steps : List Step} (e : ℕ × Transaction) → ended_by_poll now a ≡ Some e → Turn now ending (after_poll now a) steps b → Turn now ending a (ended now e ∷ steps) b
-  again : {a b : Agent} {steps : List Step} → ended_by_poll now a ≡ None → wake_up a.transport now a.transactions ≡ now → now < last_moment → Turn now sending a steps b → Turn now ending a steps b
-  stops : {a : Agent} → ended_by_poll now a ≡ None → (now < wake_up a.transport now a.transactions) ⊎ (now ≡ last_moment) → Turn now ending a [] a
+  sends : {a b : Agent} {steps : List Step} (e : ℕ × Transaction) → sent_by_poll now a ≡ Some e
+      → Turn now sending (after_poll_transmit now a) steps b → Turn now sending a (transmitted now e ∷ steps) b
+  rests : {a b : Agent} {steps : List Step} → sent_by_poll now a ≡ None
+      → Turn now ending (after_poll_transmit now a) steps b → Turn now sending a steps b
+  ends : {a b : Agent} {steps : List Step} (e : ℕ × Transaction) → ended_by_poll now a ≡ Some e
+      → Turn now ending (after_poll now a) steps b → Turn now ending a (ended now e ∷ steps) b
+  again : {a b : Agent} {steps : List Step} → ended_by_poll now a ≡ None
+      → wake_up a.transport now a.transactions ≡ now → now < last_moment
+      → Turn now sending a steps b → Turn now ending a steps b
+  stops : {a : Agent} → ended_by_poll now a ≡ None
+      → (now < wake_up a.transport now a.transactions) ⊎ (now ≡ last_moment) → Turn now ending a [] a
 
 -- ---- the turns at awaited moments
 -- a transaction that is not cancelled awaits this moment
 abbrev pub IsAwaited : Agent → ℕ → Type 0
-IsAwaited a moment = (id : ℕ) × (t : Transaction) × (at id a.transactions ≡ Some t) × (is_cancelled t.sending ≡ false) × (awaited a.transport t ≡ moment)
+IsAwaited a moment =
+    (id : ℕ) × (t : Transaction) × (at id a.transactions ≡ Some t)
+    × (is_cancelled t.sending ≡ false) × (awaited a.transport t ≡ moment)
 
 -- the least of the awaited moments from `from` on
 pub record IsNext (a : Agent) (from moment : ℕ) : Type 0 where
@@ -96,10 +105,13 @@ pub record IsNext (a : Agent) (from moment : ℕ) : Type 0 where
 
 -- a turn at each awaited moment from `from` on and below `bound`, in their order
 pub data Turns (bound : ℕ) : ℕ → Agent → List Step → Agent → Type 0 where
-  turn : {a b c : Agent} {steps more : List Step} {from : ℕ} (moment : ℕ) → IsNext a from moment → moment < bound → Turn moment sending a steps b → Turns bound (moment + 1) b more c → Turns bound from a (steps ++ more) c
-  none : {a : Agent} {from : ℕ} → ((moment : ℕ) → IsAwaited a moment → from ≤ moment → bound ≤ moment) → Turns bound from a [] a
+  turn : {a b c : Agent} {steps more : List Step} {from : ℕ} (moment : ℕ) → IsNext a from moment → moment < bound
+      → Turn moment sending a steps b → Turns bound (moment + 1) b more c → Turns bound from a (steps ++ more) c
+  none : {a : Agent} {from : ℕ} → ((moment : ℕ) → IsAwaited a moment → from ≤ moment → bound ≤ moment)
+      → Turns bound from a [] a
 
--- ---- a run up to a bound: before an event the awaited moments below its own have their turns, then comes the event, and a turn. After the last event the awaited moments below the bound have their turns
+-- ---- a run up to a bound: before an event the awaited moments below its own have their turns, then comes the event, and a turn. After
+-- the last event the awaited moments below the bound have their turns
 pub data Run (bound : ℕ) : ℕ → Agent → List (ℕ × AgentEvent) → List Step → Agent → Type 0 where
   done : {a b : Agent} {from : ℕ} {steps : List Step} → Turns bound from a steps b → Run bound from a [] steps b
   event : {a b c d : Agent} {from : ℕ} {rest : List (ℕ × AgentEvent)} {before after more : List Step} (moment : ℕ) (e : AgentEvent)

@@ -8,7 +8,6 @@ pub mod DueLemmas
 pub mod EntryLemmas
 pub mod FirstLemmas
 pub mod IndexedLemmas
-pub mod LastLemmas
 pub mod LentLemmas
 pub mod LookupLemmas
 pub mod NamedLemmas

@@ -1,5 +1,4 @@
 -- Definitions that no clause of a public call says: codings of models, views of the code's own structs, steps of the code.
 pub mod Deadlines
-pub mod Integrity
 pub mod StatisticsFields
 pub mod Transactions

@@ -13,13 +13,12 @@ use Rattle.stun_base.specs.declared.algorithm.IntegrityAlgorithm.TheVariants.{Sh
 use Rattle.stun_base.specs.declared.error.StunWriteError.{StunWriteError}
 use Rattle.stun_base.specs.declared.error.StunWriteError.TheVariants.{NotAllowed, MessageIntegrityExists, AttributeExists, TooLarge, TooSmall}
 use Rattle.stun_types.specs.Attribute.{TypedValue, attribute_length}
-use Rattle.stun_types.specs.Integrity.{verified_algorithm}
+use Rattle.stun_types.specs.Integrity.{is_integrity, verified_algorithm}
 use Rattle.stun_types.specs.Visible.{has_kind, visible}
 use Rattle.stun_types.specs.Walk.{Member, walk}
 use Rattle.stun_types.specs.Writing.{HasOneMore, IsAddable, IsOpen, attribute_refusal, covered_at_end, has_integrity as has_integrity_attribute, integrity_attribute, integrity_kind, is_set_apart, length_with, max_length, signing_refusal, size_refusal, with_attribute, with_integrity}
 use Rattle.stun_auth.specs.Additions.{Addition, attribute, integrity, Page, added_all, added_one, after, growth_of, is_too_long, refusal_of, unless_refused, with_addition}
 use Rattle.stun_auth.specs.Joined.{HasAdded, IsTyped, Protection, added_members}
-use Rattle.stun_auth.specs.Reading.{is_integrity}
 
 -- what writing one attribute does
 pub record WritingLaws : Type 0 where

@@ -1,11 +1,14 @@
 -- The last attribute of each type after what was added.
-use Rattle.std.proofs.Common.{◌≡◌, ℕ, Bool, true, false, List, [], ◌∷◌, ◌++◌, length, refl, sym, ◌∙◌, ap, arith}
-use Rattle.std.specs.Prelude.{Option, Some, None, ◌==◌, ◌||◌, if◌then◌else◌}
+use Rattle.std.proofs.Common.{◌≡◌, ℕ, Bool, true, false, List, [], ◌∷◌, ◌++◌, length, refl, ◌∙◌, ap, arith}
+use Rattle.std.specs.Prelude.{Option, Some, None, reverse, ◌==◌, ◌||◌, if◌then◌else◌}
 use Rattle.std.specs.Option.{option_map, option_or}
 use Rattle.std.proofs.lemmas.Bool.Decides.{nat_tests}
+use Rattle.std.proofs.lemmas.List.{reverse-append}
+use Rattle.std.proofs.lemmas.List.Folds.{find-append}
 use Rattle.stun_base.specs.Attributes.{MESSAGE_INTEGRITY, MESSAGE_INTEGRITY_SHA256, FINGERPRINT}
 use Rattle.stun_base.specs.declared.algorithm.IntegrityAlgorithm.{IntegrityAlgorithm}
 use Rattle.stun_base.specs.declared.algorithm.IntegrityAlgorithm.TheVariants.{Sha1, Sha256}
+use Rattle.stun_types.specs.Integrity.{first_of}
 use Rattle.stun_types.specs.Visible.{visible}
 use Rattle.stun_types.specs.Walk.{Member}
 use Rattle.stun_types.specs.Writing.{integrity_kind, is_set_apart, with_attribute, with_integrity, integrity_attribute}
@@ -13,14 +16,11 @@ use Rattle.stun_auth.specs.Additions.{Addition, attribute, integrity}
 use Rattle.stun_auth.specs.Joined.{HasAdded, IsReadBack, added_last, added_members, last_value}
 use Rattle.stun_auth.specs.Reading.{last_of}
 use Rattle.stun_auth.proofs.JoinedLemmas.{or_none}
+use Rattle.stun_auth.proofs.ReadingLemmas.{last_of-cons}
 
 pub or_nothing : {X : Type 0} (a : Option X) → option_or a None ≡ a
 or_nothing None = refl
 or_nothing (Some x) = refl
-
-or_assoc : {X : Type 0} (a b c : Option X) → option_or (option_or a b) c ≡ option_or a (option_or b c)
-or_assoc None b c = refl
-or_assoc (Some x) b c = refl
 
 value_or : (a b : Option Member) → option_map (λ (m : Member). m.1) (option_or a b) ≡ option_or (option_map (λ (m : Member). m.1) a) (option_map (λ (m : Member). m.1) b)
 value_or None b = refl
@@ -32,10 +32,7 @@ value_if false m = refl
 
 -- the last of two lists
 last_of-append : (kind : ℕ) (xs ys : List Member) → last_of kind (xs ++ ys) ≡ option_or (last_of kind ys) (last_of kind xs)
-last_of-append kind [] ys = sym (or_nothing (last_of kind ys))
-last_of-append kind (m ∷ xs) ys =
-    ap (λ found. option_or found (if m.1.kind == kind then Some m else None)) (last_of-append kind xs ys)
-    ∙ or_assoc (last_of kind ys) (last_of kind xs) (if m.1.kind == kind then Some m else None)
+last_of-append kind xs ys = ap (first_of kind) (reverse-append xs ys) ∙ find-append (λ (m : Member). m.1.kind == kind) (reverse ys) (reverse xs)
 
 -- the integrity attributes are set apart
 other_kind : (kind : ℕ) (algorithm : IntegrityAlgorithm) → is_set_apart kind ≡ false → (integrity_kind algorithm == kind) ≡ false
@@ -54,15 +51,17 @@ last_added : (kind : ℕ) (message : List ℕ) (list : List Addition) → is_set
 last_added kind message [] other = refl
 last_added kind message (attribute a ∷ others) other =
     let members = added_members (with_attribute message a) others in
-    value_or (last_of kind members) (if a.kind == kind then Some (length message, a) else None)
+    ap (option_map (λ (m : Member). m.1)) (last_of-cons kind (length message, a) members)
+    ∙ (value_or (last_of kind members) (if a.kind == kind then Some (length message, a) else None)
     ∙ (ap (option_or (option_map (λ (m : Member). m.1) (last_of kind members))) (value_if (a.kind == kind) (length message, a))
-    ∙ ap (λ found. option_or found (if a.kind == kind then Some a else None)) (last_added kind (with_attribute message a) others other))
+    ∙ ap (λ found. option_or found (if a.kind == kind then Some a else None)) (last_added kind (with_attribute message a) others other)))
 last_added kind message (integrity algorithm key ∷ others) other =
     let members = added_members (with_integrity message algorithm key) others in
     let none : (if integrity_kind algorithm == kind then Some (length message, integrity_attribute message algorithm key) else None) ≡ None =
     ap (λ holds. if holds then Some (length message, integrity_attribute message algorithm key) else None) (other_kind kind algorithm other) in
-    ap (λ found. option_map (λ (m : Member). m.1) (option_or (last_of kind members) found)) none
-    ∙ (ap (option_map (λ (m : Member). m.1)) (or_nothing (last_of kind members)) ∙ last_added kind (with_integrity message algorithm key) others other)
+    ap (option_map (λ (m : Member). m.1)) (last_of-cons kind (length message, integrity_attribute message algorithm key) members)
+    ∙ (ap (λ found. option_map (λ (m : Member). m.1) (option_or (last_of kind members) found)) none
+    ∙ (ap (option_map (λ (m : Member). m.1)) (or_nothing (last_of kind members)) ∙ last_added kind (with_integrity message algorithm key) others other))
 
 -- what is read of a message with additions
 pub read_back : (message : List ℕ) (list : List Addition) (longer : List ℕ) → HasAdded message list longer → IsReadBack message list longer

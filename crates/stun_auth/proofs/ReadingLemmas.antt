@@ -1,15 +1,21 @@
 -- The last member of a type, step by step, and what is there where a test holds.
-use Rattle.std.proofs.Common.{◌≡◌, ℕ, List, ◌∷◌, Bool, true, false, Option, Some, None, refl}
-use Rattle.std.specs.Prelude.{cond, ◌==◌, ◌||◌}
+use Rattle.std.proofs.Common.{◌≡◌, ℕ, List, [], ◌∷◌, Bool, true, false, Option, Some, None, refl, ap, ◌∙◌}
+use mathlib.Core.List.{reverse-cons}
+use Rattle.std.specs.Prelude.{cond, reverse, ◌==◌, ◌||◌}
 use Rattle.std.specs.List.{find}
 use Rattle.std.specs.Option.{is_some, option_and_then, option_map, option_or}
+use Rattle.std.proofs.lemmas.List.Folds.{find-append}
 use Rattle.stun_base.specs.Attributes.{ERROR_CODE, MESSAGE_INTEGRITY, MESSAGE_INTEGRITY_SHA256, NONCE, PASSWORD_ALGORITHM, PASSWORD_ALGORITHMS, REALM, USERHASH, USERNAME}
 use Rattle.stun_types.specs.Attribute.{TypedValue}
-use Rattle.stun_types.specs.Integrity.{first_of}
+use Rattle.stun_types.specs.Integrity.{first_of, is_integrity}
 use Rattle.stun_types.specs.Walk.{Member}
-use Rattle.stun_auth.specs.Reading.{is_integrity, last_of}
+use Rattle.stun_auth.specs.Reading.{last_of}
 use Rattle.stun_auth.specs.declared.reading.LastAttributes.{LastAttributes}
 use Rattle.stun_auth.specs.code.LastAttributes.{last_attributes, with_attribute}
+
+-- the last of a type with one member more in front
+pub last_of-cons : (kind : ℕ) (m : Member) (members : List Member) → last_of kind (m ∷ members) ≡ option_or (last_of kind members) (cond (m.1.kind == kind) (Some m) None)
+last_of-cons kind m members = ap (first_of kind) (reverse-cons m members) ∙ find-append (λ (x : Member). x.1.kind == kind) (reverse members) (m ∷ [])
 
 -- one member more is passed
 pub last_of-passed : (matches : Bool) (m : Member) (rest : Option Member) (found : Option TypedValue)
@@ -52,7 +58,9 @@ noted_from last members = record {
 
 passed : (kind : ℕ) (m : Member) (members : List Member) (found : Option TypedValue)
     → option_or (option_map (λ x. x.1) (last_of kind (m ∷ members))) found ≡ option_or (option_map (λ x. x.1) (last_of kind members)) (cond (m.1.kind == kind) (Some m.1) found)
-passed kind m members found = last_of-passed (m.1.kind == kind) m (last_of kind members) found
+passed kind m members found =
+    ap (λ o. option_or (option_map (λ (x : Member). x.1) o) found) (last_of-cons kind m members)
+    ∙ last_of-passed (m.1.kind == kind) m (last_of kind members) found
 
 pub noted-passed : (last : LastAttributes) (m : Member) (members : List Member) → noted_from last (m ∷ members) ≡ noted_from (with_attribute last m) members
 noted-passed last m members = λ i. record {

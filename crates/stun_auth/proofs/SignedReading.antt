@@ -24,7 +24,7 @@ use Rattle.stun_auth.specs.Reading.{error_code, has_visible_integrity, last, las
 use Rattle.stun_auth.specs.Signed.{Added, IsBuilt, IsText, IsUnsigned, IsWithinLimits, ReadsAs, additions_of, if_there}
 use Rattle.stun_auth.proofs.JoinedLemmas.{IsShort, WritingLaws, all_short, has_added, not_above, or_none}
 use Rattle.stun_auth.proofs.JoinedReading.{or_nothing, read_back}
-use Rattle.stun_auth.proofs.ReadingLemmas.{is_some-cond}
+use Rattle.stun_auth.proofs.ReadingLemmas.{is_some-cond, last_of-cons}
 
 -- an attribute of a type
 abbrev pub typed_as : ℕ → List ℕ → TypedValue
@@ -180,7 +180,7 @@ none_last : (kind : ℕ) (members : List Member) → has_kind kind members ≡ f
 none_last kind [] none = refl
 none_last kind (m ∷ members) none =
     let parts = or_none (m.1.kind == kind) (has_kind kind members) none in
-    rw (parts.0, none_last kind members parts.1) refl
+    last_of-cons kind m members ∙ rw (parts.0, none_last kind members parts.1) refl
 
 none_before : WritingLaws → (kind : ℕ) (message : List ℕ) → IsOpen message → has_kind kind (walk message) ≡ false → last_value kind message ≡ None
 none_before laws kind message is_open none =

@@ -8,16 +8,17 @@ use Rattle.stun_base.specs.MessageType.{class_of, class_in, is_error}
 use Rattle.stun_base.specs.declared.algorithm.IntegrityAlgorithm.{IntegrityAlgorithm}
 use Rattle.stun_types.specs.Attribute.{TypedValue}
 use Rattle.stun_types.specs.ErrorCode.{CodeAndReason, error_of}
-use Rattle.stun_types.specs.Integrity.{integrity_refusal, is_well_formed, refusal_of, verified_by}
+use Rattle.stun_types.specs.Integrity.{integrity_refusal, is_integrity, is_well_formed, refusal_of, verified_by}
 use Rattle.stun_types.specs.PasswordAlgorithms.{password_algorithm_in, password_algorithms_in, integrity_of}
 use Rattle.stun_types.specs.Tail.{AgreeUpToIntegrity, besides_fingerprint}
 use Rattle.stun_types.specs.Text.{text_of}
 use Rattle.stun_types.specs.Userhash.{hash_of}
 use Rattle.stun_types.specs.Visible.{visible}
 use Rattle.stun_types.specs.Walk.{Member}
-use Rattle.stun_auth.specs.Reading.{has_visible_integrity, is_integrity, last, last_of, reading_of}
+use Rattle.stun_auth.specs.Reading.{has_visible_integrity, last, last_of, reading_of}
 use Rattle.stun_auth.specs.ShortTerm.{Secret, short_term_answer, verdict_of}
 use Rattle.stun_auth.proofs.JoinedReading.{or_nothing}
+use Rattle.stun_auth.proofs.ReadingLemmas.{last_of-cons}
 
 -- FINGERPRINT takes no part in what is the last of another type
 last_of-besides : (kind : ℕ) (members : List Member) → (FINGERPRINT == kind) ≡ false → last_of kind (besides_fingerprint members) ≡ last_of kind members
@@ -25,14 +26,16 @@ last_of-besides kind [] other = refl
 last_of-besides kind (m ∷ members) other =
     let rest = last_of-besides kind members other in
     let here : Option Member = if m.1.kind == kind then Some m else None in
+    let one : last_of kind (besides_fingerprint (m ∷ members)) ≡ option_or (last_of kind members) here =
     elim (m.1.kind == FINGERPRINT) as (λ same. (m.1.kind == FINGERPRINT) ≡ same
     → last_of kind (cond (not same) (m ∷ besides_fingerprint members) (besides_fingerprint members)) ≡ option_or (last_of kind members) here) [
       | true ↦ λ same.
           let is : m.1.kind ≡ FINGERPRINT = grind (arith, same) in
           let apart : (m.1.kind == kind) ≡ false = ap (λ k. k == kind) is ∙ other in
           rest ∙ sym (ap (λ (b : Bool). option_or (last_of kind members) (if b then Some m else None)) apart ∙ or_nothing (last_of kind members))
-      | false ↦ λ same. ap (λ found. option_or found here) rest
-    ] refl
+      | false ↦ λ same. last_of-cons kind m (besides_fingerprint members) ∙ ap (λ found. option_or found here) rest
+    ] refl in
+    one ∙ sym (last_of-cons kind m members)
 
 -- nor in which integrity attribute is found
 find-besides : (members : List Member) → find (λ m. is_integrity m.1) (besides_fingerprint members) ≡ find (λ (m : Member). is_integrity m.1) members

@@ -1,14 +1,14 @@
 -- What an authenticator reads of a message (RFC 8489, sections 9.2.4 and 9.2.5).
-use Rattle.std.specs.Prelude.{ℕ, Bool, ◌&&◌, ◌||◌, ◌==◌, if◌then◌else◌, List, [], ◌∷◌, map, Option, Some, None}
+use Rattle.std.specs.Prelude.{ℕ, Bool, if◌then◌else◌, List, reverse, map, Option, Some, None}
 use Rattle.std.specs.List.{find}
-use Rattle.std.specs.Option.{is_some, option_and_then, option_map, option_or}
+use Rattle.std.specs.Option.{is_some, option_and_then, option_map}
 use Rattle.stun_base.specs.declared.algorithm.IntegrityAlgorithm.{IntegrityAlgorithm}
 use Rattle.stun_base.specs.declared.message_type.MessageClass.{MessageClass}
-use Rattle.stun_base.specs.Attributes.{ERROR_CODE, MESSAGE_INTEGRITY, MESSAGE_INTEGRITY_SHA256, NONCE, PASSWORD_ALGORITHM, PASSWORD_ALGORITHMS, REALM, USERHASH, USERNAME}
+use Rattle.stun_base.specs.Attributes.{ERROR_CODE, NONCE, PASSWORD_ALGORITHM, PASSWORD_ALGORITHMS, REALM, USERHASH, USERNAME}
 use Rattle.stun_base.specs.MessageType.{class_in, is_error}
 use Rattle.stun_types.specs.Attribute.{TypedValue}
 use Rattle.stun_types.specs.ErrorCode.{CodeAndReason, error_of}
-use Rattle.stun_types.specs.Integrity.{is_well_formed, verified_algorithm}
+use Rattle.stun_types.specs.Integrity.{first_of, is_integrity, verified_algorithm}
 use Rattle.stun_types.specs.Limits.{TEXT_LIMIT, USERNAME_LIMIT}
 use Rattle.stun_types.specs.PasswordAlgorithms.{password_algorithm_in, password_algorithms_in, integrity_of}
 use Rattle.stun_types.specs.Text.{text_of}
@@ -18,19 +18,13 @@ use Rattle.stun_types.specs.Visible.{visible}
 
 -- the last member of a type
 abbrev pub last_of : ℕ → List Member → Option Member
-last_of kind [] = None
-last_of kind (m ∷ members) = option_or (last_of kind members) (if m.1.kind == kind then Some m else None)
+last_of kind members = first_of kind (reverse members)
 
 -- what the last visible attribute of a type reads as: a malformed one takes an earlier one away
 abbrev pub last : {A : Type 0} → (TypedValue → Option A) → ℕ → List ℕ → Option A
 last reading kind bytes = option_and_then (λ m. reading m.1) (last_of kind (visible bytes))
 
--- whether an attribute is a well-formed MESSAGE-INTEGRITY or MESSAGE-INTEGRITY-SHA256
-abbrev pub is_integrity : TypedValue → Bool
-is_integrity attribute =
-    ((attribute.kind == MESSAGE_INTEGRITY) || (attribute.kind == MESSAGE_INTEGRITY_SHA256)) && is_well_formed attribute
-
--- whether one is visible
+-- whether a well-formed integrity attribute is visible
 abbrev pub has_visible_integrity : List ℕ → Bool
 has_visible_integrity bytes = is_some (find (λ m. is_integrity m.1) (visible bytes))
 

@@ -1,5 +1,5 @@
 -- Whether the keyed digest of a message verifies (RFC 8489, sections 14.5, 14.6 and 9.2.4).
-use Rattle.std.specs.Prelude.{ℕ, ◌+◌, ◌-◌, ◌%◌, Bool, List, length, take, find, nat_eq, nat_le, ◌==◌, ◌&&◌, Option, Some, None, if◌then◌else◌}
+use Rattle.std.specs.Prelude.{ℕ, ◌+◌, ◌-◌, ◌%◌, Bool, List, length, take, find, nat_eq, nat_le, ◌==◌, ◌&&◌, ◌||◌, Option, Some, None, if◌then◌else◌}
 use Rattle.std.specs.Option.{option_or, option_and_then}
 use Rattle.std.specs.Cmp.Lexicographic.{pointwise}
 use Rattle.stun_base.specs.declared.error.StunParseError.TheVariants.{MissingAttribute, InvalidAttributeData}
@@ -56,6 +56,11 @@ is_well_formed attribute =
     if attribute.kind == MESSAGE_INTEGRITY_SHA256 then
     nat_le 16 (length attribute.value) && nat_le (length attribute.value) 32 && (length attribute.value % 4 == 0)
     else length attribute.value == 20
+
+-- whether an attribute is a well-formed MESSAGE-INTEGRITY or MESSAGE-INTEGRITY-SHA256
+abbrev pub is_integrity : TypedValue → Bool
+is_integrity attribute =
+    ((attribute.kind == MESSAGE_INTEGRITY) || (attribute.kind == MESSAGE_INTEGRITY_SHA256)) && is_well_formed attribute
 
 -- why no digest verifies, of the deciding member
 abbrev pub refusal_of : Option Member → ValidateError

@@ -1,13 +1,12 @@
 //! The check of a message's integrity (RFC 8489, sections 14.5, 14.6 and 9.2.4).
 ghost use Rattle.byteorder.specs.Endian.{big_bytes};
-ghost use Rattle.std.specs.Prelude.{◌≡◌, ◌++◌, take, ◌+◌, ◌-◌, ◌^◌, ◌<◌, ◌≤◌, List, ℕ, length, IfOk, OnOk, IfErr, OnErr, IfSome, Some, None, true, false, ◌==◌, ◌||◌, ◌&&◌, if◌then◌else◌};
+ghost use Rattle.std.specs.Prelude.{◌≡◌, ◌++◌, take, ◌+◌, ◌-◌, ◌^◌, ◌<◌, ◌≤◌, List, ℕ, length, IfOk, OnOk, IfErr, OnErr, IfSome, Some, None, true, false, ◌==◌, if◌then◌else◌};
 ghost use Rattle.stun_base.specs.Algorithm.{digest_length};
-ghost use Rattle.stun_base.specs.Attributes.{MESSAGE_INTEGRITY, MESSAGE_INTEGRITY_SHA256};
 ghost use Rattle.stun_base.specs.Header.{HEADER_LENGTH as header_length};
 ghost use Rattle.stun_base.specs.Keys.OfCredentials.{keys_of};
 ghost use Rattle.stun_types.specs.Visible.{visible};
 ghost use Rattle.stun_types.specs.code.Walk.{IsWithin};
-ghost use Rattle.stun_types.specs.Integrity.{first_of as first_member_of, integrity_algorithm, deciding, is_digest, is_well_formed, verified_algorithm, verified_by, integrity_refusal};
+ghost use Rattle.stun_types.specs.Integrity.{first_of as first_member_of, integrity_algorithm, deciding, is_digest, is_integrity, is_well_formed, verified_algorithm, verified_by, integrity_refusal};
 
 use crate::attribute::{ATTRIBUTE_HEADER_LENGTH, AttributeType, RawAttribute};
 use crate::message::{Message, StunParseError, ValidateError};
@@ -181,8 +180,7 @@ impl RawAttribute<'_> {
     /// Whether it is a MESSAGE-INTEGRITY or MESSAGE-INTEGRITY-SHA256 whose value has a length that its type may have
     /// (RFC 8489, sections 14.5 and 14.6).
     pub fn is_integrity(&self) -> bool
-        ensures { result ≡ (((self.now.kind == MESSAGE_INTEGRITY) ||
-            (self.now.kind == MESSAGE_INTEGRITY_SHA256)) && is_well_formed self.now) }
+        ensures { result ≡ is_integrity self.now }
     {
         let kind = self.get_type();
         (kind == AttributeType::MESSAGE_INTEGRITY

@@ -6,10 +6,10 @@ use Rattle.stun_base.specs.Attributes.{ERROR_CODE, MESSAGE_INTEGRITY, MESSAGE_IN
 use Rattle.stun_base.specs.declared.message_type.MessageClass.{MessageClass}
 use Rattle.stun_types.specs.Attribute.{TypedValue}
 use Rattle.stun_types.specs.ErrorCode.{CodeAndReason, error_of}
-use Rattle.stun_types.specs.Integrity.{first_of}
+use Rattle.stun_types.specs.Integrity.{first_of, is_integrity}
 use Rattle.stun_types.specs.Walk.{Member}
 use Rattle.stun_base.specs.MessageType.{is_error}
-use Rattle.stun_auth.specs.Reading.{is_integrity, last_of}
+use Rattle.stun_auth.specs.Reading.{last_of}
 use Rattle.stun_auth.specs.declared.reading.LastAttributes.{LastAttributes}
 
 -- those of the members of a message

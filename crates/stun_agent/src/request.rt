@@ -106,7 +106,7 @@ impl<'a, A: Allocator + Copy> StunRequest<'a, A> {
         self.peer_address
     }
 
-    /// The algorithm of the request's last visible integrity attribute when it was sent, if it had one.
+    /// The algorithm that the request was signed with when it was sent: that of the integrity attribute whose digest decides.
     pub fn integrity(&self) -> Option<IntegrityAlgorithm>
         ensures { result ≡ self.now.integrity }
     {
@@ -146,7 +146,7 @@ impl<'a, A: Allocator + Copy> StunRequestMut<'a, A> {
         self.peer_address
     }
 
-    /// The algorithm of the request's last visible integrity attribute when it was sent, if it had one.
+    /// The algorithm that the request was signed with when it was sent: that of the integrity attribute whose digest decides.
     pub fn integrity(&self) -> Option<IntegrityAlgorithm>
         ensures { result ≡ self.now.integrity }
     {

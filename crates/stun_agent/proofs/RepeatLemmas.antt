@@ -13,13 +13,13 @@ use Rattle.stun_agent.specs.declared.error.StunError.{StunError}
 use Rattle.stun_base.specs.MessageType.{class_in}
 use Rattle.stun_agent.specs.Agent.{Agent, tallied, with_validated, with_transactions, tally_of_end, tally_of_sent, sending_refusal, after_send, request_refusal, request_of, after_send_request, answered, after_class, after_response, ended_by_poll, sent_by_poll, after_poll}
 use Rattle.stun_agent.specs.Statistics.{response_received}
-use Rattle.stun_agent.specs.Steps.{Step, send, send_request, receive, validate, poll, poll_transmit, cancel_retransmissions, cancel, configure, after_step, after_steps, is_id, repeats_request, once, allowed, repetitions_until_end, most_allowed}
+use Rattle.stun_agent.specs.Calls.{AgentCall, send, send_request, receive, validate, poll, poll_transmit, cancel_retransmissions, cancel, configure, after_call, after_calls, is_id, repeats_request, once, allowed, repetitions_until_end, most_allowed}
 use Rattle.stun_agent.specs.Timing.{slots}
 use Rattle.stun_agent.specs.Transactions.{Transaction, Transactions, IsAscending, at, with, without, changed, silenced, cancelled, configured, repeats, is_due, slot_passed, after_slot, after_slots, round_trip}
 use Rattle.stun_agent.proofs.Ascending.{lookup-remove_other, lookup-insert_other, lookup-insert_same}
 use Rattle.stun_agent.proofs.EntryLemmas.{same_key, lookup_found}
 use Rattle.stun_agent.proofs.LookupLemmas.{lookup-map, at-without, at-changed, at-changed_other}
-use Rattle.stun_agent.proofs.OnceLemmas.{ascending_none, ascending_step, ascending_steps, not_refused_is_new}
+use Rattle.stun_agent.proofs.OnceLemmas.{ascending_none, ascending_call, ascending_calls, not_refused_is_new}
 use Rattle.stun_agent.proofs.QuietLemmas.{due_slots, sent_is_due}
 
 -- ---- the transport stays
@@ -53,21 +53,21 @@ transport_sent : (a : Agent) (found : Option (ℕ × Transaction)) → (tally_of
 transport_sent a None = refl
 transport_sent a (Some e) = refl
 
-pub transport_step : (step : Step) (a : Agent) → (after_step step a).transport ≡ a.transport
-transport_step (send bytes to) a = transport_if (is_some (sending_refusal a bytes to)) a (after_send bytes a) a.transport refl refl
-transport_step (send_request bytes to now) a = transport_if (is_some (request_refusal a bytes to)) a (after_send_request a bytes to now) a.transport refl refl
-transport_step (receive moment bytes from) a = transport_class (class_in bytes) moment bytes from a
-transport_step (validate address) a = refl
-transport_step (poll now) a = transport_poll a (ended_by_poll now a)
-transport_step (poll_transmit now) a =
+pub transport_call : (call : AgentCall) (a : Agent) → (after_call call a).transport ≡ a.transport
+transport_call (send bytes to) a = transport_if (is_some (sending_refusal a bytes to)) a (after_send bytes a) a.transport refl refl
+transport_call (send_request bytes to now) a = transport_if (is_some (request_refusal a bytes to)) a (after_send_request a bytes to now) a.transport refl refl
+transport_call (receive moment bytes from) a = transport_class (class_in bytes) moment bytes from a
+transport_call (validate address) a = refl
+transport_call (poll now) a = transport_poll a (ended_by_poll now a)
+transport_call (poll_transmit now) a =
     transport_sent (with_transactions a (after_slots a.transport now (option_map (λ e. e.0) (sent_by_poll now a)) a.transactions)) (sent_by_poll now a)
-transport_step (cancel_retransmissions id) a = refl
-transport_step (cancel id) a = refl
-transport_step (configure id settings) a = refl
+transport_call (cancel_retransmissions id) a = refl
+transport_call (cancel id) a = refl
+transport_call (configure id settings) a = refl
 
-transport_steps : (steps : List Step) (a : Agent) → (after_steps steps a).transport ≡ a.transport
-transport_steps [] a = refl
-transport_steps (step ∷ steps) a = transport_steps steps (after_step step a) ∙ transport_step step a
+transport_calls : (calls : List AgentCall) (a : Agent) → (after_calls calls a).transport ≡ a.transport
+transport_calls [] a = refl
+transport_calls (call ∷ calls) a = transport_calls calls (after_call call a) ∙ transport_call call a
 
 -- ---- one call
 -- what a call does to the slot of a transaction, and what is left of that
@@ -178,79 +178,79 @@ slot_send : (b : Bool) (id : ℕ) (bytes : List ℕ) (a : Agent) (t : Transactio
 slot_send true id bytes a t there = stays a.transport t t _ there refl
 slot_send false id bytes a t there = stays a.transport t t _ there refl
 
-slot_step : (id : ℕ) (step : Step) (a : Agent) (t : Transaction) → IsAscending a.transactions → at id a.transactions ≡ Some t
-    → TakesSlot a.transport t (repeats_request id step a) (at id (after_step step a).transactions)
-slot_step id (send bytes to) a t s there = slot_send (is_some (sending_refusal a bytes to)) id bytes a t there
-slot_step id (send_request bytes to now) a t s there = slot_request id a bytes to now t there
-slot_step id (receive moment bytes from) a t s there = slot_class (class_in bytes) id moment bytes from a t s there
-slot_step id (validate address) a t s there = stays a.transport t t _ there refl
-slot_step id (poll now) a t s there = slot_poll id now a t s there
-slot_step id (poll_transmit now) a t s there = slot_transmit id now a t s there
-slot_step id (cancel_retransmissions other) a t s there = slot_changed silenced a.transport id other a.transactions t refl there
-slot_step id (cancel other) a t s there = slot_changed cancelled a.transport id other a.transactions t refl there
-slot_step id (configure other settings) a t s there = slot_changed (configured settings) a.transport id other a.transactions t refl there
+slot_call : (id : ℕ) (call : AgentCall) (a : Agent) (t : Transaction) → IsAscending a.transactions → at id a.transactions ≡ Some t
+    → TakesSlot a.transport t (repeats_request id call a) (at id (after_call call a).transactions)
+slot_call id (send bytes to) a t s there = slot_send (is_some (sending_refusal a bytes to)) id bytes a t there
+slot_call id (send_request bytes to now) a t s there = slot_request id a bytes to now t there
+slot_call id (receive moment bytes from) a t s there = slot_class (class_in bytes) id moment bytes from a t s there
+slot_call id (validate address) a t s there = stays a.transport t t _ there refl
+slot_call id (poll now) a t s there = slot_poll id now a t s there
+slot_call id (poll_transmit now) a t s there = slot_transmit id now a t s there
+slot_call id (cancel_retransmissions other) a t s there = slot_changed silenced a.transport id other a.transactions t refl there
+slot_call id (cancel other) a t s there = slot_changed cancelled a.transport id other a.transactions t refl there
+slot_call id (configure other settings) a t s there = slot_changed (configured settings) a.transport id other a.transactions t refl there
 
 -- ---- all calls
 slots_within : (transport : TransportType) (t : Transaction) → slots transport t.settings ≤ max 1 t.settings.transmissions - 1
 slots_within Udp t = omega arith
 slots_within Tcp t = omega arith
 
-bounded : (id : ℕ) (steps : List Step) (a : Agent) (t : Transaction) → IsAscending a.transactions → at id a.transactions ≡ Some t
-    → t.slot + repetitions_until_end id steps a ≤ max t.slot (max 1 (most_allowed id steps a) - 1)
+bounded : (id : ℕ) (calls : List AgentCall) (a : Agent) (t : Transaction) → IsAscending a.transactions → at id a.transactions ≡ Some t
+    → t.slot + repetitions_until_end id calls a ≤ max t.slot (max 1 (most_allowed id calls a) - 1)
 bounded id [] a t s there = omega arith
-bounded id (step ∷ steps) a t s there =
-    let call = slot_step id step a t s there in
+bounded id (call ∷ calls) a t s there =
+    let slot = slot_call id call a t s there in
     let few = slots_within a.transport t in
     let own : allowed id a ≡ t.settings.transmissions = ap (λ (o : Option Transaction). option_map_or (λ u. u.settings.transmissions) o 0) there in
-    by (at id (after_step step a).transactions) refl call.rises call.within few own (bounded id steps (after_step step a))
+    by (at id (after_call call a).transactions) refl slot.rises slot.within few own (bounded id calls (after_call call a))
   where
-    by : (after : Option Transaction) → at id (after_step step a).transactions ≡ after
-        → IfSome after (λ u. (t.slot + once (repeats_request id step a) ≤ u.slot) × (u.slot ≤ max t.slot (slots a.transport t.settings)))
-        → t.slot + once (repeats_request id step a) ≤ max t.slot (slots a.transport t.settings)
+    by : (after : Option Transaction) → at id (after_call call a).transactions ≡ after
+        → IfSome after (λ u. (t.slot + once (repeats_request id call a) ≤ u.slot) × (u.slot ≤ max t.slot (slots a.transport t.settings)))
+        → t.slot + once (repeats_request id call a) ≤ max t.slot (slots a.transport t.settings)
         → slots a.transport t.settings ≤ max 1 t.settings.transmissions - 1
         → allowed id a ≡ t.settings.transmissions
-        → ((u : Transaction) → IsAscending (after_step step a).transactions → at id (after_step step a).transactions ≡ Some u
-        → u.slot + repetitions_until_end id steps (after_step step a) ≤ max u.slot (max 1 (most_allowed id steps (after_step step a)) - 1))
-        → t.slot + (once (repeats_request id step a) + cond (is_some after) (repetitions_until_end id steps (after_step step a)) 0)
-        ≤ max t.slot (max 1 (max (allowed id a) (cond (is_some after) (most_allowed id steps (after_step step a)) 0)) - 1)
+        → ((u : Transaction) → IsAscending (after_call call a).transactions → at id (after_call call a).transactions ≡ Some u
+        → u.slot + repetitions_until_end id calls (after_call call a) ≤ max u.slot (max 1 (most_allowed id calls (after_call call a)) - 1))
+        → t.slot + (once (repeats_request id call a) + cond (is_some after) (repetitions_until_end id calls (after_call call a)) 0)
+        ≤ max t.slot (max 1 (max (allowed id a) (cond (is_some after) (most_allowed id calls (after_call call a)) 0)) - 1)
     by None is rises within few own rest = omega (arith, within, few, own)
-    by (Some u) is rises within few own rest = let more = rest u (ascending_step step a s) is in omega (arith, rises.0, rises.1, few, own, more)
+    by (Some u) is rises within few own rest = let more = rest u (ascending_call call a s) is in omega (arith, rises.0, rises.1, few, own, more)
 
 -- over a transport that loses nothing there are no slots, so nothing is sent again
-once_over_tcp : (id : ℕ) (steps : List Step) (a : Agent) (t : Transaction) → IsAscending a.transactions → at id a.transactions ≡ Some t → a.transport ≡ Tcp
-    → repetitions_until_end id steps a ≡ 0
+once_over_tcp : (id : ℕ) (calls : List AgentCall) (a : Agent) (t : Transaction) → IsAscending a.transactions → at id a.transactions ≡ Some t → a.transport ≡ Tcp
+    → repetitions_until_end id calls a ≡ 0
 once_over_tcp id [] a t s there tcp = refl
-once_over_tcp id (step ∷ steps) a t s there tcp =
-    let call = slot_step id step a t s there in
+once_over_tcp id (call ∷ calls) a t s there tcp =
+    let slot = slot_call id call a t s there in
     let none : slots a.transport t.settings ≡ 0 = ap (λ transport. slots transport t.settings) tcp in
-    let here : once (repeats_request id step a) ≡ 0 = omega (arith, call.within, none) in
-    by (at id (after_step step a).transactions) refl here (once_over_tcp id steps (after_step step a))
+    let here : once (repeats_request id call a) ≡ 0 = omega (arith, slot.within, none) in
+    by (at id (after_call call a).transactions) refl here (once_over_tcp id calls (after_call call a))
   where
-    by : (after : Option Transaction) → at id (after_step step a).transactions ≡ after → once (repeats_request id step a) ≡ 0
-        → ((u : Transaction) → IsAscending (after_step step a).transactions → at id (after_step step a).transactions ≡ Some u → (after_step step a).transport ≡ Tcp
-        → repetitions_until_end id steps (after_step step a) ≡ 0)
-        → once (repeats_request id step a) + cond (is_some after) (repetitions_until_end id steps (after_step step a)) 0 ≡ 0
+    by : (after : Option Transaction) → at id (after_call call a).transactions ≡ after → once (repeats_request id call a) ≡ 0
+        → ((u : Transaction) → IsAscending (after_call call a).transactions → at id (after_call call a).transactions ≡ Some u → (after_call call a).transport ≡ Tcp
+        → repetitions_until_end id calls (after_call call a) ≡ 0)
+        → once (repeats_request id call a) + cond (is_some after) (repetitions_until_end id calls (after_call call a)) 0 ≡ 0
     by None is here rest = omega (arith, here)
     by (Some u) is here rest =
-        let more = rest u (ascending_step step a s) is (transport_step step a ∙ tcp) in
+        let more = rest u (ascending_call call a s) is (transport_call call a ∙ tcp) in
         omega (arith, here, more)
 
 first_too : (r m : ℕ) → 0 + r ≤ max 0 (max 1 m - 1) → 1 + r ≤ max 1 m
 first_too r m h = omega arith
 
 -- from an accepted request on
-pub transmitted_at_most : (earlier later : List Step) (start : Agent) (bytes : List ℕ) (to : SocketAddr) (now : ℕ) → start.transactions ≡ []
-    → request_refusal (after_steps earlier start) bytes to ≡ None
-    → (1 + repetitions_until_end (transaction_id_field bytes) later (after_send_request (after_steps earlier start) bytes to now)
-    ≤ max 1 (most_allowed (transaction_id_field bytes) later (after_send_request (after_steps earlier start) bytes to now)))
-    × (start.transport ≡ Tcp → repetitions_until_end (transaction_id_field bytes) later (after_send_request (after_steps earlier start) bytes to now) ≡ 0)
+pub transmitted_at_most : (earlier later : List AgentCall) (start : Agent) (bytes : List ℕ) (to : SocketAddr) (now : ℕ) → start.transactions ≡ []
+    → request_refusal (after_calls earlier start) bytes to ≡ None
+    → (1 + repetitions_until_end (transaction_id_field bytes) later (after_send_request (after_calls earlier start) bytes to now)
+    ≤ max 1 (most_allowed (transaction_id_field bytes) later (after_send_request (after_calls earlier start) bytes to now)))
+    × (start.transport ≡ Tcp → repetitions_until_end (transaction_id_field bytes) later (after_send_request (after_calls earlier start) bytes to now) ≡ 0)
 transmitted_at_most earlier later start bytes to now none accepted =
-    let before = after_steps earlier start in
+    let before = after_calls earlier start in
     let begun = after_send_request before bytes to now in
-    let ascending : IsAscending before.transactions = ascending_steps earlier start (subst IsAscending (sym none) ascending_none) in
+    let ascending : IsAscending before.transactions = ascending_calls earlier start (subst IsAscending (sym none) ascending_none) in
     let goes_on : IsAscending begun.transactions =
-    subst (λ (r : Option StunError). IsAscending (cond (is_some r) before begun).transactions) accepted (ascending_step (send_request bytes to now) before ascending) in
+    subst (λ (r : Option StunError). IsAscending (cond (is_some r) before begun).transactions) accepted (ascending_call (send_request bytes to now) before ascending) in
     let there : at (transaction_id_field bytes) begun.transactions ≡ Some (request_of before bytes to now) = lookup-insert_same (transaction_id_field bytes) (request_of before bytes to now) before.transactions in (
       first_too _ _ (bounded (transaction_id_field bytes) later begun (request_of before bytes to now) goes_on there),
-      λ tcp. once_over_tcp (transaction_id_field bytes) later begun (request_of before bytes to now) goes_on there (transport_steps earlier start ∙ tcp),
+      λ tcp. once_over_tcp (transaction_id_field bytes) later begun (request_of before bytes to now) goes_on there (transport_calls earlier start ∙ tcp),
     )

@@ -21,7 +21,7 @@ pub mod Requests
 -- what an agent is after a loan has ended
 pub mod AgentLends
 -- what is done to an agent, call by call
-pub mod Steps
+pub mod Calls
 -- what the calls of a list count
 pub mod Transcript
 -- what holds of an agent whatever is done to it

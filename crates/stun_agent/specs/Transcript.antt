@@ -7,7 +7,7 @@ use Rattle.stun_base.specs.declared.message_type.MessageClass.TheVariants.{Reque
 use Rattle.stun_base.specs.MessageType.{class_in}
 use Rattle.stun_agent.specs.Agent.{Agent, sending_refusal, sending_tally, request_refusal, answered, ended_by_poll, tally_of_end, sent_by_poll}
 use Rattle.stun_agent.specs.Statistics.{Tally, no_tally, request_sent, request_sent_again, request_received, response_received, indication_received, new_statistics, counted, total}
-use Rattle.stun_agent.specs.Steps.{Step, send, send_request, receive, validate, poll, poll_transmit, cancel_retransmissions, cancel, configure, after_step, after_steps}
+use Rattle.stun_agent.specs.Calls.{AgentCall, send, send_request, receive, validate, poll, poll_transmit, cancel_retransmissions, cancel, configure, after_call, after_calls}
 use Rattle.stun_agent.specs.Transactions.{round_trip}
 
 -- a response counts where it is taken
@@ -23,7 +23,7 @@ tally_of_message Success moment bytes from agent = tally_of_response moment byte
 tally_of_message Error moment bytes from agent = tally_of_response moment bytes from agent
 
 -- one call. What is refused counts nothing
-abbrev pub tally_of : Step → Agent → Tally
+abbrev pub tally_of : AgentCall → Agent → Tally
 tally_of (send bytes to) agent =
     if is_some (sending_refusal agent bytes to) then no_tally else sending_tally (class_in bytes) (length bytes)
 tally_of (send_request bytes to now) agent = if is_some (request_refusal agent bytes to) then no_tally else request_sent (length bytes)
@@ -36,16 +36,16 @@ tally_of (cancel id) agent = no_tally
 tally_of (configure id settings) agent = no_tally
 
 -- calls, one after the other
-abbrev pub tallies : List Step → Agent → List Tally
+abbrev pub tallies : List AgentCall → Agent → List Tally
 tallies [] agent = []
-tallies (step ∷ steps) agent = tally_of step agent ∷ tallies steps (after_step step agent)
+tallies (call ∷ calls) agent = tally_of call agent ∷ tallies calls (after_call call agent)
 
 -- over any calls since nothing was counted, each counter is the sum over their tallies, capped once, and the round trips are theirs
 abbrev pub CountsCalls : Type 0
 CountsCalls =
-    (steps : List Step) (agent : Agent) → agent.statistics ≡ Some new_statistics
-    → (after_steps steps agent).statistics ≡ Some (counted (total (tallies steps agent)) new_statistics)
+    (calls : List AgentCall) (agent : Agent) → agent.statistics ≡ Some new_statistics
+    → (after_calls calls agent).statistics ≡ Some (counted (total (tallies calls agent)) new_statistics)
 
 -- an agent that does not count never begins to
 abbrev pub CountsNothing : Type 0
-CountsNothing = (steps : List Step) (agent : Agent) → agent.statistics ≡ None → (after_steps steps agent).statistics ≡ None
+CountsNothing = (calls : List AgentCall) (agent : Agent) → agent.statistics ≡ None → (after_calls calls agent).statistics ≡ None

@@ -2,4 +2,4 @@ use Rattle.stun_agent.proofs.OnceLemmas.{ends_once}
 use Rattle.stun_agent.proofs.laws.a_request_ends_once.Goals as goal
 
 pub returns : goal.returns
-returns c = λ id steps start none. ends_once id steps start none
+returns c = λ id calls start none. ends_once id calls start none

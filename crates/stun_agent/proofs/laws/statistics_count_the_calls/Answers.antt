@@ -2,7 +2,7 @@ use Rattle.stun_agent.proofs.TranscriptLemmas.{counts_calls, counts_nothing}
 use Rattle.stun_agent.proofs.laws.statistics_count_the_calls.Goals as goal
 
 pub returns-clause-counts : goal.returns-clause-counts
-returns-clause-counts c = λ steps agent is. counts_calls steps agent is
+returns-clause-counts c = λ calls agent is. counts_calls calls agent is
 
 pub returns-clause-nothing : goal.returns-clause-nothing
-returns-clause-nothing c = λ steps agent is. counts_nothing steps agent is
+returns-clause-nothing c = λ calls agent is. counts_nothing calls agent is

@@ -2,4 +2,4 @@ use Rattle.stun_agent.proofs.CountLemmas.{still_tells}
 use Rattle.stun_agent.proofs.laws.statistics_tell_how_many_requests_are_outstanding.Goals as goal
 
 pub returns : goal.returns
-returns c = λ step agent told. still_tells step agent told
+returns c = λ call agent told. still_tells call agent told

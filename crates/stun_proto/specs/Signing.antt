@@ -1,15 +1,16 @@
 -- What signing a message for an address comes to: its attributes are written anew, and then the server's (RFC 8489, section
 -- 9.2.4).
-use Rattle.std.specs.Prelude.{ℕ, ◌-◌, List, [], ◌∷◌, length, Bool, Option, Some, None, Result, Ok, Err, if◌then◌else◌}
-use Rattle.std.specs.Option.{option_map}
+use Rattle.std.specs.Prelude.{ℕ, ◌-◌, List, length, take, filter_map, slice_get, Bool, Option, Some, None, Result, Ok, Err, if◌then◌else◌}
+use Rattle.std.specs.List.{range_with_len}
+use Rattle.std.specs.Option.{option_and_then, option_map}
 use Rattle.stun_base.specs.Header.{type_field, transaction_id_field}
 use Rattle.stun_base.specs.declared.error.StunWriteError.{StunWriteError}
 use Rattle.stun_types.specs.Attribute.{TypedValue}
 use Rattle.stun_types.specs.Grammar.{spelled}
 use Rattle.stun_types.specs.Message.{LENGTH_LIMIT}
 use Rattle.stun_types.specs.Visible.{visible}
-use Rattle.stun_types.specs.Walk.{Member}
-use Rattle.stun_types.specs.Writing.{attribute_refusal, with_attribute}
+use Rattle.stun_types.specs.Walk.{attributes_of}
+use Rattle.stun_types.specs.Writing.{attribute_refusal}
 use Rattle.stun_auth.specs.Additions.{Page}
 use Rattle.stun_auth.specs.Places.{with_offer}
 use Rattle.stun_base.specs.MessageType.{class_in, is_response}
@@ -25,23 +26,32 @@ abbrev pub message_unless : Option StunWriteError → List ℕ → Result (List 
 message_unless None message = Ok message
 message_unless (Some reason) message = Err reason
 
--- a message with one attribute more, or why it is refused
-abbrev pub added : TypedValue → List ℕ → Result (List ℕ) StunWriteError
-added a message = message_unless (attribute_refusal message (LENGTH_LIMIT - length message) a.kind (length a.value)) (with_attribute message a)
-
 -- the next step, unless the one before it is refused
 abbrev pub next_if_written : {X : Type 0} → Result (List ℕ) StunWriteError → (List ℕ → Result X StunWriteError) → Result X StunWriteError
 next_if_written (Ok message) next = next message
 next_if_written (Err reason) next = Err reason
 
--- a message with these attributes after its own, or the first refusal
-abbrev pub with_all : List Member → List ℕ → Result (List ℕ) StunWriteError
-with_all [] message = Ok message
-with_all (m ∷ members) message = next_if_written (added m.1 message) (with_all members)
+-- the message with the type and id of another and these attributes
+abbrev pub spelled_anew : List ℕ → List TypedValue → List ℕ
+spelled_anew message attributes = spelled (type_field message) (transaction_id_field message) attributes
 
--- the visible attributes of a message, written after a new header with its type and id, or the first refusal
-abbrev pub written_anew : List ℕ → Result (List ℕ) StunWriteError
-written_anew message = with_all (visible message) (spelled (type_field message) (transaction_id_field message) [])
+-- why an attribute cannot be added to a message
+abbrev pub refusal_after : List ℕ → TypedValue → Option StunWriteError
+refusal_after message a = attribute_refusal message (LENGTH_LIMIT - length message) a.kind (length a.value)
+
+-- why number k of these attributes cannot be added to the message of those before it
+abbrev pub refusal_at : List ℕ → List TypedValue → ℕ → Option StunWriteError
+refusal_at message attributes k = option_and_then (refusal_after (spelled_anew message (take k attributes))) (slice_get attributes k)
+
+-- the first of these reasons, in the order of the attributes
+abbrev pub first_refusal : List ℕ → List TypedValue → Option StunWriteError
+first_refusal message attributes = slice_get (filter_map (refusal_at message attributes) (range_with_len 0 (length attributes))) 0
+
+-- the visible attributes of a message after a new header with its type and id, or the first refusal of one
+unfoldable pub written_anew : List ℕ → Result (List ℕ) StunWriteError
+written_anew message =
+    let attributes = attributes_of (visible message) in
+    message_unless (first_refusal message attributes) (spelled_anew message attributes)
 
 -- the message that is written anew and signed, or the first refusal
 abbrev pub signing : Sight → List ℕ → Result Page StunWriteError

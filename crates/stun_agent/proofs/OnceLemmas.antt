@@ -16,7 +16,7 @@ use Rattle.stun_agent.specs.declared.error.StunError.TheVariants.{AlreadyInProgr
 use Rattle.stun_base.specs.MessageType.{class_in, is_request}
 use Rattle.stun_agent.specs.Agent.{Agent, tallied, with_validated, with_transactions, tally_of_end, tally_of_sent, is_elsewhere, sending_refusal, after_send, request_refusal, request_of, after_send_request, answered, after_class, after_response, ended_by_poll, sent_by_poll, after_poll}
 use Rattle.stun_agent.specs.Statistics.{response_received}
-use Rattle.stun_agent.specs.Calls.{AgentCall, send, send_request, receive, validate, poll, poll_transmit, cancel_retransmissions, cancel, configure, after_call, after_calls, is_id, is_outstanding, begins, ends, takes_request, once, count}
+use Rattle.stun_agent.specs.Calls.{AgentCall, send, send_request, receive, validate, poll, poll_transmit, cancel_retransmissions, cancel, configure, after_agent_call, after_agent_calls, is_id, is_outstanding, begins, ends, takes_request, once, count}
 use Rattle.stun_agent.specs.Transactions.{Transaction, Transactions, IsAscending, at, with, without, changed, silenced, cancelled, configured, is_over, slot_passed, after_slots, round_trip}
 use Rattle.stun_agent.proofs.Ascending.{IsAscending-map, IsAscending-set_value, IsAscending-remove, IsAscending-insert, lookup-remove_other, lookup-insert_other, lookup-insert_same}
 use Rattle.stun_agent.proofs.AnswerLemmas.{answered_there}
@@ -67,7 +67,7 @@ ascending_if : (b : Bool) (x y : Agent) → IsAscending x.transactions → IsAsc
 ascending_if true x y p q = p
 ascending_if false x y p q = q
 
-pub ascending_call : (call : AgentCall) (a : Agent) → IsAscending a.transactions → IsAscending (after_call call a).transactions
+pub ascending_call : (call : AgentCall) (a : Agent) → IsAscending a.transactions → IsAscending (after_agent_call call a).transactions
 ascending_call (send bytes to) a s = ascending_if (is_some (sending_refusal a bytes to)) a (after_send bytes a) s s
 ascending_call (send_request bytes to now) a s =
     ascending_if (is_some (request_refusal a bytes to)) a (after_send_request a bytes to now) s (IsAscending-insert a.transactions (transaction_id_field bytes) (request_of a bytes to now) s)
@@ -79,9 +79,9 @@ ascending_call (cancel_retransmissions id) a s = ascending_changed silenced id a
 ascending_call (cancel id) a s = ascending_changed cancelled id a.transactions s
 ascending_call (configure id settings) a s = ascending_changed (configured settings) id a.transactions s
 
-pub ascending_calls : (calls : List AgentCall) (a : Agent) → IsAscending a.transactions → IsAscending (after_calls calls a).transactions
+pub ascending_calls : (calls : List AgentCall) (a : Agent) → IsAscending a.transactions → IsAscending (after_agent_calls calls a).transactions
 ascending_calls [] a s = s
-ascending_calls (call ∷ calls) a s = ascending_calls calls (after_call call a) (ascending_call call a s)
+ascending_calls (call ∷ calls) a s = ascending_calls calls (after_agent_call call a) (ascending_call call a s)
 
 -- ---- what begins and what ends
 -- a request that is not refused is not outstanding
@@ -208,7 +208,7 @@ balanced_send true id bytes a = refl
 balanced_send false id bytes a = refl
 
 pub balanced_call : (id : ℕ) (call : AgentCall) (a : Agent) → IsAscending a.transactions
-    → IsBalanced id (begins id call a) (ends id call a) a.transactions (after_call call a).transactions
+    → IsBalanced id (begins id call a) (ends id call a) a.transactions (after_agent_call call a).transactions
 balanced_call id (send bytes to) a s = balanced_send (is_some (sending_refusal a bytes to)) id bytes a
 balanced_call id (send_request bytes to now) a s = balanced_request id a bytes to now
 balanced_call id (receive moment bytes from) a s = balanced_class (class_in bytes) id moment bytes from a s
@@ -223,15 +223,15 @@ summed : (b o e p x y z : ℕ) → b + o ≡ e + p → x + p ≡ y + z → (b + 
 summed b o e p x y z h k = omega (arith, h, k)
 
 pub balanced_calls : (id : ℕ) (calls : List AgentCall) (a : Agent) → IsAscending a.transactions
-    → count begins id calls a + once (is_outstanding id a) ≡ count ends id calls a + once (is_outstanding id (after_calls calls a))
+    → count begins id calls a + once (is_outstanding id a) ≡ count ends id calls a + once (is_outstanding id (after_agent_calls calls a))
 balanced_calls id [] a s = refl
 balanced_calls id (call ∷ calls) a s =
-    summed _ _ _ _ _ _ _ (balanced_call id call a s) (balanced_calls id calls (after_call call a) (ascending_call call a s))
+    summed _ _ _ _ _ _ _ (balanced_call id call a s) (balanced_calls id calls (after_agent_call call a) (ascending_call call a s))
 
 from_nothing : (x y o : ℕ) → x + o ≡ y → o ≡ 0 → x ≡ y
 from_nothing x y o h k = omega (arith, h, k)
 
 pub ends_once : (id : ℕ) (calls : List AgentCall) (start : Agent) → start.transactions ≡ []
-    → count begins id calls start ≡ count ends id calls start + once (is_outstanding id (after_calls calls start))
+    → count begins id calls start ≡ count ends id calls start + once (is_outstanding id (after_agent_calls calls start))
 ends_once id calls start none =
     from_nothing _ _ _ (balanced_calls id calls start (subst IsAscending (sym none) ascending_none)) (ap (λ (all : Transactions). once (is_some (at id all))) none)

@@ -13,7 +13,7 @@ use Rattle.stun_agent.specs.declared.error.StunError.{StunError}
 use Rattle.stun_base.specs.MessageType.{class_in}
 use Rattle.stun_agent.specs.Agent.{Agent, tallied, with_validated, with_transactions, tally_of_end, tally_of_sent, sending_refusal, after_send, request_refusal, request_of, after_send_request, answered, after_class, after_response, ended_by_poll, sent_by_poll, after_poll}
 use Rattle.stun_agent.specs.Statistics.{response_received}
-use Rattle.stun_agent.specs.Calls.{AgentCall, send, send_request, receive, validate, poll, poll_transmit, cancel_retransmissions, cancel, configure, after_call, after_calls, is_id, repeats_request, once, allowed, repetitions_until_end, most_allowed}
+use Rattle.stun_agent.specs.Calls.{AgentCall, send, send_request, receive, validate, poll, poll_transmit, cancel_retransmissions, cancel, configure, after_agent_call, after_agent_calls, is_id, repeats_request, once, allowed, repetitions_until_end, most_allowed}
 use Rattle.stun_agent.specs.Timing.{slots}
 use Rattle.stun_agent.specs.Transactions.{Transaction, Transactions, IsAscending, at, with, without, changed, silenced, cancelled, configured, repeats, is_due, slot_passed, after_slot, after_slots, round_trip}
 use Rattle.stun_agent.proofs.Ascending.{lookup-remove_other, lookup-insert_other, lookup-insert_same}
@@ -53,7 +53,7 @@ transport_sent : (a : Agent) (found : Option (ℕ × Transaction)) → (tally_of
 transport_sent a None = refl
 transport_sent a (Some e) = refl
 
-pub transport_call : (call : AgentCall) (a : Agent) → (after_call call a).transport ≡ a.transport
+pub transport_call : (call : AgentCall) (a : Agent) → (after_agent_call call a).transport ≡ a.transport
 transport_call (send bytes to) a = transport_if (is_some (sending_refusal a bytes to)) a (after_send bytes a) a.transport refl refl
 transport_call (send_request bytes to now) a = transport_if (is_some (request_refusal a bytes to)) a (after_send_request a bytes to now) a.transport refl refl
 transport_call (receive moment bytes from) a = transport_class (class_in bytes) moment bytes from a
@@ -65,9 +65,9 @@ transport_call (cancel_retransmissions id) a = refl
 transport_call (cancel id) a = refl
 transport_call (configure id settings) a = refl
 
-transport_calls : (calls : List AgentCall) (a : Agent) → (after_calls calls a).transport ≡ a.transport
+transport_calls : (calls : List AgentCall) (a : Agent) → (after_agent_calls calls a).transport ≡ a.transport
 transport_calls [] a = refl
-transport_calls (call ∷ calls) a = transport_calls calls (after_call call a) ∙ transport_call call a
+transport_calls (call ∷ calls) a = transport_calls calls (after_agent_call call a) ∙ transport_call call a
 
 -- ---- one call
 -- what a call does to the slot of a transaction, and what is left of that
@@ -179,7 +179,7 @@ slot_send true id bytes a t there = stays a.transport t t _ there refl
 slot_send false id bytes a t there = stays a.transport t t _ there refl
 
 slot_call : (id : ℕ) (call : AgentCall) (a : Agent) (t : Transaction) → IsAscending a.transactions → at id a.transactions ≡ Some t
-    → TakesSlot a.transport t (repeats_request id call a) (at id (after_call call a).transactions)
+    → TakesSlot a.transport t (repeats_request id call a) (at id (after_agent_call call a).transactions)
 slot_call id (send bytes to) a t s there = slot_send (is_some (sending_refusal a bytes to)) id bytes a t there
 slot_call id (send_request bytes to now) a t s there = slot_request id a bytes to now t there
 slot_call id (receive moment bytes from) a t s there = slot_class (class_in bytes) id moment bytes from a t s there
@@ -202,17 +202,17 @@ bounded id (call ∷ calls) a t s there =
     let slot = slot_call id call a t s there in
     let few = slots_within a.transport t in
     let own : allowed id a ≡ t.settings.transmissions = ap (λ (o : Option Transaction). option_map_or (λ u. u.settings.transmissions) o 0) there in
-    by (at id (after_call call a).transactions) refl slot.rises slot.within few own (bounded id calls (after_call call a))
+    by (at id (after_agent_call call a).transactions) refl slot.rises slot.within few own (bounded id calls (after_agent_call call a))
   where
-    by : (after : Option Transaction) → at id (after_call call a).transactions ≡ after
+    by : (after : Option Transaction) → at id (after_agent_call call a).transactions ≡ after
         → IfSome after (λ u. (t.slot + once (repeats_request id call a) ≤ u.slot) × (u.slot ≤ max t.slot (slots a.transport t.settings)))
         → t.slot + once (repeats_request id call a) ≤ max t.slot (slots a.transport t.settings)
         → slots a.transport t.settings ≤ max 1 t.settings.transmissions - 1
         → allowed id a ≡ t.settings.transmissions
-        → ((u : Transaction) → IsAscending (after_call call a).transactions → at id (after_call call a).transactions ≡ Some u
-        → u.slot + repetitions_until_end id calls (after_call call a) ≤ max u.slot (max 1 (most_allowed id calls (after_call call a)) - 1))
-        → t.slot + (once (repeats_request id call a) + cond (is_some after) (repetitions_until_end id calls (after_call call a)) 0)
-        ≤ max t.slot (max 1 (max (allowed id a) (cond (is_some after) (most_allowed id calls (after_call call a)) 0)) - 1)
+        → ((u : Transaction) → IsAscending (after_agent_call call a).transactions → at id (after_agent_call call a).transactions ≡ Some u
+        → u.slot + repetitions_until_end id calls (after_agent_call call a) ≤ max u.slot (max 1 (most_allowed id calls (after_agent_call call a)) - 1))
+        → t.slot + (once (repeats_request id call a) + cond (is_some after) (repetitions_until_end id calls (after_agent_call call a)) 0)
+        ≤ max t.slot (max 1 (max (allowed id a) (cond (is_some after) (most_allowed id calls (after_agent_call call a)) 0)) - 1)
     by None is rises within few own rest = omega (arith, within, few, own)
     by (Some u) is rises within few own rest = let more = rest u (ascending_call call a s) is in omega (arith, rises.0, rises.1, few, own, more)
 
@@ -224,12 +224,12 @@ once_over_tcp id (call ∷ calls) a t s there tcp =
     let slot = slot_call id call a t s there in
     let none : slots a.transport t.settings ≡ 0 = ap (λ transport. slots transport t.settings) tcp in
     let here : once (repeats_request id call a) ≡ 0 = omega (arith, slot.within, none) in
-    by (at id (after_call call a).transactions) refl here (once_over_tcp id calls (after_call call a))
+    by (at id (after_agent_call call a).transactions) refl here (once_over_tcp id calls (after_agent_call call a))
   where
-    by : (after : Option Transaction) → at id (after_call call a).transactions ≡ after → once (repeats_request id call a) ≡ 0
-        → ((u : Transaction) → IsAscending (after_call call a).transactions → at id (after_call call a).transactions ≡ Some u → (after_call call a).transport ≡ Tcp
-        → repetitions_until_end id calls (after_call call a) ≡ 0)
-        → once (repeats_request id call a) + cond (is_some after) (repetitions_until_end id calls (after_call call a)) 0 ≡ 0
+    by : (after : Option Transaction) → at id (after_agent_call call a).transactions ≡ after → once (repeats_request id call a) ≡ 0
+        → ((u : Transaction) → IsAscending (after_agent_call call a).transactions → at id (after_agent_call call a).transactions ≡ Some u → (after_agent_call call a).transport ≡ Tcp
+        → repetitions_until_end id calls (after_agent_call call a) ≡ 0)
+        → once (repeats_request id call a) + cond (is_some after) (repetitions_until_end id calls (after_agent_call call a)) 0 ≡ 0
     by None is here rest = omega (arith, here)
     by (Some u) is here rest =
         let more = rest u (ascending_call call a s) is (transport_call call a ∙ tcp) in
@@ -240,12 +240,12 @@ first_too r m h = omega arith
 
 -- from an accepted request on
 pub transmitted_at_most : (earlier later : List AgentCall) (start : Agent) (bytes : List ℕ) (to : SocketAddr) (now : ℕ) → start.transactions ≡ []
-    → request_refusal (after_calls earlier start) bytes to ≡ None
-    → (1 + repetitions_until_end (transaction_id_field bytes) later (after_send_request (after_calls earlier start) bytes to now)
-    ≤ max 1 (most_allowed (transaction_id_field bytes) later (after_send_request (after_calls earlier start) bytes to now)))
-    × (start.transport ≡ Tcp → repetitions_until_end (transaction_id_field bytes) later (after_send_request (after_calls earlier start) bytes to now) ≡ 0)
+    → request_refusal (after_agent_calls earlier start) bytes to ≡ None
+    → (1 + repetitions_until_end (transaction_id_field bytes) later (after_send_request (after_agent_calls earlier start) bytes to now)
+    ≤ max 1 (most_allowed (transaction_id_field bytes) later (after_send_request (after_agent_calls earlier start) bytes to now)))
+    × (start.transport ≡ Tcp → repetitions_until_end (transaction_id_field bytes) later (after_send_request (after_agent_calls earlier start) bytes to now) ≡ 0)
 transmitted_at_most earlier later start bytes to now none accepted =
-    let before = after_calls earlier start in
+    let before = after_agent_calls earlier start in
     let begun = after_send_request before bytes to now in
     let ascending : IsAscending before.transactions = ascending_calls earlier start (subst IsAscending (sym none) ascending_none) in
     let goes_on : IsAscending begun.transactions =

@@ -10,7 +10,7 @@ use Rattle.stun_base.specs.MessageType.{class_in}
 use Rattle.stun_agent.specs.declared.error.StunError.{StunError}
 use Rattle.stun_agent.specs.Agent.{Agent, tallied, with_validated, with_transactions, tally_of_end, tally_of_sent, sending_tally, sending_refusal, after_send, request_refusal, after_send_request, answered, after_class, ended_by_poll, sent_by_poll}
 use Rattle.stun_agent.specs.Statistics.{Statistics, Tally, no_tally, counted, counted_in_turn, total, new_statistics, request_sent, request_sent_again, response_received}
-use Rattle.stun_agent.specs.Calls.{AgentCall, send, send_request, receive, validate, poll, poll_transmit, cancel_retransmissions, cancel, configure, after_call, after_calls}
+use Rattle.stun_agent.specs.Calls.{AgentCall, send, send_request, receive, validate, poll, poll_transmit, cancel_retransmissions, cancel, configure, after_agent_call, after_agent_calls}
 use Rattle.stun_agent.specs.Transactions.{Transaction, without, after_slots, round_trip}
 use Rattle.stun_agent.specs.Transcript.{tally_of_message, tally_of, tallies}
 use Rattle.stun_agent.proofs.StatisticsLemmas.{counted-counted-nothing, counted_in_turn-new}
@@ -67,7 +67,7 @@ adds_transmission : (now : ℕ) (a : Agent) (found : Option (ℕ × Transaction)
 adds_transmission now a None = adds_nothing a.statistics
 adds_transmission now a (Some e) = adds_tally (request_sent_again (length e.1.bytes)) a.statistics
 
-adds_call : (call : AgentCall) (a : Agent) → Adds (tally_of call a) a.statistics (after_call call a).statistics
+adds_call : (call : AgentCall) (a : Agent) → Adds (tally_of call a) a.statistics (after_agent_call call a).statistics
 adds_call (send bytes to) a = adds_send bytes a (sending_refusal a bytes to)
 adds_call (send_request bytes to now) a = adds_request bytes to now a (request_refusal a bytes to)
 adds_call (receive moment bytes from) a = adds_message (class_in bytes) moment bytes from a
@@ -79,15 +79,15 @@ adds_call (cancel id) a = adds_nothing a.statistics
 adds_call (configure id settings) a = adds_nothing a.statistics
 
 counts_in_turn : (calls : List AgentCall) (a : Agent) (s : Statistics) → AreCapped s → a.statistics ≡ Some s
-    → (after_calls calls a).statistics ≡ Some (counted_in_turn (tallies calls a) s)
+    → (after_agent_calls calls a).statistics ≡ Some (counted_in_turn (tallies calls a) s)
 counts_in_turn [] a s capped is = is
 counts_in_turn (call ∷ calls) a s capped is =
-    counts_in_turn calls (after_call call a) (counted (tally_of call a) s) (counted-counted-nothing (tally_of call a) s) ((adds_call call a).some s capped is)
+    counts_in_turn calls (after_agent_call call a) (counted (tally_of call a) s) (counted-counted-nothing (tally_of call a) s) ((adds_call call a).some s capped is)
 
 pub counts_calls : (calls : List AgentCall) (a : Agent) → a.statistics ≡ Some new_statistics
-    → (after_calls calls a).statistics ≡ Some (counted (total (tallies calls a)) new_statistics)
+    → (after_agent_calls calls a).statistics ≡ Some (counted (total (tallies calls a)) new_statistics)
 counts_calls calls a is = counts_in_turn calls a new_statistics refl is ∙ ap Some (counted_in_turn-new (tallies calls a))
 
-pub counts_nothing : (calls : List AgentCall) (a : Agent) → a.statistics ≡ None → (after_calls calls a).statistics ≡ None
+pub counts_nothing : (calls : List AgentCall) (a : Agent) → a.statistics ≡ None → (after_agent_calls calls a).statistics ≡ None
 counts_nothing [] a is = is
-counts_nothing (call ∷ calls) a is = counts_nothing calls (after_call call a) ((adds_call call a).none is)
+counts_nothing (call ∷ calls) a is = counts_nothing calls (after_agent_call call a) ((adds_call call a).none is)

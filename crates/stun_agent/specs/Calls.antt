@@ -26,21 +26,21 @@ pub data AgentCall : Type 0 where
   configure : ℕ → Settings → AgentCall
 
 -- the agent after a call
-abbrev pub after_call : AgentCall → Agent → Agent
-after_call (send bytes to) agent = if is_some (sending_refusal agent bytes to) then agent else after_send bytes agent
-after_call (send_request bytes to now) agent = if is_some (request_refusal agent bytes to) then agent else after_send_request agent bytes to now
-after_call (receive moment bytes from) agent = after_message moment bytes from agent
-after_call (validate address) agent = with_validated address agent
-after_call (poll now) agent = after_poll now agent
-after_call (poll_transmit now) agent = after_poll_transmit now agent
-after_call (cancel_retransmissions id) agent = with_transactions agent (changed silenced id agent.transactions)
-after_call (cancel id) agent = with_transactions agent (changed cancelled id agent.transactions)
-after_call (configure id settings) agent = with_transactions agent (changed (configured settings) id agent.transactions)
+abbrev pub after_agent_call : AgentCall → Agent → Agent
+after_agent_call (send bytes to) agent = if is_some (sending_refusal agent bytes to) then agent else after_send bytes agent
+after_agent_call (send_request bytes to now) agent = if is_some (request_refusal agent bytes to) then agent else after_send_request agent bytes to now
+after_agent_call (receive moment bytes from) agent = after_message moment bytes from agent
+after_agent_call (validate address) agent = with_validated address agent
+after_agent_call (poll now) agent = after_poll now agent
+after_agent_call (poll_transmit now) agent = after_poll_transmit now agent
+after_agent_call (cancel_retransmissions id) agent = with_transactions agent (changed silenced id agent.transactions)
+after_agent_call (cancel id) agent = with_transactions agent (changed cancelled id agent.transactions)
+after_agent_call (configure id settings) agent = with_transactions agent (changed (configured settings) id agent.transactions)
 
 -- the agent after calls, one after the other
-abbrev pub after_calls : List AgentCall → Agent → Agent
-after_calls [] agent = agent
-after_calls (call ∷ calls) agent = after_calls calls (after_call call agent)
+abbrev pub after_agent_calls : List AgentCall → Agent → Agent
+after_agent_calls [] agent = agent
+after_agent_calls (call ∷ calls) agent = after_agent_calls calls (after_agent_call call agent)
 
 -- ---- one transaction
 -- a number is the id
@@ -101,7 +101,7 @@ once b = if b then 1 else 0
 -- how many of the calls have something to do with the transaction
 abbrev pub count : (ℕ → AgentCall → Agent → Bool) → ℕ → List AgentCall → Agent → ℕ
 count happens id [] agent = 0
-count happens id (call ∷ calls) agent = once (happens id call agent) + count happens id calls (after_call call agent)
+count happens id (call ∷ calls) agent = once (happens id call agent) + count happens id calls (after_agent_call call agent)
 
 -- how many transmissions the settings of the transaction allow
 abbrev pub allowed : ℕ → Agent → ℕ
@@ -112,10 +112,10 @@ abbrev pub repetitions_until_end : ℕ → List AgentCall → Agent → ℕ
 repetitions_until_end id [] agent = 0
 repetitions_until_end id (call ∷ calls) agent =
     once (repeats_request id call agent)
-    + (if is_outstanding id (after_call call agent) then repetitions_until_end id calls (after_call call agent) else 0)
+    + (if is_outstanding id (after_agent_call call agent) then repetitions_until_end id calls (after_agent_call call agent) else 0)
 
 -- the most transmissions that its settings ever allow, until it ends
 abbrev pub most_allowed : ℕ → List AgentCall → Agent → ℕ
 most_allowed id [] agent = allowed id agent
 most_allowed id (call ∷ calls) agent =
-    max (allowed id agent) (if is_outstanding id (after_call call agent) then most_allowed id calls (after_call call agent) else 0)
+    max (allowed id agent) (if is_outstanding id (after_agent_call call agent) then most_allowed id calls (after_agent_call call agent) else 0)

@@ -8,7 +8,7 @@ use Rattle.stun_base.specs.declared.transport.TransportType.TheVariants.{Udp, Tc
 use Rattle.stun_agent.specs.declared.agent.StunAgentPollRet.TheVariants.{WaitUntil}
 use Rattle.stun_agent.specs.Agent.{Agent, takes_message, after_message, poll_answer, after_poll, ended_by_poll, sent_by_poll, request_refusal, after_send_request}
 use Rattle.stun_agent.specs.Statistics.{LeavesOutstanding, IsNotFull}
-use Rattle.stun_agent.specs.Calls.{AgentCall, after_call, after_calls, is_outstanding, begins, ends, once, count, repetitions_until_end, most_allowed}
+use Rattle.stun_agent.specs.Calls.{AgentCall, after_agent_call, after_agent_calls, is_outstanding, begins, ends, once, count, repetitions_until_end, most_allowed}
 use Rattle.stun_agent.specs.Timing.{Settings, timeout, planned_end}
 use Rattle.stun_agent.specs.Transactions.{Transaction, at, an_hour}
 
@@ -57,15 +57,15 @@ EndsAlike = (settings : Settings) (start : ℕ) → planned_end Udp settings sta
 abbrev pub EndsOnce : Type 0
 EndsOnce =
     (id : ℕ) (calls : List AgentCall) (start : Agent) → start.transactions ≡ []
-    → count begins id calls start ≡ count ends id calls start + once (is_outstanding id (after_calls calls start))
+    → count begins id calls start ≡ count ends id calls start + once (is_outstanding id (after_agent_calls calls start))
 
 -- from a request that is sent at a moment over any calls until it ends, it is transmitted no more often than its settings
 -- ever allow, and over TCP once
 abbrev pub IsTransmittedAtMost : Type 0
 IsTransmittedAtMost =
     (earlier later : List AgentCall) (start : Agent) (bytes : List ℕ) (to : SocketAddr) (now : ℕ) → start.transactions ≡ []
-    → request_refusal (after_calls earlier start) bytes to ≡ None
-    → let begun = after_send_request (after_calls earlier start) bytes to now in
+    → request_refusal (after_agent_calls earlier start) bytes to ≡ None
+    → let begun = after_send_request (after_agent_calls earlier start) bytes to now in
     let id = transaction_id_field bytes in
     (1 + repetitions_until_end id later begun ≤ max 1 (most_allowed id later begun))
     × (start.transport ≡ Tcp → repetitions_until_end id later begun ≡ 0)
@@ -75,4 +75,4 @@ abbrev pub KeepsCount : Type 0
 KeepsCount =
     (call : AgentCall) (agent : Agent)
     → IfSome agent.statistics (λ stats. LeavesOutstanding stats (length agent.transactions))
-    → IfSome (after_call call agent).statistics (λ stats. IsNotFull stats → LeavesOutstanding stats (length (after_call call agent).transactions))
+    → IfSome (after_agent_call call agent).statistics (λ stats. IsNotFull stats → LeavesOutstanding stats (length (after_agent_call call agent).transactions))

@@ -7,7 +7,7 @@ use Rattle.stun_base.specs.declared.message_type.MessageClass.TheVariants.{Reque
 use Rattle.stun_base.specs.MessageType.{class_in}
 use Rattle.stun_agent.specs.Agent.{Agent, sending_refusal, sending_tally, request_refusal, answered, ended_by_poll, tally_of_end, sent_by_poll}
 use Rattle.stun_agent.specs.Statistics.{Tally, no_tally, request_sent, request_sent_again, request_received, response_received, indication_received, new_statistics, counted, total}
-use Rattle.stun_agent.specs.Calls.{AgentCall, send, send_request, receive, validate, poll, poll_transmit, cancel_retransmissions, cancel, configure, after_call, after_calls}
+use Rattle.stun_agent.specs.Calls.{AgentCall, send, send_request, receive, validate, poll, poll_transmit, cancel_retransmissions, cancel, configure, after_agent_call, after_agent_calls}
 use Rattle.stun_agent.specs.Transactions.{round_trip}
 
 -- a response counts where it is taken
@@ -38,14 +38,14 @@ tally_of (configure id settings) agent = no_tally
 -- calls, one after the other
 abbrev pub tallies : List AgentCall → Agent → List Tally
 tallies [] agent = []
-tallies (call ∷ calls) agent = tally_of call agent ∷ tallies calls (after_call call agent)
+tallies (call ∷ calls) agent = tally_of call agent ∷ tallies calls (after_agent_call call agent)
 
 -- over any calls since nothing was counted, each counter is the sum over their tallies, capped once, and the round trips are theirs
 abbrev pub CountsCalls : Type 0
 CountsCalls =
     (calls : List AgentCall) (agent : Agent) → agent.statistics ≡ Some new_statistics
-    → (after_calls calls agent).statistics ≡ Some (counted (total (tallies calls agent)) new_statistics)
+    → (after_agent_calls calls agent).statistics ≡ Some (counted (total (tallies calls agent)) new_statistics)
 
 -- an agent that does not count never begins to
 abbrev pub CountsNothing : Type 0
-CountsNothing = (calls : List AgentCall) (agent : Agent) → agent.statistics ≡ None → (after_calls calls agent).statistics ≡ None
+CountsNothing = (calls : List AgentCall) (agent : Agent) → agent.statistics ≡ None → (after_agent_calls calls agent).statistics ≡ None

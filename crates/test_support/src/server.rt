@@ -120,7 +120,7 @@ pub fn asked<A: Allocator + Copy>(
     }
 }
 
-/// What a server answers to a request of these attributes, which comes from the first address at the first moment.
+/// What a server answers, at the first moment, to these attributes from the first address.
 pub fn answered<A: Allocator + Copy>(
     alloc: Global,
     server: &mut LongTermServerAuth<A>,

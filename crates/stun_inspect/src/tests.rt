@@ -83,7 +83,7 @@ const VALID: Expected<'static> = (Status::Good, "valid MESSAGE-INTEGRITY\n", "")
 
 #[test]
 fn decodes_the_samples(rt: HostRuntime) -> Result<(), Fail> {
-    let table = [
+    const TABLE: &[(&str, &str)] = &[
         (
             REQUEST,
             "class request\nmethod 0x001 Binding\nid b7e7a701bc34d686fa87dfae
@@ -119,7 +119,7 @@ fn decodes_the_samples(rt: HostRuntime) -> Result<(), Fail> {
 92 0x0008 MESSAGE-INTEGRITY, 20 bytes, visible: f67024656dd64a3e02b8e0712e85c9a28ca89666\n",
         ),
     ];
-    for (input, printed) in table {
+    for (input, printed) in TABLE {
         expect(
             &rt,
             rt.alloc(),
@@ -205,7 +205,7 @@ fn verifies_sha256(rt: HostRuntime) -> Result<(), Fail> {
 
 #[test]
 fn tells_why_not(rt: HostRuntime) -> Result<(), Fail> {
-    let table = [
+    const TABLE: &[(&str, &str)] = &[
         (
             "000100002112a442000000000000000000000001",
             "invalid: no integrity attribute is visible\n",
@@ -224,7 +224,7 @@ fn tells_why_not(rt: HostRuntime) -> Result<(), Fail> {
         ),
         ("00", "not a message: truncated\n"),
     ];
-    for (input, printed) in table {
+    for (input, printed) in TABLE {
         expect(
             &rt,
             rt.alloc(),
@@ -240,18 +240,18 @@ fn tells_why_not(rt: HostRuntime) -> Result<(), Fail> {
 /// prints the first.
 #[test]
 fn makes_keys_and_hashes(rt: HostRuntime) -> Result<(), Fail> {
-    let sha256 = "07e934117abd40836e7c6329b54731b2b2d2a5f9a71f544922d75e0730d8251b\n";
-    let table = [
+    const SHA256: &str = "07e934117abd40836e7c6329b54731b2b2d2a5f9a71f544922d75e0730d8251b\n";
+    const TABLE: &[(&[&str], &str, &str)] = &[
         (
-            &["key", "sha1", "user", "realm", "pass"] as &[&str],
+            &["key", "sha1", "user", "realm", "pass"],
             "",
             "8493fbc53ba582fb4c044c456bdc40eb\n",
         ),
-        (&["key", "sha256", "user", "realm", "pass"], "", sha256),
+        (&["key", "sha256", "user", "realm", "pass"], "", SHA256),
         (
             &["key", "sha256", "user", "realm", "-"],
             "pass\r\nmore",
-            sha256,
+            SHA256,
         ),
         (
             &["userhash", "user", "realm"],
@@ -276,7 +276,7 @@ fn makes_keys_and_hashes(rt: HostRuntime) -> Result<(), Fail> {
         (&["nonce", "obMatJos2AA"], "", "no security bits\n"),
         (&["--version"], "", "stun_inspect 0.1.0\n"),
     ];
-    for (words, input, printed) in table {
+    for (words, input, printed) in TABLE {
         expect(
             &rt,
             rt.alloc(),
@@ -305,10 +305,10 @@ fn reads_a_password(rt: HostRuntime) -> Result<(), Fail> {
 
 #[test]
 fn refuses_other_words(rt: HostRuntime) -> Result<(), Fail> {
-    let usage =
+    const USAGE: &str =
         "usage: stun_inspect decode | verify PASSWORD | verify NAME REALM PASSWORD | key sha1|sha256 NAME REALM PASSWORD | userhash NAME REALM | nonce NONCE | --help | --version\n";
-    for words in [
-        &[] as &[&str],
+    const TABLE: &[&[&str]] = &[
+        &[],
         &["Decode"],
         &["decode", "x"],
         &["verify"],
@@ -318,13 +318,14 @@ fn refuses_other_words(rt: HostRuntime) -> Result<(), Fail> {
         &["userhash", "name"],
         &["nonce"],
         &["--help", "x"],
-    ] {
+    ];
+    for words in TABLE {
         expect(
             &rt,
             rt.alloc(),
             words,
             REQUEST.as_bytes(),
-            (Status::NotJudged, "", usage),
+            (Status::NotJudged, "", USAGE),
         )?;
     }
     Ok(())

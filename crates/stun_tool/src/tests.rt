@@ -74,7 +74,7 @@ fn expect_lines(
 
 #[test]
 fn prints_each_verdict(rt: HostRuntime) -> Result<(), Fail> {
-    let table = [
+    const TABLE: &[(&str, Status, &str)] = &[
         (
             SAMPLE_REQUEST,
             Status::Answered,
@@ -115,12 +115,12 @@ fn prints_each_verdict(rt: HostRuntime) -> Result<(), Fail> {
         ("00", Status::Refused, "not a message: truncated\n"),
         ("000", Status::Refused, "bad input\n"),
     ];
-    expect_lines(&rt, rt.alloc(), SAMPLE_PASSWORD, &table)
+    expect_lines(&rt, rt.alloc(), SAMPLE_PASSWORD, TABLE)
 }
 
 #[test]
 fn reads_digits(rt: HostRuntime) -> Result<(), Fail> {
-    let table = [
+    const TABLE: &[(&str, Status, &str)] = &[
         ("", Status::Refused, "not a message: truncated\n"),
         (" \t\n\x0c\r", Status::Refused, "not a message: truncated\n"),
         (
@@ -142,13 +142,13 @@ fn reads_digits(rt: HostRuntime) -> Result<(), Fail> {
         ("00\u{a0}", Status::Refused, "bad input\n"),
         ("-1", Status::Refused, "bad input\n"),
     ];
-    expect_lines(&rt, rt.alloc(), SAMPLE_PASSWORD, &table)
+    expect_lines(&rt, rt.alloc(), SAMPLE_PASSWORD, TABLE)
 }
 
 /// Integrity attributes of other lengths, with a digest of zeros, or hidden (RFC 8489, sections 14.5 to 14.7).
 #[test]
 fn judges_forged_integrity(rt: HostRuntime) -> Result<(), Fail> {
-    let table = [
+    const TABLE: &[(&str, Status, &str)] = &[
         (
             "000100142112a442000000000000000000000000 001c0010 00000000000000000000000000000000",
             Status::Refused,
@@ -180,14 +180,37 @@ fn judges_forged_integrity(rt: HostRuntime) -> Result<(), Fail> {
             "not a message: truncated\n",
         ),
     ];
-    expect_lines(&rt, rt.alloc(), "x", &table)
+    expect_lines(&rt, rt.alloc(), "x", TABLE)
+}
+
+/// What is written to standard error for words that are none of a command.
+const USAGE: &[u8] =
+    b"usage: stun_tool check PASSWORD | schedule TRANSPORT INITIAL_MS MAX_MS RETRANSMITS FINAL_MS [answer MS FROM] | negotiate CLIENT_ALGORITHMS CLIENT_FEATURE SERVER_ALGORITHMS SERVER_FEATURE | serve REALM\n";
+
+/// Runs words that are none of a command: no input is read, and nothing printed.
+fn expect_usage(rt: &impl Abort, alloc: Global, texts: &[&str]) -> Result<(), Fail> {
+    let given = words(alloc, texts)?;
+    let mut reader = EndlessReader { asked: 0 };
+    let mut writer = Vec::new(alloc);
+    let mut errors = Vec::new(alloc);
+    let status = run(
+        alloc,
+        given.as_slice(),
+        &mut reader,
+        &mut writer,
+        &mut errors,
+    );
+    assert_eq!(rt; status, Status::WrongWords);
+    assert_eq!(rt; reader.asked, 0);
+    assert!(rt; writer.is_empty());
+    assert_eq!(rt; errors.as_slice(), USAGE);
+    Ok(())
 }
 
 #[test]
 fn wrong_words(rt: HostRuntime) -> Result<(), Fail> {
-    let alloc = rt.alloc();
-    for texts in [
-        &[] as &[&str],
+    const TABLE: &[&[&str]] = &[
+        &[],
         &["check"],
         &["check", "a", "b"],
         &["Check", "a"],
@@ -198,25 +221,9 @@ fn wrong_words(rt: HostRuntime) -> Result<(), Fail> {
         &["schedule"],
         &["schedule", "udp", "500", "-", "1001", "8000"],
         &["negotiate", "sha1", "auto", "sha1"],
-    ] {
-        let given = words(alloc, texts)?;
-        let mut reader = EndlessReader { asked: 0 };
-        let mut writer = Vec::new(alloc);
-        let mut errors = Vec::new(alloc);
-        let status = run(
-            alloc,
-            given.as_slice(),
-            &mut reader,
-            &mut writer,
-            &mut errors,
-        );
-        assert_eq!(rt; status, Status::WrongWords);
-        assert_eq!(rt; reader.asked, 0);
-        assert!(rt; writer.is_empty());
-        assert_eq!(rt;
-            errors.as_slice(),
-            b"usage: stun_tool check PASSWORD | schedule TRANSPORT INITIAL_MS MAX_MS RETRANSMITS FINAL_MS [answer MS FROM] | negotiate CLIENT_ALGORITHMS CLIENT_FEATURE SERVER_ALGORITHMS SERVER_FEATURE | serve REALM\n".as_slice()
-        );
+    ];
+    for texts in TABLE {
+        expect_usage(&rt, rt.alloc(), texts)?;
     }
     Ok(())
 }

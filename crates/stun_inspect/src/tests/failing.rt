@@ -170,8 +170,8 @@ fn refuses_one(
 fn each_allocation_refused(rt: HostRuntime) -> Result<(), Fail> {
     let alloc = rt.alloc();
     let heap = RefusingAllocator::new(alloc);
-    let table = [
-        (&["decode"] as &[&str], REQUEST, TOLD),
+    const TABLE: &[(&[&str], &[u8], &str)] = &[
+        (&["decode"], REQUEST, TOLD),
         (
             &["decode"],
             b"AAEACCESpEIAAAAAAAAAAAAAAAGAIgADYWJjAA==",
@@ -195,7 +195,7 @@ fn each_allocation_refused(rt: HostRuntime) -> Result<(), Fail> {
             "security bits 800000: password algorithms\n",
         ),
     ];
-    for (texts, input, printed) in table {
+    for (texts, input, printed) in TABLE {
         let words = words_of(alloc, texts)?;
         heap.each_refusal(|nth| {
             refuses_one(&rt, &heap, (words.as_slice(), input, printed), (alloc, nth))

@@ -8,15 +8,15 @@ use std::test::Fail;
 /// The check value of the registers of CRCs, and values of the module `zlib`.
 #[test]
 fn checks_of_crc32(rt: HostRuntime) -> Result<(), Fail> {
-    let table = [
-        (b"" as &[u8], 0x0000_0000),
+    const TABLE: &[(&[u8], u32)] = &[
+        (b"", 0x0000_0000),
         (b"123456789", 0xcbf4_3926),
         (b"a", 0xe8b7_be43),
         (b"\x00", 0xd202_ef8d),
         (b"\xff\xff\xff\xff", 0xffff_ffff),
     ];
-    for (bytes, wanted) in table {
-        assert_eq!(rt; crc32(bytes), wanted, "of {bytes:?}");
+    for (bytes, wanted) in TABLE {
+        assert_eq!(rt; crc32(bytes), *wanted, "of {bytes:?}");
     }
     Ok(())
 }
@@ -47,7 +47,7 @@ fn each_byte_counts(rt: HostRuntime) -> Result<(), Fail> {
 /// One that is not the last, or not of four bytes.
 #[test]
 fn tells_misplaced(rt: HostRuntime) -> Result<(), Fail> {
-    let table = [
+    const TABLE: &[(&str, &str)] = &[
         (
             "000100102112a442000000000000000000000001 80280004c5adc960 802800047775410a",
             "20 0x8028 FINGERPRINT, 4 bytes, visible: c5adc960, misplaced
@@ -70,7 +70,7 @@ fn tells_misplaced(rt: HostRuntime) -> Result<(), Fail> {
             "20 0x8028 FINGERPRINT, 4 bytes, visible: c5adc961, wrong\n",
         ),
     ];
-    for (input, lines) in table {
+    for (input, lines) in TABLE {
         let mut printed =
             "class request\nmethod 0x001 Binding\nid 000000000000000000000001\n".to_string(
                 rt.alloc(),

@@ -35,7 +35,7 @@ const WIRESHARK: &str = "0000   00 00 00 00 00 02 00 00 00 00 00 01 08 00 45 00 
 
 #[test]
 fn reads_each_layout(rt: HostRuntime) -> Result<(), Fail> {
-    for input in [
+    const LAYOUTS: &[&str] = &[
         "000100082112a4420000000000000000000000018022000361626300",
         "00010008 2112A442\r\n\t000000000000000000000001 8 0220003 61626300\n",
         "00:01:00:08:21:12:a4:42:00:00:00:00:00:00:00:00:00:00:00:01:80:22:00:03:61:62:63:00",
@@ -45,7 +45,8 @@ fn reads_each_layout(rt: HostRuntime) -> Result<(), Fail> {
         XXD,
         TCPDUMP,
         WIRESHARK,
-    ] {
+    ];
+    for input in LAYOUTS {
         expect(
             &rt,
             rt.alloc(),
@@ -65,9 +66,9 @@ fn reads_each_layout(rt: HostRuntime) -> Result<(), Fail> {
 
 #[test]
 fn tells_where_an_input_is_bad(rt: HostRuntime) -> Result<(), Fail> {
-    let table = [
+    const TABLE: &[(&[u8], &str)] = &[
         (
-            b"" as &[u8],
+            b"",
             "stun_inspect: bad input at line 1, column 1: looked for the bytes of a message\n",
         ),
         (
@@ -95,7 +96,7 @@ fn tells_where_an_input_is_bad(rt: HostRuntime) -> Result<(), Fail> {
             "stun_inspect: bad input at line 1, column 12: looked for the second hexadecimal digit of a byte\n",
         ),
     ];
-    for (input, errors) in table {
+    for (input, errors) in TABLE {
         expect(
             &rt,
             rt.alloc(),

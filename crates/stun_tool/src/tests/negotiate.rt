@@ -13,51 +13,61 @@ const BOTH: &[&str] = &["sha1,sha256", "auto", "sha256,sha1", "auto"];
 /// The line for them: the stronger one (RFC 8489, section 9.2).
 const BOTH_LINE: &[u8] = b"validated Sha256\n";
 
+/// The line where they have no algorithm or feature in common.
+const REFUSED: &str = "refused UnsupportedFeature\n";
+
 #[test]
 fn prints_each_outcome(rt: HostRuntime) -> Result<(), Fail> {
     let alloc = rt.alloc();
-    let refused = "refused UnsupportedFeature\n";
-    let table: [([&str; 4], Status, &str); 9] = [
+    const TABLE: &[(&[&str], Status, &str)] = &[
         (
-            ["sha1,sha256", "auto", "sha256,sha1", "auto"],
+            &["sha1,sha256", "auto", "sha256,sha1", "auto"],
             Status::Answered,
             "validated Sha256\n",
         ),
-        (["sha256", "auto", "sha1", "auto"], Status::Refused, refused),
         (
-            ["sha1", "required", "sha1", "disabled"],
+            &["sha256", "auto", "sha1", "auto"],
             Status::Refused,
-            refused,
+            REFUSED,
         ),
         (
-            ["sha256", "auto", "sha1,sha256", "disabled"],
+            &["sha1", "required", "sha1", "disabled"],
+            Status::Refused,
+            REFUSED,
+        ),
+        (
+            &["sha256", "auto", "sha1,sha256", "disabled"],
             Status::Answered,
             "validated Sha256\n",
         ),
         (
-            ["sha1", "required", "sha1", "auto"],
+            &["sha1", "required", "sha1", "auto"],
             Status::Answered,
             "validated Sha1\n",
         ),
         (
-            ["sha1,sha256", "required", "sha256", "disabled"],
+            &["sha1,sha256", "required", "sha256", "disabled"],
             Status::Refused,
-            refused,
-        ),
-        (["sha1", "auto", "sha256", "auto"], Status::Refused, refused),
-        (
-            ["sha256", "disabled", "sha1", "disabled"],
-            Status::Refused,
-            refused,
+            REFUSED,
         ),
         (
-            ["sha1", "auto", "sha1", "disabled"],
+            &["sha1", "auto", "sha256", "auto"],
+            Status::Refused,
+            REFUSED,
+        ),
+        (
+            &["sha256", "disabled", "sha1", "disabled"],
+            Status::Refused,
+            REFUSED,
+        ),
+        (
+            &["sha1", "auto", "sha1", "disabled"],
             Status::Answered,
             "validated Sha1\n",
         ),
     ];
-    for (texts, status, line) in &table {
-        let given = words(alloc, texts.as_slice())?;
+    for (texts, status, line) in TABLE {
+        let given = words(alloc, texts)?;
         let mut writer = Vec::new(alloc);
         let mut reader = EndlessReader { asked: 0 };
         let answer = negotiate(alloc, given.as_slice(), &mut reader, &mut writer);
@@ -71,7 +81,7 @@ fn prints_each_outcome(rt: HostRuntime) -> Result<(), Fail> {
 #[test]
 fn finds_wrong_words_first(rt: HostRuntime) -> Result<(), Fail> {
     let alloc = rt.alloc();
-    let table: [&[&str]; 10] = [
+    const TABLE: &[&[&str]] = &[
         &[],
         &["sha1", "auto", "sha1"],
         &["sha1", "auto", "sha1", "auto", "auto"],
@@ -83,7 +93,7 @@ fn finds_wrong_words_first(rt: HostRuntime) -> Result<(), Fail> {
         &["sha1", "Auto", "sha1", "auto"],
         &["sha1", "auto", "sha1", "off"],
     ];
-    for texts in &table {
+    for texts in TABLE {
         let given = words(alloc, texts)?;
         let mut writer = Vec::new(alloc);
         let mut reader = EndlessReader { asked: 0 };

@@ -45,7 +45,7 @@ signed 011100142112a4420000000000000000000000010009001000000401556e617574686f726
 #[test]
 fn prints_each_reply(rt: HostRuntime) -> Result<(), Fail> {
     let alloc = rt.alloc();
-    let table = [
+    const TABLE: &[(&str, Status, &str)] = &[
         (SCRIPT, Status::Answered, LINES),
         (FORGETTING, Status::Answered, FORGOTTEN),
         ("", Status::Answered, ""),
@@ -120,7 +120,7 @@ fn prints_each_reply(rt: HostRuntime) -> Result<(), Fail> {
             "wrong line 1\n",
         ),
     ];
-    for (script, status, lines) in &table {
+    for (script, status, lines) in TABLE {
         let given = words(alloc, &["realm"])?;
         let mut writer = Vec::new(alloc);
         let mut reader = Counted::new(script.as_bytes());

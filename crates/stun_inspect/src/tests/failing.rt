@@ -168,8 +168,6 @@ fn refuses_one(
 /// Each command that allocates, but `userhash`, with each of its allocations refused in turn.
 #[test]
 fn each_allocation_refused(rt: HostRuntime) -> Result<(), Fail> {
-    let alloc = rt.alloc();
-    let heap = RefusingAllocator::new(alloc);
     const TABLE: &[(&[&str], &[u8], &str)] = &[
         (&["decode"], REQUEST, TOLD),
         (
@@ -195,6 +193,8 @@ fn each_allocation_refused(rt: HostRuntime) -> Result<(), Fail> {
             "security bits 800000: password algorithms\n",
         ),
     ];
+    let alloc = rt.alloc();
+    let heap = RefusingAllocator::new(alloc);
     for (texts, input, printed) in TABLE {
         let words = words_of(alloc, texts)?;
         heap.each_refusal(|nth| {

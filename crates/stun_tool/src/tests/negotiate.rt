@@ -18,7 +18,6 @@ const REFUSED: &str = "refused UnsupportedFeature\n";
 
 #[test]
 fn prints_each_outcome(rt: HostRuntime) -> Result<(), Fail> {
-    let alloc = rt.alloc();
     const TABLE: &[(&[&str], Status, &str)] = &[
         (
             &["sha1,sha256", "auto", "sha256,sha1", "auto"],
@@ -66,6 +65,7 @@ fn prints_each_outcome(rt: HostRuntime) -> Result<(), Fail> {
             "validated Sha1\n",
         ),
     ];
+    let alloc = rt.alloc();
     for (texts, status, line) in TABLE {
         let given = words(alloc, texts)?;
         let mut writer = Vec::new(alloc);
@@ -80,7 +80,6 @@ fn prints_each_outcome(rt: HostRuntime) -> Result<(), Fail> {
 
 #[test]
 fn finds_wrong_words_first(rt: HostRuntime) -> Result<(), Fail> {
-    let alloc = rt.alloc();
     const TABLE: &[&[&str]] = &[
         &[],
         &["sha1", "auto", "sha1"],
@@ -93,6 +92,7 @@ fn finds_wrong_words_first(rt: HostRuntime) -> Result<(), Fail> {
         &["sha1", "Auto", "sha1", "auto"],
         &["sha1", "auto", "sha1", "off"],
     ];
+    let alloc = rt.alloc();
     for texts in TABLE {
         let given = words(alloc, texts)?;
         let mut writer = Vec::new(alloc);

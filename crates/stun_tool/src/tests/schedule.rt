@@ -17,7 +17,6 @@ const DEFAULT_WORDS: &[&str] = &["udp", "500", "-", "7", "8000"];
 
 #[test]
 fn prints_each_moment(rt: HostRuntime) -> Result<(), Fail> {
-    let alloc = rt.alloc();
     const TABLE: &[(&[&str], &str)] = &[
         (&["udp", "500", "-", "7", "8000"], DEFAULT_LINES),
         (&["udp", "0500", "-", "007", "8000"], DEFAULT_LINES),
@@ -92,6 +91,7 @@ fn prints_each_moment(rt: HostRuntime) -> Result<(), Fail> {
             "sent 0\nsent 500\nsent 1500\nsent 3500\nsent 7500\nsent 15500\nsent 31500\ntimed out 39500\nignored 40000\n",
         ),
     ];
+    let alloc = rt.alloc();
     for (texts, lines) in TABLE {
         let given = words(alloc, texts)?;
         let mut writer = Vec::new(alloc);
@@ -105,7 +105,6 @@ fn prints_each_moment(rt: HostRuntime) -> Result<(), Fail> {
 
 #[test]
 fn finds_wrong_words_first(rt: HostRuntime) -> Result<(), Fail> {
-    let alloc = rt.alloc();
     const TABLE: &[&[&str]] = &[
         &["udp", "500", "-", "1001", "8000"],
         &["udp", "500", "-", "-", "8000"],
@@ -142,6 +141,7 @@ fn finds_wrong_words_first(rt: HostRuntime) -> Result<(), Fail> {
         ],
         &[],
     ];
+    let alloc = rt.alloc();
     for texts in TABLE {
         let given = words(alloc, texts)?;
         let mut writer = Vec::new(alloc);

@@ -44,7 +44,6 @@ signed 011100142112a4420000000000000000000000010009001000000401556e617574686f726
 
 #[test]
 fn prints_each_reply(rt: HostRuntime) -> Result<(), Fail> {
-    let alloc = rt.alloc();
     const TABLE: &[(&str, Status, &str)] = &[
         (SCRIPT, Status::Answered, LINES),
         (FORGETTING, Status::Answered, FORGOTTEN),
@@ -120,6 +119,7 @@ fn prints_each_reply(rt: HostRuntime) -> Result<(), Fail> {
             "wrong line 1\n",
         ),
     ];
+    let alloc = rt.alloc();
     for (script, status, lines) in TABLE {
         let given = words(alloc, &["realm"])?;
         let mut writer = Vec::new(alloc);

@@ -1,4 +1,5 @@
-//! HMAC, keys and USERHASH against the values of RFC 2202, RFC 4231 and of Python's modules `hmac` and `hashlib`.
+//! HMAC, keys and USERHASH against the values of RFC 2202, RFC 4231 and of Python's modules `hmac`
+//! and `hashlib`.
 use std::alloc::Global;
 use std::process::Abort;
 use std::test::Fail;
@@ -48,7 +49,8 @@ fn expect_prepared(rt: &impl Abort, key: &PreparedKey, pieces: &[&[u8]], digests
     );
 }
 
-/// Compares both digests of these pieces, under the key and under what is prepared of it for either algorithm.
+/// Compares both digests of these pieces, under the key and under what is prepared of it for either
+/// algorithm.
 fn expect_pieces(
     rt: &impl Abort,
     alloc: Global,
@@ -68,7 +70,7 @@ fn expect_pieces(
     Ok(())
 }
 
-/// Compares both digests of a text in one, two and four pieces.
+/// Compares both digests of a text in one, two and four pieces, and of no text in none.
 fn expect_digests(
     rt: &impl Abort,
     alloc: Global,
@@ -79,6 +81,9 @@ fn expect_digests(
     let middle = text.len() / 2;
     let front = &text[..middle];
     let back = &text[middle..];
+    if text.is_empty() {
+        expect_pieces(rt, alloc, key, &[], digests)?;
+    }
     expect_pieces(rt, alloc, key, &[text], digests)?;
     expect_pieces(rt, alloc, key, &[front, back], digests)?;
     expect_pieces(rt, alloc, key, &[&[], front, &[], back], digests)
@@ -103,18 +108,15 @@ fn expect_samples(rt: &impl Abort, alloc: Global, samples: &[Sample]) -> Result<
     Ok(())
 }
 
-/// The digests of a text without bytes in one, two and four pieces, and in none.
 fn expect_lengths(rt: &impl Abort, alloc: Global, lengths: Lengths) -> Result<(), Fail> {
     let digests = digests_of(alloc, lengths.sha1, lengths.sha256)?;
     let key = pattern(alloc, lengths.key, 7, 1)?;
     let text = pattern(alloc, lengths.text, 3, 2)?;
-    if text.is_empty() {
-        expect_pieces(rt, alloc, &key, &[], &digests)?;
-    }
     expect_digests(rt, alloc, &key, &text, &digests)
 }
 
-/// RFC 2202, section 3, and RFC 4231, section 4: test cases 1, 2 and 3; the longer key of RFC 2202, test case 6.
+/// RFC 2202, section 3, and RFC 4231, section 4: test cases 1, 2 and 3; the longer key of RFC 2202,
+/// test case 6.
 #[test]
 fn published_digests(rt: HostRuntime) -> Result<(), Fail> {
     const SAMPLES: &[Sample] = &[

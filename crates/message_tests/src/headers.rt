@@ -168,7 +168,8 @@ fn other_fields_of_the_sample(rt: HostRuntime) -> Result<(), Fail> {
     Ok(())
 }
 
-/// The length of an attribute counts its value alone; its padding has to be there too (RFC 8489, section 14).
+/// The length of an attribute counts its value alone; its padding has to be there too (RFC 8489,
+/// section 14).
 #[test]
 fn attributes_that_do_not_fit(rt: HostRuntime) -> Result<(), Fail> {
     const ATTRIBUTES: &[(&str, u16, &str)] = &[

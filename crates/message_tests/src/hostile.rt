@@ -1,7 +1,9 @@
-//! Messages that a hostile peer may send, with the answers of RFC 8489, sections 14.5 to 14.7 and 9.2.4.
+//! Messages that a hostile peer may send, with the answers of RFC 8489, sections 14.5 to 14.7 and
+//! 9.2.4.
 //!
 //! After MESSAGE-INTEGRITY only MESSAGE-INTEGRITY-SHA256 and FINGERPRINT count, after that only
-//! FINGERPRINT, and after FINGERPRINT nothing. Of two integrity attributes that count the stronger decides.
+//! FINGERPRINT, and after FINGERPRINT nothing. Of two integrity attributes that count the stronger
+//! decides.
 use std::alloc::Global;
 use std::process::Abort;
 use std::test::Fail;
@@ -28,7 +30,8 @@ const MISSING: Verdict = Err(ValidateError::Parse(StunParseError::MissingAttribu
     AttributeType::MESSAGE_INTEGRITY,
 )));
 
-/// A name, the pieces of the attributes as digits spell them, how many attributes count, and the verdict.
+/// A name, the pieces of the attributes as digits spell them, how many attributes count, and the
+/// verdict.
 type Case = (&'static str, &'static [&'static str], usize, Verdict);
 
 /// Reads the request of these attributes, and compares how many count, and the verdict.
@@ -69,7 +72,8 @@ fn expect_verdicts(rt: &impl Abort, alloc: Global, cases: &[Case]) -> Result<(),
     Ok(())
 }
 
-fn joined(alloc: Global, digits: &[&str]) -> Result<Vec<u8>, Fail> {
+/// The bytes that digits spell in pieces.
+pub fn joined(alloc: Global, digits: &[&str]) -> Result<Vec<u8>, Fail> {
     let mut bytes = Vec::new(alloc);
     for piece in digits {
         bytes.extend_from_slice(&bytes_of(alloc, piece)?)?;
@@ -379,7 +383,8 @@ fn zeros(alloc: Global, kind: AttributeType, length: u16, behind: &[u8]) -> Resu
     Ok(attributes)
 }
 
-/// An integrity attribute of zeros is compared if it has one of these lengths, alone and before FINGERPRINT.
+/// An integrity attribute of zeros is compared if it has one of these lengths, alone and before
+/// FINGERPRINT.
 fn expect_length(
     rt: &impl Abort,
     alloc: Global,

@@ -1,4 +1,5 @@
 //! The samples of RFC 5769, sections 2.1 to 2.4, and of RFC 8489, appendix B.1.
+use crate::hostile::joined;
 use std::alloc::Global;
 use std::process::Abort;
 use std::test::Fail;
@@ -60,11 +61,15 @@ fn expect_read(rt: &impl Abort, alloc: Global, sample: Sample) -> Result<(), Fai
         attributes_of(alloc, &message)?.as_slice(),
         sample.attributes
     );
+    expect_header(rt, &message, sample);
+    assert_eq!(rt; message.as_bytes(), bytes.as_slice());
+    Ok(())
+}
+
+fn expect_header(rt: &impl Abort, message: &Message<'_>, sample: Sample) {
     assert_eq!(rt; message.class(), sample.class);
     assert_eq!(rt; message.method().value(), 1);
     assert_eq!(rt; message.transaction_id().as_u128(), sample.transaction_id);
-    assert_eq!(rt; message.as_bytes(), bytes.as_slice());
-    Ok(())
 }
 
 /// Place, type and length of each visible attribute.
@@ -192,53 +197,69 @@ fn judges_the_short_term_samples(rt: HostRuntime) -> Result<(), Fail> {
     Ok(())
 }
 
+/// Checks that a message, spelled in pieces, stands under a key.
+fn expect_standing(
+    rt: &impl Abort,
+    alloc: Global,
+    key: &str,
+    pieces: &[&str],
+    algorithm: IntegrityAlgorithm,
+) -> Result<(), Fail> {
+    let key = bytes_of(alloc, key)?;
+    let message = joined(alloc, pieces)?;
+    assert_eq!(rt; verdict_of(alloc, &key, &message)?, Ok(algorithm));
+    Ok(())
+}
+
 /// The key is the MD5 digest of name, realm and password, computed by Python's module `hashlib`.
 #[test]
 fn judges_the_long_term_sample(rt: HostRuntime) -> Result<(), Fail> {
-    let key = bytes_of(rt.alloc(), "e8ca7ad59d5eb0518e312911d2dab2a9")?;
-    let message = bytes_of(rt.alloc(), LONG_TERM_REQUEST)?;
-    let verdict = verdict_of(rt.alloc(), &key, &message)?;
-    assert_eq!(rt; verdict, Ok(IntegrityAlgorithm::Sha1));
-    Ok(())
+    const KEY: &str = "e8ca7ad59d5eb0518e312911d2dab2a9";
+    const PIECES: &[&str] = &[LONG_TERM_REQUEST];
+    expect_standing(&rt, rt.alloc(), KEY, PIECES, IntegrityAlgorithm::Sha1)
 }
 
 /// USERHASH, NONCE and REALM of RFC 8489, appendix B.1.
 const APPENDIX_ATTRIBUTES: &str =
     "001e0020 4a3cf38f ef6992bd a952c678 0417da0f 24819415 569e60b2 05c46e41 407f1704
-    00150029 6f624d61 744a6f73 32414141 43662f2f 3439396b 39353464 364f4c33 346f4c39 46535476 79363473 41000000
+    00150029 6f624d61 744a6f73 32414141 43662f2f 3439396b 39353464 364f4c33 346f4c39 46535476
+    79363473 41000000
     0014000b 6578616d 706c652e 6f726700";
 
 /// The SHA-256 key of appendix B.1, computed by Python's module `hashlib`.
 const APPENDIX_KEY: &str = "dd295a613b9058c3c23d6dc7165bda072304d989c9d0af3a8c7e184b4f9bb4a1";
 
-/// The published digest covers a header with length 0x009c, which is not that of the printed message.
+/// The published digest covers a header with length 0x009c, which is not that of the printed
+/// message.
 #[test]
 fn digests_the_appendix(rt: HostRuntime) -> Result<(), Fail> {
+    const DIGEST: &str = "e4686c8f0edeb59013e07090010a93efccbccc544c0a45d9f830aa6d6f735a01";
     let key = bytes_of(rt.alloc(), APPENDIX_KEY)?;
     let header = bytes_of(rt.alloc(), "0001009c 2112a442 78ad3433c6ad72c029da412e")?;
     let attributes = bytes_of(rt.alloc(), APPENDIX_ATTRIBUTES)?;
-    let digest = bytes_of(
-        rt.alloc(),
-        "e4686c8f0edeb59013e07090010a93efccbccc544c0a45d9f830aa6d6f735a01",
-    )?;
-    assert_eq!(rt;
-        hmac_sha256(&key, &[&header, &attributes]).as_slice(),
-        digest.as_slice()
-    );
+    let digest = hmac_sha256(&key, &[&header, &attributes]);
+    expect_spelled(&rt, rt.alloc(), &digest, DIGEST)
+}
+
+fn expect_spelled(rt: &impl Abort, alloc: Global, bytes: &[u8], digits: &str) -> Result<(), Fail> {
+    let expected = bytes_of(alloc, digits)?;
+    assert_eq!(rt; bytes, expected.as_slice());
     Ok(())
 }
 
 /// The printed message with the digest of its own length.
 #[test]
 fn judges_the_appendix(rt: HostRuntime) -> Result<(), Fail> {
-    const DIGEST: &str =
-        "001c0020 234112fbd4e27f983eb4032836f998216f5b23f8d927753fbc4f882bfbdf0dec";
-    let key = bytes_of(rt.alloc(), APPENDIX_KEY)?;
-    let mut message = bytes_of(rt.alloc(), "00010088 2112a442 78ad3433c6ad72c029da412e")?;
-    for digits in [APPENDIX_ATTRIBUTES, DIGEST] {
-        message.extend_from_slice(&bytes_of(rt.alloc(), digits)?)?;
-    }
-    let verdict = verdict_of(rt.alloc(), &key, &message)?;
-    assert_eq!(rt; verdict, Ok(IntegrityAlgorithm::Sha256));
-    Ok(())
+    const PIECES: &[&str] = &[
+        "00010088 2112a442 78ad3433c6ad72c029da412e",
+        APPENDIX_ATTRIBUTES,
+        "001c0020 234112fbd4e27f983eb4032836f998216f5b23f8d927753fbc4f882bfbdf0dec",
+    ];
+    expect_standing(
+        &rt,
+        rt.alloc(),
+        APPENDIX_KEY,
+        PIECES,
+        IntegrityAlgorithm::Sha256,
+    )
 }

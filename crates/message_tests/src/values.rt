@@ -1,4 +1,5 @@
-//! Ids, moments, texts and credentials: what is made of them, what they are equal by, and that `Debug` shows no secret.
+//! Ids, moments, texts and credentials: what is made of them, what they are equal by, and that
+//! `Debug` shows no secret.
 use crate::rfc5769::{PASSWORD, REQUEST};
 use crate::secrets::{Holder, Texts, long_term_of_message, shown_of};
 use std::alloc::Global;
@@ -117,8 +118,8 @@ fn expect_shown(
     texts: Texts,
     expected: &str,
 ) -> Result<(), Fail> {
-    let [plain, ..] = shown_of(alloc, holder, texts)?;
-    assert_eq!(rt; plain.as_str(), expected);
+    let shown = shown_of(alloc, holder, texts)?;
+    assert_eq!(rt; shown[0].as_str(), expected);
     Ok(())
 }
 

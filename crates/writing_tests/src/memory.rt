@@ -56,7 +56,8 @@ enum Addition {
     SignedUnchecked,
 }
 
-/// Refuses each request of a call: it fails then and changes nothing, and without a refusal it succeeds.
+/// Refuses each request of a call: it fails then and changes nothing, and without a refusal it
+/// succeeds.
 fn refuse_each(rt: &impl Abort, alloc: Global, call: Call) -> Result<(), Fail> {
     let heap = RefusingAllocator::new(alloc);
     heap.each_refusal(|nth| refuse(rt, &heap, nth, call))
@@ -204,7 +205,8 @@ fn write(
     Ok(is_whole(rt, heap, answer, writer.data(), length))
 }
 
-/// Want of memory leaves the header alone; without a refusal the message has so many bytes. Tells whether none was met.
+/// Want of memory leaves the header alone; without a refusal the message has so many bytes. Tells
+/// whether none was met.
 fn is_whole(
     rt: &impl Abort,
     heap: &Heap,
@@ -497,7 +499,8 @@ fn expect_valid<A: Allocator>(
     Ok(())
 }
 
-/// A new writer takes none, and writing and signing into a slice takes none, whatever the credentials, nor does validation.
+/// A new writer takes none, and writing and signing into a slice takes none, whatever the
+/// credentials, nor does validation.
 #[test]
 fn a_slice(rt: HostRuntime) -> Result<(), Fail> {
     let heap = RefusingAllocator::new(rt.alloc());
@@ -522,7 +525,8 @@ fn long_password<A: Allocator + Copy>(
     Ok(MessageIntegrityCredentials::from(ShortTermCredentials::new(password)))
 }
 
-/// A password of 100 bytes is no key of its own: it is hashed in its place. The digest is that of Python's `hmac`.
+/// A password of 100 bytes is no key of its own: it is hashed in its place. The digest is that of
+/// Python's `hmac`.
 #[test]
 fn a_long_password(rt: HostRuntime) -> Result<(), Fail> {
     const SIGNED: &str = "00010020 2112a442 000000000000000000000001 00060003 613a6200

@@ -1,4 +1,4 @@
-//! Messages that tests write step by step: where to, what is done, and what must be answered and seen.
+//! Messages that tests write step by step: where to, what is done, what is answered and seen.
 ghost use Rattle.std.specs.Prelude.{◌≡◌, []};
 
 use std::alloc::Global;

@@ -50,7 +50,24 @@ const SIGNED_BY_SHA256: Step = Step::Spelled(
 #[test]
 fn writes_a_request(rt: HostRuntime) -> Result<(), Fail> {
     const STEPS: &[Step] = &[NAME, SECOND_NAME, Step::Bytes(&REQUEST)];
-    play_in_each_writer(&rt, rt.alloc(), STEPS)
+    const SCRIPTS: &[Script] = &[
+        Script {
+            writer: Writer::Vector,
+            begin: BINDING_REQUEST,
+            steps: STEPS,
+        },
+        Script {
+            writer: Writer::Slice(40),
+            begin: BINDING_REQUEST,
+            steps: STEPS,
+        },
+        Script {
+            writer: Writer::Array,
+            begin: BINDING_REQUEST,
+            steps: STEPS,
+        },
+    ];
+    play(&rt, rt.alloc(), SCRIPTS)
 }
 
 #[test]

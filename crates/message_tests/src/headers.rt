@@ -26,7 +26,7 @@ fn expect_refusals(rt: &impl Abort, name: &str, bytes: &[u8], refusals: Refusals
 
 #[test]
 fn headers(rt: HostRuntime) -> Result<(), Fail> {
-    for (name, digits, refusals) in [
+    const CASES: &[(&str, &str, Refusals)] = &[
         ("nothing", "", (TRUNCATED, TRUNCATED)),
         (
             "19 bytes",
@@ -93,9 +93,9 @@ fn headers(rt: HostRuntime) -> Result<(), Fail> {
             "40010000 2112a442 00000000 00000000 00000000",
             (NOT_STUN, NOT_STUN),
         ),
-    ] {
-        let bytes = bytes_of(rt.alloc(), digits)?;
-        expect_refusals(&rt, name, bytes.as_slice(), refusals);
+    ];
+    for (name, digits, refusals) in CASES {
+        expect_refusals(&rt, name, &bytes_of(rt.alloc(), digits)?, *refusals);
     }
     Ok(())
 }
@@ -132,7 +132,7 @@ fn changed_sample(rt: &impl Abort, alloc: Global, place: usize, byte: u8) -> Res
 /// The sample states 88 bytes.
 #[test]
 fn other_lengths_of_the_sample(rt: HostRuntime) -> Result<(), Fail> {
-    for (length, refusals) in [
+    const LENGTHS: &[(u8, Refusals)] = &[
         (84, (None, TOO_LARGE)),
         (85, (NOT_STUN, NOT_STUN)),
         (86, (NOT_STUN, NOT_STUN)),
@@ -142,16 +142,17 @@ fn other_lengths_of_the_sample(rt: HostRuntime) -> Result<(), Fail> {
         (90, (NOT_STUN, NOT_STUN)),
         (91, (NOT_STUN, NOT_STUN)),
         (92, (None, TRUNCATED)),
-    ] {
-        let bytes = changed_sample(&rt, rt.alloc(), 3, length)?;
-        expect_refusals(&rt, "another length", bytes.as_slice(), refusals);
+    ];
+    for (length, refusals) in LENGTHS {
+        let bytes = changed_sample(&rt, rt.alloc(), 3, *length)?;
+        expect_refusals(&rt, "another length", &bytes, *refusals);
     }
     Ok(())
 }
 
 #[test]
 fn other_fields_of_the_sample(rt: HostRuntime) -> Result<(), Fail> {
-    for (place, byte) in [
+    const CHANGES: &[(usize, u8)] = &[
         (0, 0x40),
         (0, 0x80),
         (0, 0xc0),
@@ -159,17 +160,19 @@ fn other_fields_of_the_sample(rt: HostRuntime) -> Result<(), Fail> {
         (5, 0x13),
         (6, 0x00),
         (7, 0x43),
-    ] {
-        let bytes = changed_sample(&rt, rt.alloc(), place, byte)?;
-        expect_refusals(&rt, "another field", bytes.as_slice(), (NOT_STUN, NOT_STUN));
+    ];
+    for (place, byte) in CHANGES {
+        let bytes = changed_sample(&rt, rt.alloc(), *place, *byte)?;
+        expect_refusals(&rt, "another field", &bytes, (NOT_STUN, NOT_STUN));
     }
     Ok(())
 }
 
-/// The length of an attribute counts its value alone; its padding has to be there too (RFC 8489, section 14).
+/// The length of an attribute counts its value alone; its padding has to be there too (RFC 8489,
+/// section 14).
 #[test]
 fn attributes_that_do_not_fit(rt: HostRuntime) -> Result<(), Fail> {
-    for (name, stated, digits) in [
+    const ATTRIBUTES: &[(&str, u16, &str)] = &[
         ("length 65535", 4, "0006ffff"),
         ("length 65533", 8, "0006fffd 61626364"),
         ("a header alone", 4, "00080014"),
@@ -178,9 +181,10 @@ fn attributes_that_do_not_fit(rt: HostRuntime) -> Result<(), Fail> {
         ("two padding bytes missing", 12, "00060005 6162636465 00"),
         ("one padding byte missing", 12, "00060005 6162636465 0000"),
         ("the second attribute", 12, "00060000 00060005 61626364"),
-    ] {
-        let bytes = request_of(rt.alloc(), stated, digits)?;
-        expect_refusals(&rt, name, bytes.as_slice(), (None, TRUNCATED));
+    ];
+    for (name, stated, digits) in ATTRIBUTES {
+        let bytes = request_of(rt.alloc(), *stated, digits)?;
+        expect_refusals(&rt, name, &bytes, (None, TRUNCATED));
     }
     Ok(())
 }

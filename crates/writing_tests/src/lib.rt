@@ -4,4 +4,6 @@
 #[cfg(test)]
 mod memory;
 #[cfg(test)]
+mod steps;
+#[cfg(test)]
 mod writing;

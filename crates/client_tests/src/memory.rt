@@ -1,6 +1,6 @@
 //! Each allocation that a client asks for refused in turn: it is then as before, and the call
 //! succeeds when it is made again.
-use crate::steps::{Begin, SIGNS_NOTHING, Step, client, play_on};
+use crate::steps::{SIGNS_NOTHING, Step, play_on};
 use fail_alloc::RefusingAllocator;
 use std::alloc::{AllocError, Global};
 use std::process::Abort;
@@ -13,7 +13,8 @@ use stun_types::message::{
 };
 use stun_types::prelude::*;
 use test_support::client::{
-    Answer, FAILED, OUT_OF_MEMORY, RESEND, SHA1, UNAUTHORIZED, UNSUPPORTED, signed_by, told,
+    Answer, FAILED, OUT_OF_MEMORY, RESEND, SHA1, UNAUTHORIZED, UNSUPPORTED, sha1_client, signed_by,
+    told,
 };
 use test_support::parts::{HASHED_NONCE, MD5_KEY, PLAIN_NONCE, Part, begin, message};
 
@@ -45,6 +46,8 @@ const RENEWED_REQUEST: &str =
 /// The challenge is taken up.
 const CHALLENGED: Step = Step::Error(&CHALLENGE, RESEND);
 
+const NO_MEMORY: Result<usize, StunWriteError> = Err(StunWriteError::OutOfMemory);
+
 /// A call of a client while an allocation is refused.
 #[derive(Clone, Copy)]
 enum Call {
@@ -66,71 +69,94 @@ struct Script {
     after: &'static [Step],
 }
 
-/// Checks the answer to an error while the nth allocation is refused: want of memory, unless there
-/// is no such allocation. Says whether there is none.
-fn expect_told<'a>(
+/// Makes a call while the nth allocation is refused, and checks what it gives: want of memory,
+/// unless there is no such allocation. Says whether there is none.
+fn make_call<'a>(
     rt: &impl Abort,
     (alloc, heap): (Global, &'a Heap),
     client: &mut LongTermClientAuth<&'a Heap>,
-    (parts, expected): (&[Part<'_>], Answer),
+    call: Call,
     nth: u64,
 ) -> Result<bool, Fail> {
-    let bytes = message(alloc, MessageClass::Error, parts)?;
+    match call {
+        Call::Error(parts, expected) => {
+            let bytes = message(alloc, MessageClass::Error, parts)?;
+            expect_told(rt, heap, client, bytes.as_slice(), (nth, expected))
+        }
+        Call::Request(length) => expect_signed(rt, heap, client, (nth, length)),
+    }
+}
+
+fn expect_told<'a>(
+    rt: &impl Abort,
+    heap: &'a Heap,
+    client: &mut LongTermClientAuth<&'a Heap>,
+    bytes: &[u8],
+    (nth, expected): (u64, Answer),
+) -> Result<bool, Fail> {
     heap.refuse(nth);
-    let answer = told(client, bytes.as_slice())?;
+    let answer = told(client, bytes)?;
     let is_last = heap.met_none();
-    let expected = if is_last { expected } else { OUT_OF_MEMORY };
-    assert_eq!(rt; answer, expected);
+    assert_eq!(rt; answer, if is_last { expected } else { OUT_OF_MEMORY });
     Ok(is_last)
 }
 
-/// The same of the request that a client signs, and its length.
 fn expect_signed<'a>(
     rt: &impl Abort,
     heap: &'a Heap,
     client: &mut LongTermClientAuth<&'a Heap>,
-    length: usize,
-    nth: u64,
+    (nth, length): (u64, usize),
 ) -> Result<bool, Fail> {
-    let writer = begin(MessageClass::Request, MessageWriteVec::new(heap))?;
-    heap.refuse(nth);
-    let answer = signed_by(client, writer).map(|signed| signed.data().len());
+    let answer = signed_length(heap, client, nth)?;
     let is_last = heap.met_none();
-    let expected = if is_last {
-        Ok(length)
-    } else {
-        Err(StunWriteError::OutOfMemory)
-    };
-    assert_eq!(rt; answer, expected);
+    assert_eq!(rt; answer, if is_last { Ok(length) } else { NO_MEMORY });
     Ok(is_last)
 }
 
-/// Plays a script while the nth allocation of its call is refused, and says whether there is none.
-fn play_short(
+/// The length of a request that a client signs while the nth allocation is refused.
+fn signed_length<'a>(
+    heap: &'a Heap,
+    client: &mut LongTermClientAuth<&'a Heap>,
+    nth: u64,
+) -> Result<Result<usize, StunWriteError>, Fail> {
+    let writer = begin(MessageClass::Request, MessageWriteVec::new(heap))?;
+    heap.refuse(nth);
+    Ok(signed_by(client, writer).map(|signed| signed.data().len()))
+}
+
+/// Plays a script at a client while the nth allocation of its call is refused, and says whether
+/// there is none.
+fn play_script<'a>(
+    rt: &impl Abort,
+    (alloc, heap): (Global, &'a Heap),
+    client: &mut LongTermClientAuth<&'a Heap>,
+    script: Script,
+    nth: u64,
+) -> Result<bool, Fail> {
+    play_on(rt, alloc, client, script.before)?;
+    let is_last = make_call(rt, (alloc, heap), client, script.call, nth)?;
+    if !is_last {
+        play_on(rt, alloc, client, script.refused)?;
+    }
+    play_on(rt, alloc, client, script.after)?;
+    Ok(is_last)
+}
+
+/// Plays a script at a client of its own.
+fn play_nth(
     rt: &impl Abort,
     (alloc, heap): (Global, &Heap),
     script: Script,
     nth: u64,
 ) -> Result<bool, Fail> {
-    let mut client = client(heap, Begin::Sha1(Feature::Auto))?;
-    play_on(rt, alloc, &mut client, script.before)?;
-    let is_last = match script.call {
-        Call::Error(parts, expected) => {
-            expect_told(rt, (alloc, heap), &mut client, (parts, expected), nth)?
-        }
-        Call::Request(length) => expect_signed(rt, heap, &mut client, length, nth)?,
-    };
-    if !is_last {
-        play_on(rt, alloc, &mut client, script.refused)?;
-    }
-    play_on(rt, alloc, &mut client, script.after)?;
-    Ok(is_last)
+    let mut client = sha1_client(heap, Feature::Auto)?;
+    play_script(rt, (alloc, heap), &mut client, script, nth)
 }
 
 /// Plays a script for each allocation of its call.
 fn play_each(rt: &impl Abort, alloc: Global, script: Script) -> Result<(), Fail> {
     let heap = RefusingAllocator::new(alloc);
-    heap.each_refusal(|nth| play_short(rt, (alloc, &heap), script, nth))
+    heap.each_refusal(|nth| play_nth(rt, (alloc, &heap), script, nth))
 }
 
 #[test]
@@ -167,16 +193,16 @@ fn a_request_is_signed_or_not(rt: HostRuntime) -> Result<(), Fail> {
 }
 
 /// Plays steps, and then others that are to leave as many blocks at the heap as there were.
-fn play_keeping_live(
+fn play_keeping_live<'a>(
     rt: &impl Abort,
-    (alloc, heap): (Global, &Heap),
+    (alloc, heap): (Global, &'a Heap),
+    client: &mut LongTermClientAuth<&'a Heap>,
     before: &[Step],
     steps: &[Step],
 ) -> Result<(), Fail> {
-    let mut client = client(heap, Begin::Sha1(Feature::Auto))?;
-    play_on(rt, alloc, &mut client, before)?;
+    play_on(rt, alloc, client, before)?;
     let live = heap.live();
-    play_on(rt, alloc, &mut client, steps)?;
+    play_on(rt, alloc, client, steps)?;
     assert_eq!(rt; heap.live(), live);
     Ok(())
 }
@@ -187,20 +213,21 @@ fn an_old_nonce_is_given_back(rt: HostRuntime) -> Result<(), Fail> {
     const KNOWN: &[Step] = &[CHALLENGED, Step::Success(&[Part::Sha1(&MD5_KEY)], SHA1)];
     const RENEWED: &[Step] = &[Step::Error(&STALE, RESEND)];
     let heap = RefusingAllocator::new(rt.alloc());
-    play_keeping_live(&rt, (rt.alloc(), &heap), KNOWN, RENEWED)
+    let mut client = sha1_client(&heap, Feature::Auto)?;
+    play_keeping_live(&rt, (rt.alloc(), &heap), &mut client, KNOWN, RENEWED)
 }
 
 /// Plays steps, and then others that are to ask for no memory.
-fn play_without_memory(
+fn play_without_memory<'a>(
     rt: &impl Abort,
-    (alloc, heap): (Global, &Heap),
+    (alloc, heap): (Global, &'a Heap),
+    client: &mut LongTermClientAuth<&'a Heap>,
     before: &[Step],
     steps: &[Step],
 ) -> Result<(), Fail> {
-    let mut client = client(heap, Begin::Sha1(Feature::Auto))?;
-    play_on(rt, alloc, &mut client, before)?;
+    play_on(rt, alloc, client, before)?;
     heap.refuse(1);
-    play_on(rt, alloc, &mut client, steps)?;
+    play_on(rt, alloc, client, steps)?;
     assert!(rt; heap.is_waiting());
     Ok(())
 }
@@ -208,6 +235,7 @@ fn play_without_memory(
 /// Verdicts and refusals do not allocate.
 #[test]
 fn verdicts_take_no_memory(rt: HostRuntime) -> Result<(), Fail> {
+    const BEFORE: &[Step] = &[CHALLENGED];
     const STEPS: &[Step] = &[
         Step::Error(&CHALLENGE, UNAUTHORIZED),
         Step::Error(
@@ -223,14 +251,17 @@ fn verdicts_take_no_memory(rt: HostRuntime) -> Result<(), Fail> {
         Step::Error(&[Part::Code(400), Part::Sha1(&MD5_KEY)], SHA1),
     ];
     let heap = RefusingAllocator::new(rt.alloc());
-    play_without_memory(&rt, (rt.alloc(), &heap), &[CHALLENGED], STEPS)
+    let mut client = sha1_client(&heap, Feature::Auto)?;
+    play_without_memory(&rt, (rt.alloc(), &heap), &mut client, BEFORE, STEPS)
 }
 
 #[test]
 fn a_slice_takes_no_memory(rt: HostRuntime) -> Result<(), Fail> {
+    const BEFORE: &[Step] = &[CHALLENGED];
     const STEPS: &[Step] = &[Step::RequestInSlice(100, Ok(REQUEST))];
     let heap = RefusingAllocator::new(rt.alloc());
-    play_without_memory(&rt, (rt.alloc(), &heap), &[CHALLENGED], STEPS)
+    let mut client = sha1_client(&heap, Feature::Auto)?;
+    play_without_memory(&rt, (rt.alloc(), &heap), &mut client, BEFORE, STEPS)
 }
 
 /// A new client and its settings ask for no memory.

@@ -192,44 +192,80 @@ fn a_request_is_signed_or_not(rt: HostRuntime) -> Result<(), Fail> {
     play_each(&rt, rt.alloc(), SCRIPT)
 }
 
-/// Plays steps, and then others that are to leave as many blocks at the heap as there were.
+/// What must hold of the heap while a part of the steps is played.
+#[derive(Clone, Copy)]
+enum Bound {
+    /// As many blocks are live in the end as before.
+    SameLive,
+    /// Nothing is asked for.
+    NoMemory,
+}
+
 fn play_keeping_live<'a>(
     rt: &impl Abort,
     (alloc, heap): (Global, &'a Heap),
     client: &mut LongTermClientAuth<&'a Heap>,
-    before: &[Step],
     steps: &[Step],
 ) -> Result<(), Fail> {
-    play_on(rt, alloc, client, before)?;
     let live = heap.live();
     play_on(rt, alloc, client, steps)?;
     assert_eq!(rt; heap.live(), live);
     Ok(())
 }
 
-/// A client that knows its server gives back the realm and the nonce that a stale nonce replaces.
-#[test]
-fn an_old_nonce_is_given_back(rt: HostRuntime) -> Result<(), Fail> {
-    const KNOWN: &[Step] = &[CHALLENGED, Step::Success(&[Part::Sha1(&MD5_KEY)], SHA1)];
-    const RENEWED: &[Step] = &[Step::Error(&STALE, RESEND)];
-    let heap = RefusingAllocator::new(rt.alloc());
-    let mut client = sha1_client(&heap, Feature::Auto)?;
-    play_keeping_live(&rt, (rt.alloc(), &heap), &mut client, KNOWN, RENEWED)
-}
-
-/// Plays steps, and then others that are to ask for no memory.
 fn play_without_memory<'a>(
     rt: &impl Abort,
     (alloc, heap): (Global, &'a Heap),
     client: &mut LongTermClientAuth<&'a Heap>,
-    before: &[Step],
     steps: &[Step],
 ) -> Result<(), Fail> {
-    play_on(rt, alloc, client, before)?;
     heap.refuse(1);
     play_on(rt, alloc, client, steps)?;
     assert!(rt; heap.is_waiting());
     Ok(())
+}
+
+fn play_at<'a>(
+    rt: &impl Abort,
+    (alloc, heap): (Global, &'a Heap),
+    client: &mut LongTermClientAuth<&'a Heap>,
+    before: &[Step],
+    (bound, steps): (Bound, &[Step]),
+) -> Result<(), Fail> {
+    play_on(rt, alloc, client, before)?;
+    match bound {
+        Bound::SameLive => play_keeping_live(rt, (alloc, heap), client, steps),
+        Bound::NoMemory => play_without_memory(rt, (alloc, heap), client, steps),
+    }
+}
+
+fn play_at_heap(
+    rt: &impl Abort,
+    (alloc, heap): (Global, &Heap),
+    before: &[Step],
+    bounded: (Bound, &[Step]),
+) -> Result<(), Fail> {
+    let mut client = sha1_client(heap, Feature::Auto)?;
+    play_at(rt, (alloc, heap), &mut client, before, bounded)
+}
+
+/// Plays steps at a client with HMAC-SHA1 alone, and then others within a bound.
+fn play_within(
+    rt: &impl Abort,
+    alloc: Global,
+    before: &[Step],
+    bounded: (Bound, &[Step]),
+) -> Result<(), Fail> {
+    let heap = RefusingAllocator::new(alloc);
+    play_at_heap(rt, (alloc, &heap), before, bounded)
+}
+
+/// A client that knows its server gives back the realm and the nonce that a stale nonce replaces.
+#[test]
+fn an_old_nonce_is_given_back(rt: HostRuntime) -> Result<(), Fail> {
+    const KNOWN: &[Step] = &[CHALLENGED, Step::Success(&[Part::Sha1(&MD5_KEY)], SHA1)];
+    const STEPS: &[Step] = &[Step::Error(&STALE, RESEND)];
+    play_within(&rt, rt.alloc(), KNOWN, (Bound::SameLive, STEPS))
 }
 
 /// Verdicts and refusals do not allocate.
@@ -250,18 +286,22 @@ fn verdicts_take_no_memory(rt: HostRuntime) -> Result<(), Fail> {
         Step::Error(&[Part::Code(438)], FAILED),
         Step::Error(&[Part::Code(400), Part::Sha1(&MD5_KEY)], SHA1),
     ];
-    let heap = RefusingAllocator::new(rt.alloc());
-    let mut client = sha1_client(&heap, Feature::Auto)?;
-    play_without_memory(&rt, (rt.alloc(), &heap), &mut client, BEFORE, STEPS)
+    play_within(&rt, rt.alloc(), BEFORE, (Bound::NoMemory, STEPS))
 }
 
 #[test]
 fn a_slice_takes_no_memory(rt: HostRuntime) -> Result<(), Fail> {
     const BEFORE: &[Step] = &[CHALLENGED];
     const STEPS: &[Step] = &[Step::RequestInSlice(100, Ok(REQUEST))];
-    let heap = RefusingAllocator::new(rt.alloc());
-    let mut client = sha1_client(&heap, Feature::Auto)?;
-    play_without_memory(&rt, (rt.alloc(), &heap), &mut client, BEFORE, STEPS)
+    play_within(&rt, rt.alloc(), BEFORE, (Bound::NoMemory, STEPS))
+}
+
+/// Makes a client at a heap, and changes each setting but the credentials.
+fn make_client(heap: &Heap) {
+    let mut client = LongTermClientAuth::new(heap);
+    client.set_anonymous_username(Feature::Required);
+    client.set_supported_integrity(IntegrityAlgorithm::Sha256);
+    client.add_supported_integrity(IntegrityAlgorithm::Sha1);
 }
 
 /// A new client and its settings ask for no memory.
@@ -269,16 +309,15 @@ fn a_slice_takes_no_memory(rt: HostRuntime) -> Result<(), Fail> {
 fn a_new_client_takes_no_memory(rt: HostRuntime) {
     let heap = RefusingAllocator::new(rt.alloc());
     heap.refuse(1);
-    let mut client = LongTermClientAuth::new(&heap);
-    client.set_anonymous_username(Feature::Required);
-    client.set_supported_integrity(IntegrityAlgorithm::Sha256);
-    client.add_supported_integrity(IntegrityAlgorithm::Sha1);
+    make_client(&heap);
     assert!(rt; heap.is_waiting());
     assert_eq!(rt; heap.allocations(), 0);
 }
 
-/// Changes each setting but the credentials.
-fn change_settings(client: &mut LongTermClientAuth<&Heap>) {
+/// Makes both authenticators at a heap, and changes the settings in another order.
+fn make_both(heap: &Heap) {
+    let _auth = ShortTermAuth::new(heap);
+    let mut client = LongTermClientAuth::new(heap);
     client.add_supported_integrity(IntegrityAlgorithm::Sha256);
     client.set_supported_integrity(IntegrityAlgorithm::Sha1);
     client.set_anonymous_username(Feature::Required);
@@ -288,9 +327,7 @@ fn change_settings(client: &mut LongTermClientAuth<&Heap>) {
 fn settings_take_no_memory(rt: HostRuntime) {
     let heap = RefusingAllocator::new(rt.alloc());
     heap.refuse(1);
-    let _auth = ShortTermAuth::new(&heap);
-    let mut client = LongTermClientAuth::new(&heap);
-    change_settings(&mut client);
+    make_both(&heap);
     assert!(rt; heap.is_waiting());
 }
 

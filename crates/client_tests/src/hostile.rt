@@ -1,14 +1,10 @@
 //! Malformed and forged messages at a client (RFC 8489, section 9.2.5), spelled byte by byte.
 //!
 //! The digests are those of Python's module `hmac`.
-use crate::expect::expect_request;
-use crate::messages::{PLAIN_REQUEST, asked_client, known_client};
-use std::alloc::Global;
-use std::process::Abort;
+use crate::steps::{Begin, CHALLENGED, CONFIRMED, SIGNS, Step, play};
 use std::test::Fail;
-use stun_auth::auth::LongTermClientAuth;
-use test_support::client::{Answer, FAILED, RESEND, SHA1, UNAUTHORIZED, told};
-use test_support::spelled::bytes_of;
+use stun_auth::auth::Feature;
+use test_support::client::{FAILED, RESEND, SHA1, UNAUTHORIZED};
 
 /// An unsigned 401 with the nonce `x` and the realm `evil`, and the request after it.
 const FORGED_CHALLENGE: &str = "01110024 2112a442 000000000000000000000001
@@ -23,7 +19,8 @@ const MALFORMED_REALM: &str = "0111002c 2112a442 000000000000000000000001
     00090010 00000401556e617574686f72697a6564 00150001 78000000 00140004 6576696c
     00140001 ff000000";
 
-/// An unsigned 438 with the nonce `x` and the realm `evil`, and the request after it, under the old key.
+/// An unsigned 438 with the nonce `x` and the realm `evil`, and the request after it, under the old
+/// key.
 const FORGED_STALE: &str = "01110024 2112a442 000000000000000000000001
     0009000f 000004265374616c65204e6f6e636500 00150001 78000000 00140004 6576696c";
 
@@ -45,63 +42,71 @@ const UNSIGNED_ERROR: &str = "01110014 2112a442 000000000000000000000001
 const SERVER_REQUEST: &str = "00010018 2112a442 000000000000000000000001
     00080014 2fb248a1cce57b7e091715e03511c20365a57160";
 
-/// Checks the answers to these messages, and the request after each.
-fn expect_each(
-    rt: &impl Abort,
-    alloc: Global,
-    client: &mut LongTermClientAuth,
-    messages: &[&str],
-    (expected, request): (Answer, &str),
-) -> Result<(), Fail> {
-    for digits in messages {
-        let bytes = bytes_of(alloc, digits)?;
-        let answer = told(client, bytes.as_slice())?;
-        assert_eq!(rt; answer, expected);
-        expect_request(rt, alloc, client, request)?;
-    }
-    Ok(())
-}
-
 /// Before a success confirms the key, a forged challenge takes the place of the server's.
 #[test]
 fn a_forged_challenge_misleads_a_client_that_asks(rt: HostRuntime) -> Result<(), Fail> {
-    let alloc = rt.alloc();
-    let mut client = asked_client(&rt, alloc)?;
-    let kept = (UNAUTHORIZED, PLAIN_REQUEST);
-    expect_each(&rt, alloc, &mut client, &[MALFORMED_REALM], kept)?;
-    let misled = (RESEND, MISLED_REQUEST);
-    expect_each(&rt, alloc, &mut client, &[FORGED_CHALLENGE], misled)
+    const STEPS: &[Step] = &[
+        CHALLENGED,
+        SIGNS,
+        Step::Bytes(MALFORMED_REALM, UNAUTHORIZED),
+        SIGNS,
+        Step::Bytes(FORGED_CHALLENGE, RESEND),
+        Step::Request(MISLED_REQUEST),
+    ];
+    play(&rt, rt.alloc(), Begin::Sha1(Feature::Auto), STEPS)
 }
 
 #[test]
 fn forged_messages_leave_a_known_client(rt: HostRuntime) -> Result<(), Fail> {
-    let mut client = known_client(&rt, rt.alloc())?;
-    let messages = [
-        FORGED_CHALLENGE,
-        MALFORMED_REALM,
-        STALE_WITHOUT_REALM,
-        UNSIGNED_SUCCESS,
-        UNSIGNED_ERROR,
+    const STEPS: &[Step] = &[
+        CHALLENGED,
+        SIGNS,
+        CONFIRMED,
+        Step::Bytes(FORGED_CHALLENGE, FAILED),
+        SIGNS,
+        Step::Bytes(MALFORMED_REALM, FAILED),
+        SIGNS,
+        Step::Bytes(STALE_WITHOUT_REALM, FAILED),
+        SIGNS,
+        Step::Bytes(UNSIGNED_SUCCESS, FAILED),
+        SIGNS,
+        Step::Bytes(UNSIGNED_ERROR, FAILED),
+        SIGNS,
     ];
-    let kept = (FAILED, PLAIN_REQUEST);
-    expect_each(&rt, rt.alloc(), &mut client, &messages, kept)
+    play(&rt, rt.alloc(), Begin::Sha1(Feature::Auto), STEPS)
 }
 
 /// A forged stale nonce is taken up, with its realm. The key stays.
 #[test]
 fn a_forged_nonce_is_taken_up(rt: HostRuntime) -> Result<(), Fail> {
-    let alloc = rt.alloc();
-    let renewed = (RESEND, RENEWED_REQUEST);
-    let mut client = asked_client(&rt, alloc)?;
-    expect_each(&rt, alloc, &mut client, &[FORGED_STALE], renewed)?;
-    let mut client = known_client(&rt, alloc)?;
-    expect_each(&rt, alloc, &mut client, &[FORGED_STALE], renewed)
+    const ASKING: &[Step] = &[
+        CHALLENGED,
+        SIGNS,
+        Step::Bytes(FORGED_STALE, RESEND),
+        Step::Request(RENEWED_REQUEST),
+    ];
+    const KNOWN: &[Step] = &[
+        CHALLENGED,
+        SIGNS,
+        CONFIRMED,
+        Step::Bytes(FORGED_STALE, RESEND),
+        Step::Request(RENEWED_REQUEST),
+    ];
+    for steps in [ASKING, KNOWN] {
+        play(&rt, rt.alloc(), Begin::Sha1(Feature::Auto), steps)?;
+    }
+    Ok(())
 }
 
 /// Reflection is not ruled out: what one side signs is validated at the other, whatever its class.
 #[test]
 fn a_signed_request_is_validated(rt: HostRuntime) -> Result<(), Fail> {
-    let mut client = known_client(&rt, rt.alloc())?;
-    let validated = (SHA1, PLAIN_REQUEST);
-    expect_each(&rt, rt.alloc(), &mut client, &[SERVER_REQUEST], validated)
+    const STEPS: &[Step] = &[
+        CHALLENGED,
+        SIGNS,
+        CONFIRMED,
+        Step::Bytes(SERVER_REQUEST, SHA1),
+        SIGNS,
+    ];
+    play(&rt, rt.alloc(), Begin::Sha1(Feature::Auto), STEPS)
 }

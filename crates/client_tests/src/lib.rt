@@ -15,3 +15,5 @@ mod messages;
 mod secrets;
 #[cfg(test)]
 mod signing;
+#[cfg(test)]
+mod steps;

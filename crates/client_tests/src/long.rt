@@ -1,11 +1,14 @@
 //! The longest realm and nonce, and a password that is longer than most, at a client.
 //!
 //! Key and digest are those of Python's modules `hashlib` and `hmac`.
-use crate::expect::{expect_error, expect_told};
+use crate::expect::{expect_added, expect_answer};
 use std::alloc::Global;
+use std::process::Abort;
 use std::test::Fail;
-use stun_auth::auth::{Feature, ShortTermAuth};
-use stun_types::message::{IntegrityAlgorithm, Message, MessageClass, ShortTermCredentials};
+use stun_auth::auth::{Feature, LongTermClientAuth, ShortTermAuth};
+use stun_types::message::{
+    IntegrityAlgorithm, Message, MessageClass, ShortTermCredentials, ValidateError,
+};
 use test_support::client::{RESEND, SHA1, sha1_client};
 use test_support::parts::Part;
 use test_support::spelled::bytes_of;
@@ -19,6 +22,8 @@ const LONG_REALM_KEY: [u8; 16] = [
 const SIGNED_BY_LONG_PASSWORD: &str = "00010020 2112a442 000000000000000000000001
     00060003 613a6200 00080014 70fcf8badc46191b237604c7c04755d1ba2004b7";
 
+type Verdict = Result<Option<IntegrityAlgorithm>, ValidateError>;
+
 /// A text of so many equal letters.
 fn letters(alloc: Global, letter: char, count: usize) -> Result<String, Fail> {
     let mut text = String::new(alloc);
@@ -28,51 +33,68 @@ fn letters(alloc: Global, letter: char, count: usize) -> Result<String, Fail> {
     Ok(text)
 }
 
-/// Realm and nonce as long as they may be, in a challenge and beside a stale nonce.
-#[test]
-fn a_long_realm_is_taken_up(rt: HostRuntime) -> Result<(), Fail> {
-    let alloc = rt.alloc();
-    let realm = letters(alloc, 'r', 763)?;
-    let nonce = letters(alloc, 'n', 763)?;
-    let mut client = sha1_client(alloc, Feature::Auto)?;
-    let challenge = [
-        Part::Code(401),
-        Part::Nonce(nonce.as_str()),
-        Part::Realm(realm.as_str()),
-    ];
-    expect_error(&rt, alloc, &mut client, &challenge, RESEND)?;
+/// Checks the answer to an error with a code, a nonce and a realm.
+fn expect_resend(
+    rt: &impl Abort,
+    alloc: Global,
+    number: usize,
+    client: &mut LongTermClientAuth,
+    code: u16,
+    (nonce, realm): (&str, &str),
+) -> Result<(), Fail> {
+    let parts = [Part::Code(code), Part::Nonce(nonce), Part::Realm(realm)];
+    expect_answer(
+        rt,
+        alloc,
+        number,
+        client,
+        (MessageClass::Error, &parts),
+        RESEND,
+    )
+}
+
+/// A challenge, a success and a stale nonce, with the next one.
+fn expect_taken_up(
+    rt: &impl Abort,
+    alloc: Global,
+    client: &mut LongTermClientAuth,
+    realm: &str,
+    (nonce, next): (&str, &str),
+) -> Result<(), Fail> {
+    expect_resend(rt, alloc, 0, client, 401, (nonce, realm))?;
     let success = (
         MessageClass::Success,
         [Part::Sha1(&LONG_REALM_KEY)].as_slice(),
     );
-    expect_told(&rt, alloc, &mut client, success, SHA1)?;
-    let next = letters(alloc, 'm', 763)?;
-    let stale = [
-        Part::Code(438),
-        Part::Nonce(next.as_str()),
-        Part::Realm(realm.as_str()),
-    ];
-    expect_error(&rt, alloc, &mut client, &stale, RESEND)?;
+    expect_answer(rt, alloc, 1, client, success, SHA1)?;
+    expect_resend(rt, alloc, 2, client, 438, (next, realm))?;
     // NONCE 768, REALM 768, USERNAME 8, MESSAGE-INTEGRITY 24.
-    assert_eq!(rt; client.message_signature_bytes(), 1568);
-    Ok(())
+    expect_added(rt, 3, client, 1568)
+}
+
+/// Realm and nonce as long as they may be, in a challenge and beside a stale nonce.
+#[test]
+fn a_long_realm_is_taken_up(rt: HostRuntime) -> Result<(), Fail> {
+    let realm = letters(rt.alloc(), 'r', 763)?;
+    let nonce = letters(rt.alloc(), 'n', 763)?;
+    let next = letters(rt.alloc(), 'm', 763)?;
+    let mut client = sha1_client(rt.alloc(), Feature::Auto)?;
+    let nonces = (nonce.as_str(), next.as_str());
+    expect_taken_up(&rt, rt.alloc(), &mut client, realm.as_str(), nonces)
+}
+
+/// What an authenticator of 100 letters `p` answers to bytes.
+fn verdict(alloc: Global, bytes: &[u8]) -> Result<Verdict, Fail> {
+    let mut auth = ShortTermAuth::new(alloc);
+    let credentials = ShortTermCredentials::new(letters(alloc, 'p', 100)?);
+    auth.set_credentials(credentials, IntegrityAlgorithm::Sha1)?;
+    Ok(auth.validate_incoming_message(&Message::from_bytes(bytes)?))
 }
 
 #[test]
 fn a_long_password_is_kept(rt: HostRuntime) -> Result<(), Fail> {
-    let alloc = rt.alloc();
-    let mut password = String::new(alloc);
-    for _ in 0..100 {
-        password.push('p')?;
-    }
-    let mut auth = ShortTermAuth::new(alloc);
-    auth.set_credentials(
-        ShortTermCredentials::new(password),
-        IntegrityAlgorithm::Sha1,
-    )?;
-    let bytes = bytes_of(alloc, SIGNED_BY_LONG_PASSWORD)?;
-    let message = Message::from_bytes(bytes.as_slice())?;
-    let answer = auth.validate_incoming_message(&message);
+    let bytes = bytes_of(rt.alloc(), SIGNED_BY_LONG_PASSWORD)?;
+    let answer = verdict(rt.alloc(), bytes.as_slice())?;
     assert_eq!(rt; answer, Ok(Some(IntegrityAlgorithm::Sha1)));
     Ok(())
 }

@@ -5,3 +5,5 @@
 mod nonces;
 #[cfg(test)]
 mod short_term;
+#[cfg(test)]
+mod steps;

@@ -73,18 +73,16 @@ fn expect_spelled(
 
 #[test]
 fn bits_are_spelled(rt: HostRuntime) -> Result<(), Fail> {
-    let alloc = rt.alloc();
-    expect_spelled(&rt, alloc, [0x80, 0, 0], "obMatJos2gAAA", (true, false))?;
-    expect_spelled(&rt, alloc, [0x40, 0, 0], "obMatJos2QAAA", (false, true))?;
-    expect_spelled(&rt, alloc, [0xc0, 0, 0], "obMatJos2wAAA", (true, true))?;
-    expect_spelled(
-        &rt,
-        alloc,
-        [0x3f, 0xff, 0xff],
-        "obMatJos2P///",
-        (false, false),
-    )?;
-    expect_spelled(&rt, alloc, [0, 0, 0], "obMatJos2AAAA", (false, false))
+    for (bytes, text, meaning) in [
+        ([0x80, 0, 0], "obMatJos2gAAA", (true, false)),
+        ([0x40, 0, 0], "obMatJos2QAAA", (false, true)),
+        ([0xc0, 0, 0], "obMatJos2wAAA", (true, true)),
+        ([0x3f, 0xff, 0xff], "obMatJos2P///", (false, false)),
+        ([0, 0, 0], "obMatJos2AAAA", (false, false)),
+    ] {
+        expect_spelled(&rt, rt.alloc(), bytes, text, meaning)?;
+    }
+    Ok(())
 }
 
 #[test]

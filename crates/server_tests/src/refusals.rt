@@ -99,20 +99,30 @@ fn sign_short<'a>(
     })
 }
 
-/// Makes a call while its nth allocation is refused, and says whether none was.
-fn attempt_short(
+fn call_short<'a>(
     rt: &impl Abort,
-    (alloc, heap): (Global, &Heap),
-    attempt: Attempt<'_>,
+    heap: &'a Heap,
+    stage: &mut Stage<&'a Heap>,
+    call: Call<'_>,
+    nth: u64,
+) -> Result<Outcome, Fail> {
+    match call {
+        Call::Request(parts, answer) => request_short(rt, heap, stage, (parts, answer), nth),
+        Call::AddUser(password) => add_short(rt, heap, stage, password, nth),
+        Call::Sign(length) => sign_short(rt, heap, stage, length, nth),
+    }
+}
+
+/// Plays an attempt whose nth allocation is refused, and says whether none was.
+fn play_attempt<'a>(
+    rt: &impl Abort,
+    heap: &'a Heap,
+    stage: &mut Stage<&'a Heap>,
+    attempt: &Attempt<'_>,
     nth: u64,
 ) -> Result<bool, Fail> {
-    let mut stage = Stage::new(alloc, heap);
     stage.play(attempt.before)?;
-    let outcome = match attempt.call {
-        Call::Request(parts, answer) => request_short(rt, heap, &mut stage, (parts, answer), nth)?,
-        Call::AddUser(password) => add_short(rt, heap, &mut stage, password, nth)?,
-        Call::Sign(length) => sign_short(rt, heap, &mut stage, length, nth)?,
-    };
+    let outcome = call_short(rt, heap, stage, attempt.call, nth)?;
     stage.play(if outcome.is_made {
         attempt.made
     } else {
@@ -122,16 +132,27 @@ fn attempt_short(
     Ok(outcome.is_last)
 }
 
-/// Makes a call while each of its allocations is refused in turn.
-fn refuse_each(rt: &impl Abort, alloc: Global, attempt: Attempt<'_>) -> Result<(), Fail> {
+/// The same at a new stage.
+fn begin_attempt(
+    rt: &impl Abort,
+    (alloc, heap): (Global, &Heap),
+    attempt: &Attempt<'_>,
+    nth: u64,
+) -> Result<bool, Fail> {
+    let mut stage = Stage::new(alloc, heap);
+    play_attempt(rt, heap, &mut stage, attempt, nth)
+}
+
+/// Plays an attempt again and again, each of its allocations refused in turn.
+fn refuse_each(rt: &impl Abort, alloc: Global, attempt: &Attempt<'_>) -> Result<(), Fail> {
     let heap = RefusingAllocator::new(alloc);
-    heap.each_refusal(|nth| attempt_short(rt, (alloc, &heap), attempt, nth))
+    heap.each_refusal(|nth| begin_attempt(rt, (alloc, &heap), attempt, nth))
 }
 
 /// An unsigned request to a new server: its nonce is made, or there is none.
 #[test]
 fn a_first_nonce_is_made_or_not(rt: HostRuntime) -> Result<(), Fail> {
-    const ATTEMPT: Attempt<'static> = Attempt {
+    const ATTEMPT: &Attempt<'static> = &Attempt {
         before: &[Step::Begin(Begin::Full(Feature::Auto))],
         call: Call::Request(&[], UNAUTHORIZED),
         made: &[],
@@ -144,7 +165,7 @@ fn a_first_nonce_is_made_or_not(rt: HostRuntime) -> Result<(), Fail> {
 /// A signed request: its client is kept, or there is none.
 #[test]
 fn a_client_is_kept_or_not(rt: HostRuntime) -> Result<(), Fail> {
-    const ATTEMPT: Attempt<'static> = Attempt {
+    const ATTEMPT: &Attempt<'static> = &Attempt {
         before: &[Step::Begin(Begin::Offering), Step::Draw(&ONES)],
         call: Call::Request(&FULL_REQUEST, SHA256),
         made: &[],
@@ -171,7 +192,7 @@ const JUST_IN_TIME: Step<'static> = Step::At(3_600_000_000_000);
 /// A signed request whose nonce has run out: another is made, or the old one and the client stay.
 #[test]
 fn a_nonce_is_renewed_or_not(rt: HostRuntime) -> Result<(), Fail> {
-    const ATTEMPT: Attempt<'static> = Attempt {
+    const ATTEMPT: &Attempt<'static> = &Attempt {
         before: &[
             Step::Begin(Begin::Offering),
             Step::Draw(&ONES),
@@ -199,7 +220,7 @@ fn a_nonce_is_renewed_or_not(rt: HostRuntime) -> Result<(), Fail> {
 /// Another password of a present user: it is given, or the old one stays.
 #[test]
 fn a_password_is_given_or_not(rt: HostRuntime) -> Result<(), Fail> {
-    const ATTEMPT: Attempt<'static> = Attempt {
+    const ATTEMPT: &Attempt<'static> = &Attempt {
         before: &[Step::Begin(Begin::Offering), Step::Draw(&ONES)],
         call: Call::AddUser("another"),
         made: &[Step::Request(&FULL_REQUEST, UNAUTHORIZED)],
@@ -215,7 +236,7 @@ fn a_password_is_given_or_not(rt: HostRuntime) -> Result<(), Fail> {
 /// A new user: it is there, or not.
 #[test]
 fn a_user_is_added_or_not(rt: HostRuntime) -> Result<(), Fail> {
-    const ATTEMPT: Attempt<'static> = Attempt {
+    const ATTEMPT: &Attempt<'static> = &Attempt {
         before: &[
             Step::Begin(Begin::Offering),
             Step::Draw(&ONES),
@@ -235,7 +256,7 @@ fn a_user_is_added_or_not(rt: HostRuntime) -> Result<(), Fail> {
 /// The offer of the algorithms: it is made, or not.
 #[test]
 fn algorithms_are_offered_or_not(rt: HostRuntime) -> Result<(), Fail> {
-    const ATTEMPT: Attempt<'static> = Attempt {
+    const ATTEMPT: &Attempt<'static> = &Attempt {
         before: &[
             Step::Begin(Begin::Full(Feature::Auto)),
             Step::Request(&[], UNAUTHORIZED),
@@ -252,7 +273,7 @@ fn algorithms_are_offered_or_not(rt: HostRuntime) -> Result<(), Fail> {
 /// A success to a client: it is signed, or the client stays as it is.
 #[test]
 fn a_success_is_signed_or_not(rt: HostRuntime) -> Result<(), Fail> {
-    const ATTEMPT: Attempt<'static> = Attempt {
+    const ATTEMPT: &Attempt<'static> = &Attempt {
         before: &[
             Step::Begin(Begin::Offering),
             Step::Draw(&ONES),

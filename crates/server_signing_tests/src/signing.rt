@@ -1,20 +1,17 @@
 //! What a server's signing adds (RFC 8489, section 9.2.4).
 //!
 //! The digests are those of Python's module `hmac`.
-use std::alloc::{Allocator, Global};
-use std::process::Abort;
+use std::alloc::Global;
 use std::test::Fail;
 use stun_auth::auth::{Feature, LongTermServerAuth};
 use stun_types::attribute::AttributeType;
 use stun_types::data::OwnedBytes;
-use stun_types::message::{IntegrityAlgorithm, MessageClass, MessageWriteMutSlice, StunWriteError};
+use stun_types::message::{IntegrityAlgorithm, MessageClass, StunWriteError};
 use stun_types::prelude::*;
 use test_support::array_writer::ArrayWriter;
 use test_support::parts::{BOTH, HASHED_NONCE, MD5_KEY, Part, begin};
-use test_support::server::{
-    BAD_REQUEST, FULL_REQUEST, SHA1, SHA256, ZEROS, address, answered, full_server, knocked,
-    sha1_server, signed_bytes, signed_for, sizes,
-};
+use test_support::server::{BAD_REQUEST, FULL_REQUEST, SHA1, SHA256, UNAUTHORIZED};
+use test_support::server_steps::{Begin, Stage, Step, play};
 use test_support::spelled::bytes_of;
 
 /// A Binding request, an indication and a success with id 1.
@@ -61,285 +58,234 @@ const SIGNED: [Part<'static>; 4] = [
     Part::Sha1(&MD5_KEY),
 ];
 
-/// Checks a message that is signed for the first address.
-fn expect_signed<A: Allocator + Copy>(
-    rt: &impl Abort,
-    alloc: Global,
-    server: &mut LongTermServerAuth<A>,
-    (class, parts): (MessageClass, &[Part<'_>]),
-    digits: &str,
-) -> Result<(), Fail> {
-    let expected = bytes_of(alloc, digits)?;
-    let bytes = signed_bytes(alloc, server, class, parts)?;
-    assert_eq!(rt; bytes.as_slice(), expected.as_slice());
-    Ok(())
-}
+/// A server with HMAC-SHA1 alone.
+const SHA1_SERVER: Step<'static> = Step::Begin(Begin::Sha1(Feature::Auto));
 
-/// Checks the refusal of a signing.
-fn expect_refused<A: Allocator + Copy>(
-    rt: &impl Abort,
-    alloc: Global,
-    server: &mut LongTermServerAuth<A>,
-    (class, parts): (MessageClass, &[Part<'_>]),
-    expected: StunWriteError,
-) {
-    let answer = signed_bytes(alloc, server, class, parts);
-    assert_eq!(rt; answer.err(), Some(expected));
-}
+/// A server with both algorithms.
+const FULL_SERVER: Step<'static> = Step::Begin(Begin::Full(Feature::Auto));
 
-/// A server with HMAC-SHA1 alone, whose nonce is current for the first address.
-fn challenging_server(alloc: Global) -> Result<LongTermServerAuth, Fail> {
-    let mut server = sha1_server(alloc, Feature::Auto)?;
-    let _challenged = knocked(alloc, &mut server, address(1), ZEROS)?;
-    Ok(server)
-}
+/// The request for which the nonce of a client is made.
+const UNSIGNED: Step<'static> = Step::Request(&[], UNAUTHORIZED);
 
-/// The same with both algorithms.
-fn fully_challenging_server(alloc: Global) -> Result<LongTermServerAuth, Fail> {
-    let mut server = full_server(alloc, Feature::Auto)?;
-    let _challenged = knocked(alloc, &mut server, address(1), ZEROS)?;
-    Ok(server)
-}
+/// The request by which the server with HMAC-SHA1 alone validates a client.
+const VALIDATED: Step<'static> = Step::Request(&SIGNED, SHA1);
 
-/// A server with HMAC-SHA1 alone that has validated the client at the first address.
-fn server_of_client(rt: &impl Abort, alloc: Global) -> Result<LongTermServerAuth, Fail> {
-    let mut server = challenging_server(alloc)?;
-    assert_eq!(rt; answered(alloc, &mut server, &SIGNED)?, SHA1);
-    Ok(server)
-}
+/// The same at a server with both algorithms, once they were offered.
+const STRONGLY_VALIDATED: Step<'static> = Step::Request(&FULL_REQUEST, SHA256);
 
-/// The same with both algorithms, of which the client has chosen the stronger.
-fn server_of_strong_client(rt: &impl Abort, alloc: Global) -> Result<LongTermServerAuth, Fail> {
-    let mut server = fully_challenging_server(alloc)?;
-    let error = (MessageClass::Error, [Part::Code(401)].as_slice());
-    expect_signed(rt, alloc, &mut server, error, FULL_CHALLENGE)?;
-    assert_eq!(rt; answered(alloc, &mut server, &FULL_REQUEST)?, SHA256);
-    Ok(server)
-}
+const OFFERED: Step<'static> = Step::Signed(
+    MessageClass::Error,
+    &[Part::Code(401)],
+    FULL_CHALLENGE,
+);
 
 #[test]
 fn without_a_nonce_nothing_is_added(rt: HostRuntime) -> Result<(), Fail> {
-    let mut server = sha1_server(rt.alloc(), Feature::Auto)?;
-    expect_signed(
-        &rt,
-        rt.alloc(),
-        &mut server,
-        (MessageClass::Request, &[]),
-        REQUEST,
-    )?;
-    expect_signed(
-        &rt,
-        rt.alloc(),
-        &mut server,
-        (MessageClass::Success, &[]),
-        SUCCESS,
-    )
+    const STEPS: &[Step<'static>] = &[
+        SHA1_SERVER,
+        Step::Signed(MessageClass::Request, &[], REQUEST),
+        Step::Signed(MessageClass::Success, &[], SUCCESS),
+    ];
+    play(rt.alloc(), STEPS)
 }
 
 #[test]
 fn a_challenge_offers_the_algorithms(rt: HostRuntime) -> Result<(), Fail> {
-    let mut server = challenging_server(rt.alloc())?;
-    assert_eq!(rt; sizes(&server), (0, 56));
-    let error = (MessageClass::Error, [Part::Code(401)].as_slice());
-    expect_signed(&rt, rt.alloc(), &mut server, error, CHALLENGE)
+    const STEPS: &[Step<'static>] = &[
+        SHA1_SERVER,
+        UNSIGNED,
+        Step::Sizes(0, 56),
+        Step::Signed(MessageClass::Error, &[Part::Code(401)], CHALLENGE),
+    ];
+    play(rt.alloc(), STEPS)
 }
 
 #[test]
 fn a_challenge_offers_the_strongest_first(rt: HostRuntime) -> Result<(), Fail> {
-    let mut server = fully_challenging_server(rt.alloc())?;
-    assert_eq!(rt; sizes(&server), (0, 60));
-    let error = (MessageClass::Error, [Part::Code(401)].as_slice());
-    expect_signed(&rt, rt.alloc(), &mut server, error, FULL_CHALLENGE)
+    const STEPS: &[Step<'static>] = &[
+        FULL_SERVER,
+        UNSIGNED,
+        Step::Sizes(0, 60),
+        Step::Signed(MessageClass::Error, &[Part::Code(401)], FULL_CHALLENGE),
+    ];
+    play(rt.alloc(), STEPS)
 }
 
 #[test]
 fn no_request_carries_a_challenge(rt: HostRuntime) -> Result<(), Fail> {
-    let mut server = challenging_server(rt.alloc())?;
-    expect_signed(
-        &rt,
-        rt.alloc(),
-        &mut server,
-        (MessageClass::Request, &[]),
-        REQUEST,
-    )?;
-    expect_signed(
-        &rt,
-        rt.alloc(),
-        &mut server,
-        (MessageClass::Indication, &[]),
-        INDICATION,
-    )
+    const STEPS: &[Step<'static>] = &[
+        SHA1_SERVER,
+        UNSIGNED,
+        Step::Signed(MessageClass::Request, &[], REQUEST),
+        Step::Signed(MessageClass::Indication, &[], INDICATION),
+    ];
+    play(rt.alloc(), STEPS)
 }
 
 #[test]
 fn messages_to_a_client_are_signed(rt: HostRuntime) -> Result<(), Fail> {
-    let mut server = server_of_client(&rt, rt.alloc())?;
-    assert_eq!(rt; sizes(&server), (24, 72));
-    let success = (MessageClass::Success, [].as_slice());
-    expect_signed(&rt, rt.alloc(), &mut server, success, SUCCESS_BY_SHA1)?;
-    let request = (MessageClass::Request, [].as_slice());
-    expect_signed(&rt, rt.alloc(), &mut server, request, REQUEST_BY_SHA1)
+    const STEPS: &[Step<'static>] = &[
+        SHA1_SERVER,
+        UNSIGNED,
+        VALIDATED,
+        Step::Sizes(24, 72),
+        Step::Signed(MessageClass::Success, &[], SUCCESS_BY_SHA1),
+        Step::Signed(MessageClass::Request, &[], REQUEST_BY_SHA1),
+    ];
+    play(rt.alloc(), STEPS)
 }
 
 #[test]
 fn messages_to_a_strong_client_name_its_algorithm(rt: HostRuntime) -> Result<(), Fail> {
-    let mut server = server_of_strong_client(&rt, rt.alloc())?;
-    assert_eq!(rt; sizes(&server), (44, 92));
-    let success = (MessageClass::Success, [].as_slice());
-    expect_signed(&rt, rt.alloc(), &mut server, success, SUCCESS_BY_SHA256)?;
-    let indication = (MessageClass::Indication, [].as_slice());
-    expect_signed(
-        &rt,
-        rt.alloc(),
-        &mut server,
-        indication,
-        INDICATION_BY_SHA256,
-    )
+    const STEPS: &[Step<'static>] = &[
+        FULL_SERVER,
+        UNSIGNED,
+        OFFERED,
+        STRONGLY_VALIDATED,
+        Step::Sizes(44, 92),
+        Step::Signed(MessageClass::Success, &[], SUCCESS_BY_SHA256),
+        Step::Signed(MessageClass::Indication, &[], INDICATION_BY_SHA256),
+    ];
+    play(rt.alloc(), STEPS)
 }
 
 #[test]
 fn a_slice_takes_the_signed_message(rt: HostRuntime) -> Result<(), Fail> {
-    let mut server = server_of_client(&rt, rt.alloc())?;
-    let expected = bytes_of(rt.alloc(), SUCCESS_BY_SHA1)?;
-    let mut room = [0xff; 92];
-    let writer = begin(MessageClass::Success, MessageWriteMutSlice::new(&mut room))?;
-    let bytes = signed_for(&mut server, writer)?.finish();
-    assert_eq!(rt; bytes, expected.as_slice());
-    Ok(())
+    const STEPS: &[Step<'static>] = &[
+        SHA1_SERVER,
+        UNSIGNED,
+        VALIDATED,
+        Step::SignedInSlice(92, Ok(SUCCESS_BY_SHA1)),
+    ];
+    play(rt.alloc(), STEPS)
 }
 
 #[test]
 fn a_slice_is_too_small(rt: HostRuntime) -> Result<(), Fail> {
-    let mut server = server_of_client(&rt, rt.alloc())?;
-    let mut room = [0xff; 91];
-    let writer = begin(MessageClass::Success, MessageWriteMutSlice::new(&mut room))?;
-    let answer = signed_for(&mut server, writer);
-    assert_eq!(rt; answer.err(), Some(StunWriteError::TooSmall));
-    Ok(())
+    const STEPS: &[Step<'static>] = &[
+        SHA1_SERVER,
+        UNSIGNED,
+        VALIDATED,
+        Step::SignedInSlice(91, Err(StunWriteError::TooSmall)),
+    ];
+    play(rt.alloc(), STEPS)
+}
+
+/// A success to the client of a script, signed in a writer of its own.
+fn signed_in_array(alloc: Global, steps: &[Step<'_>]) -> Result<ArrayWriter<192>, Fail> {
+    let mut stage = Stage::new(alloc, alloc);
+    stage.play(steps)?;
+    let writer = begin(MessageClass::Success, ArrayWriter::<192>::new())?;
+    Ok(stage.sign(writer)?.finish())
 }
 
 #[test]
 fn another_writer_takes_the_signed_message(rt: HostRuntime) -> Result<(), Fail> {
-    let mut server = server_of_strong_client(&rt, rt.alloc())?;
+    const STEPS: &[Step<'static>] = &[FULL_SERVER, UNSIGNED, OFFERED, STRONGLY_VALIDATED];
     let expected = bytes_of(rt.alloc(), SUCCESS_BY_SHA256)?;
-    let writer = begin(MessageClass::Success, ArrayWriter::<192>::new())?;
-    let written = signed_for(&mut server, writer)?.finish();
+    let written = signed_in_array(rt.alloc(), STEPS)?;
     assert_eq!(rt; written.bytes(), expected.as_slice());
     Ok(())
 }
 
 #[test]
 fn without_its_user_a_client_is_sent_nothing(rt: HostRuntime) -> Result<(), Fail> {
-    let mut server = server_of_client(&rt, rt.alloc())?;
-    server.remove_user("user");
-    let failed = StunWriteError::IntegrityFailed;
-    expect_refused(
-        &rt,
-        rt.alloc(),
-        &mut server,
-        (MessageClass::Success, &[]),
-        failed,
-    );
-    expect_refused(
-        &rt,
-        rt.alloc(),
-        &mut server,
-        (MessageClass::Request, &[]),
-        failed,
-    );
-    // What would be added is counted all the same.
-    assert_eq!(rt; sizes(&server), (24, 72));
-    Ok(())
+    const STEPS: &[Step<'static>] = &[
+        SHA1_SERVER,
+        UNSIGNED,
+        VALIDATED,
+        Step::RemoveUser("user"),
+        Step::NotSigned(MessageClass::Success, &[], StunWriteError::IntegrityFailed),
+        Step::NotSigned(MessageClass::Request, &[], StunWriteError::IntegrityFailed),
+        // What would be added is counted all the same.
+        Step::Sizes(24, 72),
+    ];
+    play(rt.alloc(), STEPS)
 }
 
 #[test]
 fn without_its_key_a_client_is_sent_nothing(rt: HostRuntime) -> Result<(), Fail> {
-    let mut server = server_of_client(&rt, rt.alloc())?;
-    server.set_supported_integrity(IntegrityAlgorithm::Sha256);
-    let failed = StunWriteError::IntegrityFailed;
-    expect_refused(
-        &rt,
-        rt.alloc(),
-        &mut server,
-        (MessageClass::Success, &[]),
-        failed,
-    );
-    Ok(())
+    const STEPS: &[Step<'static>] = &[
+        SHA1_SERVER,
+        UNSIGNED,
+        VALIDATED,
+        Step::SetAlgorithm(IntegrityAlgorithm::Sha256),
+        Step::NotSigned(MessageClass::Success, &[], StunWriteError::IntegrityFailed),
+    ];
+    play(rt.alloc(), STEPS)
 }
 
 #[test]
 fn a_forgotten_client_leaves_its_nonce(rt: HostRuntime) -> Result<(), Fail> {
-    let mut server = server_of_client(&rt, rt.alloc())?;
-    server.remove_client(address(1));
-    assert_eq!(rt; server.nonce_for_client(address(1)), Some(HASHED_NONCE));
-    assert_eq!(rt; sizes(&server), (0, 56));
-    let error = (MessageClass::Error, [Part::Code(401)].as_slice());
-    expect_signed(&rt, rt.alloc(), &mut server, error, CHALLENGE)
+    const STEPS: &[Step<'static>] = &[
+        SHA1_SERVER,
+        UNSIGNED,
+        VALIDATED,
+        Step::RemoveClient,
+        Step::Nonce(Some(HASHED_NONCE)),
+        Step::Sizes(0, 56),
+        Step::Signed(MessageClass::Error, &[Part::Code(401)], CHALLENGE),
+    ];
+    play(rt.alloc(), STEPS)
 }
 
 #[test]
 fn a_refused_signing_offers_nothing(rt: HostRuntime) -> Result<(), Fail> {
-    let mut server = fully_challenging_server(rt.alloc())?;
-    let nonce = (MessageClass::Error, [Part::Nonce("x")].as_slice());
-    let exists = StunWriteError::AttributeExists(AttributeType::NONCE);
-    expect_refused(&rt, rt.alloc(), &mut server, nonce, exists);
-    let list = (MessageClass::Error, [Part::List(BOTH)].as_slice());
-    let exists = StunWriteError::AttributeExists(AttributeType::PASSWORD_ALGORITHMS);
-    expect_refused(&rt, rt.alloc(), &mut server, list, exists);
-    assert_eq!(rt;
-        answered(rt.alloc(), &mut server, &FULL_REQUEST)?,
-        BAD_REQUEST
+    const NONCE_EXISTS: StunWriteError = StunWriteError::AttributeExists(AttributeType::NONCE);
+    const LIST_EXISTS: StunWriteError = StunWriteError::AttributeExists(
+        AttributeType::PASSWORD_ALGORITHMS,
     );
-    Ok(())
+    const STEPS: &[Step<'static>] = &[
+        FULL_SERVER,
+        UNSIGNED,
+        Step::NotSigned(MessageClass::Error, &[Part::Nonce("x")], NONCE_EXISTS),
+        Step::NotSigned(MessageClass::Error, &[Part::List(BOTH)], LIST_EXISTS),
+        Step::Request(&FULL_REQUEST, BAD_REQUEST),
+    ];
+    play(rt.alloc(), STEPS)
 }
 
 #[test]
 fn the_digest_is_the_last(rt: HostRuntime) -> Result<(), Fail> {
-    let mut server = server_of_client(&rt, rt.alloc())?;
-    let signed = (MessageClass::Request, [Part::Sha1(b"key")].as_slice());
-    let exists = StunWriteError::MessageIntegrityExists;
-    expect_refused(&rt, rt.alloc(), &mut server, signed, exists);
-    Ok(())
+    const EXISTS: StunWriteError = StunWriteError::MessageIntegrityExists;
+    const STEPS: &[Step<'static>] = &[
+        SHA1_SERVER,
+        UNSIGNED,
+        VALIDATED,
+        Step::NotSigned(MessageClass::Request, &[Part::Sha1(b"key")], EXISTS),
+    ];
+    play(rt.alloc(), STEPS)
 }
 
-/// A realm of so many letters.
-fn realm_of(alloc: Global, count: usize) -> Result<String, Fail> {
+/// Plays a script at a server whose realm has so many letters.
+fn play_at_realm(alloc: Global, letters: usize, steps: &[Step<'_>]) -> Result<(), Fail> {
     let mut realm = String::new(alloc);
-    for _ in 0..count {
+    for _ in 0..letters {
         realm.push('r')?;
     }
-    Ok(realm)
+    let mut stage = Stage::new(alloc, alloc);
+    stage.server = LongTermServerAuth::new(alloc, realm);
+    stage.play(steps)
 }
 
 #[test]
 fn a_realm_is_within_its_limit(rt: HostRuntime) -> Result<(), Fail> {
-    let mut server = LongTermServerAuth::new(rt.alloc(), realm_of(rt.alloc(), 763)?);
-    let _challenged = knocked(rt.alloc(), &mut server, address(1), ZEROS)?;
-    // NONCE 36, REALM 768, PASSWORD-ALGORITHMS 8, after a header of 20.
-    assert_eq!(rt; sizes(&server), (0, 812));
-    let bytes = signed_bytes(rt.alloc(), &mut server, MessageClass::Success, &[])?;
-    assert_eq!(rt; bytes.len(), 832);
-    Ok(())
+    const STEPS: &[Step<'static>] = &[
+        UNSIGNED,
+        // NONCE 36, REALM 768, PASSWORD-ALGORITHMS 8, after a header of 20.
+        Step::Sizes(0, 812),
+        Step::SignedLength(MessageClass::Success, 832),
+    ];
+    play_at_realm(rt.alloc(), 763, STEPS)
 }
 
 #[test]
 fn a_realm_past_its_limit_is_refused(rt: HostRuntime) -> Result<(), Fail> {
-    let mut server = LongTermServerAuth::new(rt.alloc(), realm_of(rt.alloc(), 764)?);
-    let _challenged = knocked(rt.alloc(), &mut server, address(1), ZEROS)?;
-    assert_eq!(rt; sizes(&server), (0, 812));
-    let too_large = StunWriteError::TooLarge;
-    expect_refused(
-        &rt,
-        rt.alloc(),
-        &mut server,
-        (MessageClass::Success, &[]),
-        too_large,
-    );
-    expect_signed(
-        &rt,
-        rt.alloc(),
-        &mut server,
-        (MessageClass::Request, &[]),
-        REQUEST,
-    )
+    const STEPS: &[Step<'static>] = &[
+        UNSIGNED,
+        Step::Sizes(0, 812),
+        Step::NotSigned(MessageClass::Success, &[], StunWriteError::TooLarge),
+        Step::Signed(MessageClass::Request, &[], REQUEST),
+    ];
+    play_at_realm(rt.alloc(), 764, STEPS)
 }

@@ -1,6 +1,7 @@
 //! What a server signs is the same message, whether the call checks what it adds or not (RFC 8489, section 9.2.4).
 use std::alloc::Global;
 use std::net::SocketAddr;
+use std::process::Abort;
 use std::test::Fail;
 use stun_auth::auth::{Feature, LongTermServerAuth};
 use stun_auth::laws::{signing_leaves_what_is_added, what_was_signed_may_be_signed};
@@ -8,9 +9,8 @@ use stun_types::message::{
     BINDING, Message, MessageClass, MessageType, MessageWriteVec, StunWriteError, TransactionId,
 };
 use stun_types::prelude::*;
-use test_support::server::{
-    FULL_REQUEST, SHA256, ZEROS, address, answered, full_server, knocked, offering_server,
-};
+use test_support::server::{FULL_REQUEST, SHA256, UNAUTHORIZED, address};
+use test_support::server_steps::{Begin, Stage, Step};
 
 /// A success with id 1 to an address, signed by the call that checks and by the other.
 fn signed_by_server(
@@ -29,26 +29,37 @@ fn signed_by_server(
     Ok((checked.finish(), unchecked.finish()))
 }
 
-#[test]
-fn a_server_signs_the_same_unchecked(rt: HostRuntime) -> Result<(), Fail> {
-    let alloc = rt.alloc();
-    let mut server = offering_server(alloc, alloc)?;
-    assert_eq!(rt; answered(alloc, &mut server, &FULL_REQUEST)?, SHA256);
-    let (checked, unchecked) = signed_by_server(alloc, &mut server, address(1))?;
-    // As long as a success with nonce, realm, the name of HMAC-SHA256 and its digest is.
-    assert_eq!(rt; checked.len(), 112);
+/// Checks that the two calls give the client of a script the same message, which has so many bytes.
+fn expect_same(
+    rt: &impl Abort,
+    alloc: Global,
+    steps: &[Step<'_>],
+    length: usize,
+) -> Result<(), Fail> {
+    let mut stage = Stage::new(alloc, alloc);
+    stage.play(steps)?;
+    let (checked, unchecked) = signed_by_server(alloc, &mut stage.server, address(1))?;
+    assert_eq!(rt; checked.len(), length);
     assert_eq!(rt; checked.as_slice(), unchecked.as_slice());
     Ok(())
 }
 
+/// The success is as long as one with nonce, realm, the name of HMAC-SHA256 and its digest is.
+#[test]
+fn a_server_signs_the_same_unchecked(rt: HostRuntime) -> Result<(), Fail> {
+    const STEPS: &[Step<'static>] = &[
+        Step::Begin(Begin::Offering),
+        Step::Request(&FULL_REQUEST, SHA256),
+    ];
+    expect_same(&rt, rt.alloc(), STEPS, 112)
+}
+
+/// The success is as long as one with nonce, realm and the algorithms that are offered is.
 #[test]
 fn a_server_offers_the_same_unchecked(rt: HostRuntime) -> Result<(), Fail> {
-    let alloc = rt.alloc();
-    let mut server = full_server(alloc, Feature::Auto)?;
-    let _challenged = knocked(alloc, &mut server, address(1), ZEROS)?;
-    let (checked, unchecked) = signed_by_server(alloc, &mut server, address(1))?;
-    // As long as a success with nonce, realm and the algorithms that are offered is.
-    assert_eq!(rt; checked.len(), 80);
-    assert_eq!(rt; checked.as_slice(), unchecked.as_slice());
-    Ok(())
+    const STEPS: &[Step<'static>] = &[
+        Step::Begin(Begin::Full(Feature::Auto)),
+        Step::Request(&[], UNAUTHORIZED),
+    ];
+    expect_same(&rt, rt.alloc(), STEPS, 80)
 }

@@ -6,8 +6,6 @@ mod addresses;
 #[cfg(test)]
 mod clients;
 #[cfg(test)]
-mod expect;
-#[cfg(test)]
 mod messages;
 #[cfg(test)]
 mod refusals;
@@ -17,3 +15,5 @@ mod settings;
 mod unasked;
 #[cfg(test)]
 mod users;
+#[cfg(test)]
+mod watched;

@@ -1,260 +1,291 @@
 //! Each allocation that a server asks for refused in turn: it is then as before, and the call succeeds when it is made again.
+use crate::watched::{Act, Heap, play_acts};
 use fail_alloc::RefusingAllocator;
 use std::alloc::Global;
 use std::process::Abort;
 use std::test::Fail;
-use stun_auth::auth::{Feature, LongTermServerAuth};
+use stun_auth::auth::Feature;
 use stun_types::message::{MessageClass, MessageWriteVec, StunWriteError};
 use stun_types::prelude::*;
-use test_support::parts::{FULL_NONCE, begin, message};
+use test_support::parts::{FULL_NONCE, Part, begin};
 use test_support::server::{
-    Answer, BAD_REQUEST, FULL_REQUEST, ONES, OUT_OF_MEMORY, SHA256, STALE_NONCE, UNAUTHORIZED,
-    ZEROS, address, asked, full_server, knocked, offering_server, signed_challenge, signed_for,
-    sizes, user,
+    Answer, BAD_REQUEST, FULL_REQUEST, ONES, OUT_OF_MEMORY, SHA256, STALE_NONCE, UNAUTHORIZED, user,
 };
+use test_support::server_steps::{Begin, Stage, Step};
 
-type Heap = RefusingAllocator<Global>;
+/// A call that asks for memory.
+#[derive(Clone, Copy)]
+enum Call<'a> {
+    /// A request with these attributes, and its answer.
+    Request(&'a [Part<'a>], Answer),
+    /// The user `user` is added with this password.
+    AddUser(&'a str),
+    /// A success to the client is signed, and has then so many bytes.
+    Sign(usize),
+}
 
-/// What a server answers to a request of these attributes while the nth allocation is refused, and whether none was.
-fn asked_short<'a>(
+/// A call, of which each allocation is refused in turn.
+#[derive(Clone, Copy)]
+struct Attempt<'a> {
+    before: &'a [Step<'a>],
+    call: Call<'a>,
+    /// What is seen once it succeeded.
+    made: &'a [Step<'a>],
+    /// What is seen once it was refused, and what the same call then gives.
+    refused: &'a [Step<'a>],
+    /// What is seen after either.
+    after: &'a [Step<'a>],
+}
+
+/// How a call ended.
+#[derive(Clone, Copy)]
+struct Outcome {
+    is_made: bool,
+    /// Whether none of its allocations was refused.
+    is_last: bool,
+}
+
+/// A request is refused with its allocation.
+fn request_short<'a>(
+    rt: &impl Abort,
     heap: &'a Heap,
-    server: &mut LongTermServerAuth<&'a Heap>,
-    bytes: &[u8],
-    (nanos, words): (u64, [u32; 16]),
+    stage: &mut Stage<&'a Heap>,
+    (parts, wanted): (&[Part<'_>], Answer),
     nth: u64,
-) -> Result<(Answer, bool), Fail> {
+) -> Result<Outcome, Fail> {
     heap.refuse(nth);
-    let answer = asked(server, bytes, (address(1), nanos), words)?;
-    Ok((answer, heap.met_none()))
+    let answer = stage.answer(MessageClass::Request, parts)?;
+    let is_last = heap.met_none();
+    assert_eq!(rt; answer, if is_last { wanted } else { OUT_OF_MEMORY });
+    Ok(Outcome {
+        is_made: is_last,
+        is_last,
+    })
+}
+
+/// A user may be added although an allocation was refused.
+fn add_short<'a>(
+    rt: &impl Abort,
+    heap: &'a Heap,
+    stage: &mut Stage<&'a Heap>,
+    password: &str,
+    nth: u64,
+) -> Result<Outcome, Fail> {
+    let user = user(heap, password)?;
+    heap.refuse(nth);
+    let is_made = stage.server.add_user(user).is_ok();
+    let is_last = heap.met_none();
+    assert!(rt; is_made || !is_last);
+    Ok(Outcome { is_made, is_last })
+}
+
+/// A success is not signed without its allocation.
+fn sign_short<'a>(
+    rt: &impl Abort,
+    heap: &'a Heap,
+    stage: &mut Stage<&'a Heap>,
+    length: usize,
+    nth: u64,
+) -> Result<Outcome, Fail> {
+    let writer = begin(MessageClass::Success, MessageWriteVec::new(heap))?;
+    heap.refuse(nth);
+    let answer = stage.sign(writer).map(|signed| signed.data().len());
+    let is_last = heap.met_none();
+    let refused = Err(StunWriteError::OutOfMemory);
+    assert_eq!(rt; answer, if is_last { Ok(length) } else { refused });
+    Ok(Outcome {
+        is_made: is_last,
+        is_last,
+    })
+}
+
+fn call_short<'a>(
+    rt: &impl Abort,
+    heap: &'a Heap,
+    stage: &mut Stage<&'a Heap>,
+    call: Call<'_>,
+    nth: u64,
+) -> Result<Outcome, Fail> {
+    match call {
+        Call::Request(parts, answer) => request_short(rt, heap, stage, (parts, answer), nth),
+        Call::AddUser(password) => add_short(rt, heap, stage, password, nth),
+        Call::Sign(length) => sign_short(rt, heap, stage, length, nth),
+    }
+}
+
+/// Plays an attempt whose nth allocation is refused, and says whether none was.
+fn play_attempt<'a>(
+    rt: &impl Abort,
+    heap: &'a Heap,
+    stage: &mut Stage<&'a Heap>,
+    attempt: &Attempt<'_>,
+    nth: u64,
+) -> Result<bool, Fail> {
+    stage.play(attempt.before)?;
+    let outcome = call_short(rt, heap, stage, attempt.call, nth)?;
+    stage.play(if outcome.is_made {
+        attempt.made
+    } else {
+        attempt.refused
+    })?;
+    stage.play(attempt.after)?;
+    Ok(outcome.is_last)
+}
+
+/// The same at a new stage.
+fn begin_attempt(
+    rt: &impl Abort,
+    (alloc, heap): (Global, &Heap),
+    attempt: &Attempt<'_>,
+    nth: u64,
+) -> Result<bool, Fail> {
+    let mut stage = Stage::new(alloc, heap);
+    play_attempt(rt, heap, &mut stage, attempt, nth)
+}
+
+/// Plays an attempt again and again, each of its allocations refused in turn.
+fn refuse_each(rt: &impl Abort, alloc: Global, attempt: &Attempt<'_>) -> Result<(), Fail> {
+    let heap = RefusingAllocator::new(alloc);
+    heap.each_refusal(|nth| begin_attempt(rt, (alloc, &heap), attempt, nth))
 }
 
 /// An unsigned request to a new server: its nonce is made, or there is none.
-fn first_request(rt: &impl Abort, heap: &Heap, bytes: &[u8], nth: u64) -> Result<bool, Fail> {
-    let mut server = full_server(heap, Feature::Auto)?;
-    let (answer, is_last) = asked_short(heap, &mut server, bytes, (0, ZEROS), nth)?;
-    if is_last {
-        assert_eq!(rt; answer, UNAUTHORIZED);
-    } else {
-        assert_eq!(rt; answer, OUT_OF_MEMORY);
-        assert_eq!(rt; server.nonce_for_client(address(1)), None);
-        let again = asked(&mut server, bytes, (address(1), 0), ZEROS)?;
-        assert_eq!(rt; again, UNAUTHORIZED);
-    }
-    assert_eq!(rt; server.nonce_for_client(address(1)), Some(FULL_NONCE));
-    Ok(is_last)
-}
-
 #[test]
 fn a_first_nonce_is_made_or_not(rt: HostRuntime) -> Result<(), Fail> {
-    let heap = RefusingAllocator::new(rt.alloc());
-    let bytes = message(rt.alloc(), MessageClass::Request, &[])?;
-    heap.each_refusal(|nth| first_request(&rt, &heap, bytes.as_slice(), nth))
+    const ATTEMPT: &Attempt<'static> = &Attempt {
+        before: &[Step::Begin(Begin::Full(Feature::Auto))],
+        call: Call::Request(&[], UNAUTHORIZED),
+        made: &[],
+        refused: &[Step::Nonce(None), Step::Request(&[], UNAUTHORIZED)],
+        after: &[Step::Nonce(Some(FULL_NONCE))],
+    };
+    refuse_each(&rt, rt.alloc(), ATTEMPT)
 }
 
-/// A signed request: its client is kept, which takes one allocation, or there is none.
-fn accepted_request(
-    rt: &impl Abort,
-    (alloc, heap): (Global, &Heap),
-    bytes: &[u8],
-    nth: u64,
-) -> Result<bool, Fail> {
-    let mut server = offering_server(alloc, heap)?;
-    let (answer, is_last) = asked_short(heap, &mut server, bytes, (0, ONES), nth)?;
-    if is_last {
-        assert_eq!(rt; answer, SHA256);
-    } else {
-        assert_eq!(rt; answer, OUT_OF_MEMORY);
-        assert_eq!(rt; sizes(&server), (0, 60));
-        let again = asked(&mut server, bytes, (address(1), 0), ONES)?;
-        assert_eq!(rt; again, SHA256);
-    }
-    assert_eq!(rt; server.nonce_for_client(address(1)), Some(FULL_NONCE));
-    assert_eq!(rt; sizes(&server), (44, 92));
-    assert_eq!(rt; is_last, nth == 2);
-    Ok(is_last)
-}
-
+/// A signed request: its client is kept, or there is none.
 #[test]
 fn a_client_is_kept_or_not(rt: HostRuntime) -> Result<(), Fail> {
-    let heap = RefusingAllocator::new(rt.alloc());
-    let bytes = message(rt.alloc(), MessageClass::Request, &FULL_REQUEST)?;
-    heap.each_refusal(|nth| accepted_request(&rt, (rt.alloc(), &heap), bytes.as_slice(), nth))
-}
-
-/// A moment at which each nonce of the first moment has run out.
-const LATE: u64 = 3_600_000_000_001;
-
-/// A signed request whose nonce has run out: another is made, or the old one and the client stay.
-fn late_request(
-    rt: &impl Abort,
-    (alloc, heap): (Global, &Heap),
-    bytes: &[u8],
-    nth: u64,
-) -> Result<bool, Fail> {
-    let mut server = offering_server(alloc, heap)?;
-    let kept = asked(&mut server, bytes, (address(1), 0), ONES)?;
-    assert_eq!(rt; kept, SHA256);
-    let (answer, is_last) = asked_short(heap, &mut server, bytes, (LATE, ONES), nth)?;
-    if is_last {
-        assert_eq!(rt; answer, STALE_NONCE);
-    } else {
-        assert_eq!(rt; answer, OUT_OF_MEMORY);
-        assert_eq!(rt; server.nonce_for_client(address(1)), Some(FULL_NONCE));
-        // Up to its end the old nonce is current, with the list that was offered.
-        let again = asked(&mut server, bytes, (address(1), LATE - 1), ONES)?;
-        assert_eq!(rt; again, SHA256);
-    }
-    assert_eq!(rt; sizes(&server), (44, 92));
-    let last = asked(&mut server, bytes, (address(1), LATE), ONES)?;
-    assert_eq!(rt; last, STALE_NONCE);
-    assert_eq!(rt;
-        server.nonce_for_client(address(1)),
-        Some("obMatJos2wAAABBBBBBBBBBBBBBBB")
-    );
-    Ok(is_last)
+    const ATTEMPT: &Attempt<'static> = &Attempt {
+        before: &[Step::Begin(Begin::Offering), Step::Draw(&ONES)],
+        call: Call::Request(&FULL_REQUEST, SHA256),
+        made: &[],
+        refused: &[Step::Sizes(0, 60), Step::Request(&FULL_REQUEST, SHA256)],
+        after: &[Step::Nonce(Some(FULL_NONCE)), Step::Sizes(44, 92)],
+    };
+    refuse_each(&rt, rt.alloc(), ATTEMPT)
 }
 
 #[test]
-fn a_nonce_is_renewed_or_not(rt: HostRuntime) -> Result<(), Fail> {
-    let heap = RefusingAllocator::new(rt.alloc());
-    let bytes = message(rt.alloc(), MessageClass::Request, &FULL_REQUEST)?;
-    heap.each_refusal(|nth| late_request(&rt, (rt.alloc(), &heap), bytes.as_slice(), nth))
+fn a_client_takes_one_allocation(rt: HostRuntime) -> Result<(), Fail> {
+    const ACTS: &[Act<'static>] = &[
+        Act::Any(&[Step::Begin(Begin::Offering), Step::Draw(&ONES)]),
+        Act::AskOnce(&[Step::Request(&FULL_REQUEST, SHA256)]),
+    ];
+    play_acts(&rt, rt.alloc(), ACTS)
 }
 
-/// Gives the user a password while the nth allocation is refused: whether it was given, and whether none was refused.
-fn added_short<'a>(
-    heap: &'a Heap,
-    server: &mut LongTermServerAuth<&'a Heap>,
-    password: &str,
-    nth: u64,
-) -> Result<(bool, bool), Fail> {
-    let user = user(heap, password)?;
-    heap.refuse(nth);
-    let is_added = server.add_user(user).is_ok();
-    Ok((is_added, heap.met_none()))
+/// A moment at which each nonce of the first moment has run out, and the one before it.
+const LATE: Step<'static> = Step::At(3_600_000_000_001);
+
+const JUST_IN_TIME: Step<'static> = Step::At(3_600_000_000_000);
+
+/// A signed request whose nonce has run out: another is made, or the old one and the client stay.
+#[test]
+fn a_nonce_is_renewed_or_not(rt: HostRuntime) -> Result<(), Fail> {
+    const ATTEMPT: &Attempt<'static> = &Attempt {
+        before: &[
+            Step::Begin(Begin::Offering),
+            Step::Draw(&ONES),
+            Step::Request(&FULL_REQUEST, SHA256),
+            LATE,
+        ],
+        call: Call::Request(&FULL_REQUEST, STALE_NONCE),
+        made: &[],
+        refused: &[
+            Step::Nonce(Some(FULL_NONCE)),
+            // Up to its end the old nonce is current, with the list that was offered.
+            JUST_IN_TIME,
+            Step::Request(&FULL_REQUEST, SHA256),
+        ],
+        after: &[
+            Step::Sizes(44, 92),
+            LATE,
+            Step::Request(&FULL_REQUEST, STALE_NONCE),
+            Step::Nonce(Some("obMatJos2wAAABBBBBBBBBBBBBBBB")),
+        ],
+    };
+    refuse_each(&rt, rt.alloc(), ATTEMPT)
 }
 
 /// Another password of a present user: it is given, or the old one stays.
-fn another_password(
-    rt: &impl Abort,
-    (alloc, heap): (Global, &Heap),
-    bytes: &[u8],
-    nth: u64,
-) -> Result<bool, Fail> {
-    let mut server = offering_server(alloc, heap)?;
-    let (is_added, is_last) = added_short(heap, &mut server, "another", nth)?;
-    assert!(rt; is_added || !is_last);
-    let answer = asked(&mut server, bytes, (address(1), 0), ONES)?;
-    let expected = if is_added { UNAUTHORIZED } else { SHA256 };
-    assert_eq!(rt; answer, expected);
-    server.add_user(user(heap, "another")?)?;
-    let answer = asked(&mut server, bytes, (address(1), 0), ONES)?;
-    assert_eq!(rt; answer, UNAUTHORIZED);
-    Ok(is_last)
-}
-
 #[test]
 fn a_password_is_given_or_not(rt: HostRuntime) -> Result<(), Fail> {
-    let heap = RefusingAllocator::new(rt.alloc());
-    let bytes = message(rt.alloc(), MessageClass::Request, &FULL_REQUEST)?;
-    heap.each_refusal(|nth| another_password(&rt, (rt.alloc(), &heap), bytes.as_slice(), nth))
+    const ATTEMPT: &Attempt<'static> = &Attempt {
+        before: &[Step::Begin(Begin::Offering), Step::Draw(&ONES)],
+        call: Call::AddUser("another"),
+        made: &[Step::Request(&FULL_REQUEST, UNAUTHORIZED)],
+        refused: &[Step::Request(&FULL_REQUEST, SHA256)],
+        after: &[
+            Step::AddUser("user", "another"),
+            Step::Request(&FULL_REQUEST, UNAUTHORIZED),
+        ],
+    };
+    refuse_each(&rt, rt.alloc(), ATTEMPT)
 }
 
 /// A new user: it is there, or not.
-fn new_user(
-    rt: &impl Abort,
-    (alloc, heap): (Global, &Heap),
-    bytes: &[u8],
-    nth: u64,
-) -> Result<bool, Fail> {
-    let mut server = offering_server(alloc, heap)?;
-    server.remove_user("user");
-    let (is_added, is_last) = added_short(heap, &mut server, "pass", nth)?;
-    assert!(rt; is_added || !is_last);
-    let answer = asked(&mut server, bytes, (address(1), 0), ONES)?;
-    let expected = if is_added { SHA256 } else { UNAUTHORIZED };
-    assert_eq!(rt; answer, expected);
-    server.add_user(user(heap, "pass")?)?;
-    let answer = asked(&mut server, bytes, (address(1), 0), ONES)?;
-    assert_eq!(rt; answer, SHA256);
-    Ok(is_last)
-}
-
 #[test]
 fn a_user_is_added_or_not(rt: HostRuntime) -> Result<(), Fail> {
-    let heap = RefusingAllocator::new(rt.alloc());
-    let bytes = message(rt.alloc(), MessageClass::Request, &FULL_REQUEST)?;
-    heap.each_refusal(|nth| new_user(&rt, (rt.alloc(), &heap), bytes.as_slice(), nth))
-}
-
-/// Signs a success for the first address while the nth allocation is refused: its length or the refusal, and whether none
-/// was refused.
-fn signed_short<'a>(
-    heap: &'a Heap,
-    server: &mut LongTermServerAuth<&'a Heap>,
-    nth: u64,
-) -> Result<(Result<usize, StunWriteError>, bool), Fail> {
-    let writer = begin(MessageClass::Success, MessageWriteVec::new(heap))?;
-    heap.refuse(nth);
-    let answer = signed_for(server, writer).map(|signed| signed.data().len());
-    Ok((answer, heap.met_none()))
+    const ATTEMPT: &Attempt<'static> = &Attempt {
+        before: &[
+            Step::Begin(Begin::Offering),
+            Step::Draw(&ONES),
+            Step::RemoveUser("user"),
+        ],
+        call: Call::AddUser("pass"),
+        made: &[Step::Request(&FULL_REQUEST, SHA256)],
+        refused: &[Step::Request(&FULL_REQUEST, UNAUTHORIZED)],
+        after: &[
+            Step::AddUser("user", "pass"),
+            Step::Request(&FULL_REQUEST, SHA256),
+        ],
+    };
+    refuse_each(&rt, rt.alloc(), ATTEMPT)
 }
 
 /// The offer of the algorithms: it is made, or not.
-fn offer(
-    rt: &impl Abort,
-    (alloc, heap): (Global, &Heap),
-    bytes: &[u8],
-    nth: u64,
-) -> Result<bool, Fail> {
-    let mut server = full_server(heap, Feature::Auto)?;
-    let _challenged = knocked(alloc, &mut server, address(1), ZEROS)?;
-    let (answer, is_last) = signed_short(heap, &mut server, nth)?;
-    if is_last {
-        assert_eq!(rt; answer, Ok(80));
-    } else {
-        assert_eq!(rt; answer, Err(StunWriteError::OutOfMemory));
-        let unoffered = asked(&mut server, bytes, (address(1), 0), ONES)?;
-        assert_eq!(rt; unoffered, BAD_REQUEST);
-        let _offered = signed_challenge(alloc, &mut server)?;
-    }
-    let answer = asked(&mut server, bytes, (address(1), 0), ONES)?;
-    assert_eq!(rt; answer, SHA256);
-    Ok(is_last)
-}
-
 #[test]
 fn algorithms_are_offered_or_not(rt: HostRuntime) -> Result<(), Fail> {
-    let heap = RefusingAllocator::new(rt.alloc());
-    let bytes = message(rt.alloc(), MessageClass::Request, &FULL_REQUEST)?;
-    heap.each_refusal(|nth| offer(&rt, (rt.alloc(), &heap), bytes.as_slice(), nth))
+    const ATTEMPT: &Attempt<'static> = &Attempt {
+        before: &[
+            Step::Begin(Begin::Full(Feature::Auto)),
+            Step::Request(&[], UNAUTHORIZED),
+            Step::Draw(&ONES),
+        ],
+        call: Call::Sign(80),
+        made: &[],
+        refused: &[Step::Request(&FULL_REQUEST, BAD_REQUEST), Step::Challenge],
+        after: &[Step::Request(&FULL_REQUEST, SHA256)],
+    };
+    refuse_each(&rt, rt.alloc(), ATTEMPT)
 }
 
 /// A success to a client: it is signed, or the client stays as it is.
-fn success(
-    rt: &impl Abort,
-    (alloc, heap): (Global, &Heap),
-    bytes: &[u8],
-    nth: u64,
-) -> Result<bool, Fail> {
-    let mut server = offering_server(alloc, heap)?;
-    let _accepted = asked(&mut server, bytes, (address(1), 0), ONES)?;
-    let (answer, is_last) = signed_short(heap, &mut server, nth)?;
-    let expected = if is_last {
-        Ok(112)
-    } else {
-        Err(StunWriteError::OutOfMemory)
-    };
-    assert_eq!(rt; answer, expected);
-    assert_eq!(rt; sizes(&server), (44, 92));
-    let (answer, _) = signed_short(heap, &mut server, 0)?;
-    assert_eq!(rt; answer, Ok(112));
-    Ok(is_last)
-}
-
 #[test]
 fn a_success_is_signed_or_not(rt: HostRuntime) -> Result<(), Fail> {
-    let heap = RefusingAllocator::new(rt.alloc());
-    let bytes = message(rt.alloc(), MessageClass::Request, &FULL_REQUEST)?;
-    heap.each_refusal(|nth| success(&rt, (rt.alloc(), &heap), bytes.as_slice(), nth))
+    const ATTEMPT: &Attempt<'static> = &Attempt {
+        before: &[
+            Step::Begin(Begin::Offering),
+            Step::Draw(&ONES),
+            Step::Request(&FULL_REQUEST, SHA256),
+        ],
+        call: Call::Sign(112),
+        made: &[],
+        refused: &[],
+        after: &[
+            Step::Sizes(44, 92),
+            Step::SignedLength(MessageClass::Success, 112),
+        ],
+    };
+    refuse_each(&rt, rt.alloc(), ATTEMPT)
 }

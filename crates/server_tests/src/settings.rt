@@ -1,14 +1,10 @@
 //! A server's nonces, settings and sizes (RFC 8489, sections 9.2 and 9.2.4).
-use crate::expect::expect_nonce;
-use std::alloc::{Allocator, Global};
-use std::process::Abort;
 use std::test::Fail;
 use std::time::Duration;
-use stun_auth::auth::{Feature, LongTermServerAuth, minimum_nonce_expiry_duration};
+use stun_auth::auth::{Feature, minimum_nonce_expiry_duration};
 use stun_types::message::IntegrityAlgorithm;
-use test_support::server::{
-    ONES, UNAUTHORIZED, ZEROS, address, full_server, knocked, sha1_server, sha256_server, sizes,
-};
+use test_support::server::{ONES, UNAUTHORIZED};
+use test_support::server_steps::{Begin, Place, Step, play};
 
 /// Words that spell the letters at both ends of their three ranges, and one that is past 62.
 const LETTERS: [u32; 16] = [
@@ -18,134 +14,131 @@ const LETTERS: [u32; 16] = [
 /// Words that spell the cookie and seven letters `A`.
 const COOKIE: [u32; 16] = [40, 27, 12, 26, 45, 9, 40, 44, 54, 0, 0, 0, 0, 0, 0, 0];
 
-/// Checks the nonce and the sizes after an unsigned request.
-fn expect_challenge<A: Allocator + Copy>(
-    rt: &impl Abort,
-    alloc: Global,
-    server: &mut LongTermServerAuth<A>,
-    words: [u32; 16],
-    (nonce, response): (&str, usize),
-) -> Result<(), Fail> {
-    expect_nonce(rt, server, None);
-    assert_eq!(rt; sizes(server), (0, 0));
-    let answer = knocked(alloc, server, address(1), words)?;
-    assert_eq!(rt; answer, UNAUTHORIZED);
-    expect_nonce(rt, server, Some(nonce));
-    assert_eq!(rt; sizes(server), (0, response));
-    Ok(())
-}
-
 #[test]
 fn a_plain_nonce_is_its_letters(rt: HostRuntime) -> Result<(), Fail> {
-    let mut server = sha1_server(rt.alloc(), Feature::Disabled)?;
-    expect_challenge(
-        &rt,
-        rt.alloc(),
-        &mut server,
-        LETTERS,
-        ("AZaz09ADAAAAAAAA", 40),
-    )
+    const STEPS: &[Step<'static>] = &[
+        Step::Begin(Begin::Sha1(Feature::Disabled)),
+        Step::Nonce(None),
+        Step::Sizes(0, 0),
+        Step::Draw(&LETTERS),
+        Step::Request(&[], UNAUTHORIZED),
+        Step::Nonce(Some("AZaz09ADAAAAAAAA")),
+        Step::Sizes(0, 40),
+    ];
+    play(rt.alloc(), STEPS)
 }
 
 #[test]
 fn a_plain_nonce_has_no_cookie(rt: HostRuntime) -> Result<(), Fail> {
-    let mut server = sha1_server(rt.alloc(), Feature::Disabled)?;
-    expect_challenge(
-        &rt,
-        rt.alloc(),
-        &mut server,
-        COOKIE,
-        ("pbMatJos2AAAAAAA", 40),
-    )
+    const STEPS: &[Step<'static>] = &[
+        Step::Begin(Begin::Sha1(Feature::Disabled)),
+        Step::Nonce(None),
+        Step::Sizes(0, 0),
+        Step::Draw(&COOKIE),
+        Step::Request(&[], UNAUTHORIZED),
+        Step::Nonce(Some("pbMatJos2AAAAAAA")),
+        Step::Sizes(0, 40),
+    ];
+    play(rt.alloc(), STEPS)
 }
 
 #[test]
 fn a_nonce_asks_for_hashed_names(rt: HostRuntime) -> Result<(), Fail> {
-    for feature in [Feature::Auto, Feature::Required] {
-        let mut server = sha1_server(rt.alloc(), feature)?;
-        let expected = ("obMatJos2QAAAAAAAAAAAAAAAAAAA", 56);
-        expect_challenge(&rt, rt.alloc(), &mut server, ZEROS, expected)?;
-    }
-    Ok(())
+    const STEPS: &[Step<'static>] = &[
+        Step::Begin(Begin::Sha1(Feature::Auto)),
+        Step::Nonce(None),
+        Step::Sizes(0, 0),
+        Step::Request(&[], UNAUTHORIZED),
+        Step::Nonce(Some("obMatJos2QAAAAAAAAAAAAAAAAAAA")),
+        Step::Sizes(0, 56),
+        Step::Begin(Begin::Sha1(Feature::Required)),
+        Step::Nonce(None),
+        Step::Sizes(0, 0),
+        Step::Request(&[], UNAUTHORIZED),
+        Step::Nonce(Some("obMatJos2QAAAAAAAAAAAAAAAAAAA")),
+        Step::Sizes(0, 56),
+    ];
+    play(rt.alloc(), STEPS)
 }
 
 #[test]
 fn a_nonce_asks_for_algorithms(rt: HostRuntime) -> Result<(), Fail> {
-    let mut server = full_server(rt.alloc(), Feature::Disabled)?;
-    let expected = ("obMatJos2gAAABBBBBBBBBBBBBBBB", 60);
-    expect_challenge(&rt, rt.alloc(), &mut server, ONES, expected)
+    const STEPS: &[Step<'static>] = &[
+        Step::Begin(Begin::Full(Feature::Disabled)),
+        Step::Nonce(None),
+        Step::Sizes(0, 0),
+        Step::Draw(&ONES),
+        Step::Request(&[], UNAUTHORIZED),
+        Step::Nonce(Some("obMatJos2gAAABBBBBBBBBBBBBBBB")),
+        Step::Sizes(0, 60),
+    ];
+    play(rt.alloc(), STEPS)
 }
 
 #[test]
 fn a_nonce_asks_for_both(rt: HostRuntime) -> Result<(), Fail> {
-    let mut server = full_server(rt.alloc(), Feature::Auto)?;
-    let expected = ("obMatJos2wAAAAAAAAAAAAAAAAAAA", 60);
-    expect_challenge(&rt, rt.alloc(), &mut server, ZEROS, expected)
+    const STEPS: &[Step<'static>] = &[
+        Step::Begin(Begin::Full(Feature::Auto)),
+        Step::Nonce(None),
+        Step::Sizes(0, 0),
+        Step::Request(&[], UNAUTHORIZED),
+        Step::Nonce(Some("obMatJos2wAAAAAAAAAAAAAAAAAAA")),
+        Step::Sizes(0, 60),
+    ];
+    play(rt.alloc(), STEPS)
 }
 
 #[test]
 fn a_standing_nonce_stays(rt: HostRuntime) -> Result<(), Fail> {
-    let mut server = sha1_server(rt.alloc(), Feature::Disabled)?;
-    assert_eq!(rt;
-        knocked(rt.alloc(), &mut server, address(1), ZEROS)?,
-        UNAUTHORIZED
-    );
-    assert_eq!(rt;
-        knocked(rt.alloc(), &mut server, address(1), ONES)?,
-        UNAUTHORIZED
-    );
-    expect_nonce(&rt, &server, Some("AAAAAAAAAAAAAAAA"));
-    assert_eq!(rt;
-        knocked(rt.alloc(), &mut server, address(2), ONES)?,
-        UNAUTHORIZED
-    );
-    assert!(rt; server.nonce_for_client(address(2)) == Some("BBBBBBBBBBBBBBBB"));
-    expect_nonce(&rt, &server, Some("AAAAAAAAAAAAAAAA"));
-    Ok(())
-}
-
-/// Checks the supported algorithms.
-fn expect_supported<A: Allocator + Copy>(
-    rt: &impl Abort,
-    server: &LongTermServerAuth<A>,
-    expected: &[IntegrityAlgorithm],
-) {
-    assert!(rt; server.supported_integrity() == expected);
+    const STEPS: &[Step<'static>] = &[
+        Step::Begin(Begin::Sha1(Feature::Disabled)),
+        Step::Request(&[], UNAUTHORIZED),
+        Step::Draw(&ONES),
+        Step::Request(&[], UNAUTHORIZED),
+        Step::Nonce(Some("AAAAAAAAAAAAAAAA")),
+        Step::From(Place::Second),
+        Step::Request(&[], UNAUTHORIZED),
+        Step::Nonce(Some("BBBBBBBBBBBBBBBB")),
+        Step::From(Place::First),
+        Step::Nonce(Some("AAAAAAAAAAAAAAAA")),
+    ];
+    play(rt.alloc(), STEPS)
 }
 
 #[test]
 fn algorithms_stand_once_the_strongest_first(rt: HostRuntime) -> Result<(), Fail> {
-    let mut server = sha1_server(rt.alloc(), Feature::Auto)?;
-    expect_supported(&rt, &server, &[IntegrityAlgorithm::Sha1]);
-    let both = [IntegrityAlgorithm::Sha256, IntegrityAlgorithm::Sha1];
-    server.add_supported_integrity(IntegrityAlgorithm::Sha256);
-    expect_supported(&rt, &server, &both);
-    server.add_supported_integrity(IntegrityAlgorithm::Sha256);
-    expect_supported(&rt, &server, &both);
-    Ok(())
+    const STEPS: &[Step<'static>] = &[
+        Step::Begin(Begin::Sha1(Feature::Auto)),
+        Step::Algorithms(&[IntegrityAlgorithm::Sha1]),
+        Step::AddAlgorithm(IntegrityAlgorithm::Sha256),
+        Step::Algorithms(&[IntegrityAlgorithm::Sha256, IntegrityAlgorithm::Sha1]),
+        Step::AddAlgorithm(IntegrityAlgorithm::Sha256),
+        Step::Algorithms(&[IntegrityAlgorithm::Sha256, IntegrityAlgorithm::Sha1]),
+    ];
+    play(rt.alloc(), STEPS)
 }
 
 #[test]
 fn one_algorithm_alone_is_set(rt: HostRuntime) -> Result<(), Fail> {
-    let mut server = sha256_server(rt.alloc(), Feature::Auto)?;
-    expect_supported(&rt, &server, &[IntegrityAlgorithm::Sha256]);
-    server.add_supported_integrity(IntegrityAlgorithm::Sha1);
-    expect_supported(
-        &rt,
-        &server,
-        &[IntegrityAlgorithm::Sha256, IntegrityAlgorithm::Sha1],
-    );
-    Ok(())
+    const STEPS: &[Step<'static>] = &[
+        Step::Begin(Begin::Sha256(Feature::Auto)),
+        Step::Algorithms(&[IntegrityAlgorithm::Sha256]),
+        Step::AddAlgorithm(IntegrityAlgorithm::Sha1),
+        Step::Algorithms(&[IntegrityAlgorithm::Sha256, IntegrityAlgorithm::Sha1]),
+    ];
+    play(rt.alloc(), STEPS)
 }
 
 #[test]
 fn settings_are_told(rt: HostRuntime) -> Result<(), Fail> {
-    let mut server = LongTermServerAuth::new(rt.alloc(), String::from_str(rt.alloc(), "realm")?);
-    assert_eq!(rt; server.realm(), "realm");
-    assert_eq!(rt; server.anonymous_username(), Feature::Auto);
-    server.set_anonymous_username(Feature::Required)?;
-    assert_eq!(rt; server.anonymous_username(), Feature::Required);
-    Ok(())
+    const STEPS: &[Step<'static>] = &[
+        Step::Begin(Begin::New),
+        Step::Realm("realm"),
+        Step::Anonymous(Feature::Auto),
+        Step::SetAnonymous(Feature::Required),
+        Step::Anonymous(Feature::Required),
+    ];
+    play(rt.alloc(), STEPS)
 }
 
 #[test]

@@ -7,5 +7,6 @@ pub mod datagrams;
 pub mod parts;
 pub mod secrets;
 pub mod server;
+pub mod server_steps;
 pub mod spelled;
 pub mod words;

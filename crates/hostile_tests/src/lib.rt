@@ -1,4 +1,5 @@
-//! Tests of a server before hostile messages, of what it shows of itself, and of what signing refuses.
+//! Tests of a server before hostile messages, of what it shows of itself, and of what signing
+//! refuses.
 #![tactic(auto)]
 
 #[cfg(test)]

@@ -1,12 +1,14 @@
-//! Malformed, repeated and forged messages at a server (RFC 8489, sections 9.2.4 and 14), spelled byte by byte.
+//! Malformed, repeated and forged messages at a server (RFC 8489, sections 9.2.4 and 14), spelled
+//! byte by byte.
 //!
-//! Of two attributes of one type the last counts, and one that is malformed counts as none. The digests are those of Python's
-//! module `hmac`, over the messages as they are here.
+//! Of two attributes of one type the last counts, and one that is malformed counts as none. The
+//! digests are those of Python's module `hmac`, over the messages as they are here.
 use std::alloc::Global;
 use std::process::Abort;
 use std::test::Fail;
+use stun_auth::auth::LongTermServerAuth;
 use stun_types::attribute::Username;
-use stun_types::message::{IntegrityAlgorithm, Message};
+use stun_types::message::Message;
 use test_support::server::{
     Answer, BAD_REQUEST, SHA1, SHA256, STALE_NONCE, UNAUTHORIZED, ZEROS, address, asked,
     offering_server, plain_server,
@@ -106,101 +108,133 @@ const TURNED_NAMES: &str = "0001004c 2112a442 000000000000000000000001
     00060004 75736572 00060006 6e6f626f64790000
     00080014 9978c8ccc7600b41888092fc771285d06b5ae837";
 
-/// Checks the answer to bytes at a server with plain names, or at one that has offered both algorithms.
-fn expect_bytes(
-    rt: &impl Abort,
-    alloc: Global,
-    offers: bool,
-    bytes: &[u8],
-    expected: Answer,
-) -> Result<(), Fail> {
-    let mut server = if offers {
-        offering_server(alloc, alloc)?
-    } else {
-        plain_server(alloc, alloc)?
-    };
-    let answer = asked(&mut server, bytes, (address(1), 0), ZEROS)?;
-    assert_eq!(rt; answer, expected);
-    Ok(())
+/// What comes before the 764 letters `a` of a long REALM, and after them.
+const BEFORE_LONG_REALM: &str = "00010334 2112a442 000000000000000000000001
+    00150010 41414141414141414141414141414141 001402fc";
+
+const AFTER_LONG_REALM: &str =
+    "00060004 75736572 00080014 6483810570b298369ec7ef48dc132f9cdd315a27";
+
+/// A message that comes from the first address to a server of its own, and the answer. After a
+/// success the client there is `user` with the algorithm of the answer, and after a refusal none is
+/// known.
+#[derive(Clone, Copy)]
+enum Exchange {
+    /// The server has HMAC-SHA1 and plain names.
+    Plain(&'static str, Answer),
+    /// The server has both algorithms and hashed names, and has offered its list.
+    Offering(&'static str, Answer),
 }
 
-/// Checks the answers to the messages that these digits spell.
-fn expect_each(
-    rt: &impl Abort,
-    alloc: Global,
-    offers: bool,
-    messages: &[&str],
-    expected: Answer,
-) -> Result<(), Fail> {
-    for digits in messages {
-        let bytes = bytes_of(alloc, digits)?;
-        expect_bytes(rt, alloc, offers, bytes.as_slice(), expected)?;
+/// Plays each exchange in turn.
+fn play(rt: &impl Abort, alloc: Global, exchanges: &[Exchange]) -> Result<(), Fail> {
+    for exchange in exchanges {
+        play_one(rt, alloc, *exchange)?;
     }
     Ok(())
 }
 
+fn play_one(rt: &impl Abort, alloc: Global, exchange: Exchange) -> Result<(), Fail> {
+    let (mut server, digits, expected) = match exchange {
+        Exchange::Plain(digits, expected) => (plain_server(alloc, alloc)?, digits, expected),
+        Exchange::Offering(digits, expected) => (offering_server(alloc, alloc)?, digits, expected),
+    };
+    let bytes = bytes_of(alloc, digits)?;
+    expect_answer(rt, &mut server, bytes.as_slice(), expected)
+}
+
+fn expect_answer(
+    rt: &impl Abort,
+    server: &mut LongTermServerAuth,
+    bytes: &[u8],
+    expected: Answer,
+) -> Result<(), Fail> {
+    let answer = asked(server, bytes, (address(1), 0), ZEROS)?;
+    assert_eq!(rt; answer, expected);
+    expect_client(rt, server, expected);
+    Ok(())
+}
+
+fn expect_client(rt: &impl Abort, server: &LongTermServerAuth, answer: Answer) {
+    match answer {
+        Ok(algorithm) => assert_eq!(rt; server.client(address(1)), Some(("user", algorithm))),
+        Err(_) => assert_eq!(rt; server.client(address(1)), None),
+    }
+}
+
 #[test]
 fn what_does_not_count_does_no_harm(rt: HostRuntime) -> Result<(), Fail> {
-    let messages = [SHORT_HASH, TWO_NONCES, OTHER_REALM];
-    expect_each(&rt, rt.alloc(), false, &messages, SHA1)?;
-    expect_each(&rt, rt.alloc(), true, &[NO_LIST], SHA1)
+    const EXCHANGES: &[Exchange] = &[
+        Exchange::Plain(SHORT_HASH, SHA1),
+        Exchange::Plain(TWO_NONCES, SHA1),
+        Exchange::Plain(OTHER_REALM, SHA1),
+        Exchange::Offering(NO_LIST, SHA1),
+    ];
+    play(&rt, rt.alloc(), EXCHANGES)
 }
 
 #[test]
 fn forged_messages_are_unauthorized(rt: HostRuntime) -> Result<(), Fail> {
-    let messages = [HASH, WRONG_STRONGER, SHORT_DIGEST];
-    expect_each(&rt, rt.alloc(), false, &messages, UNAUTHORIZED)?;
-    expect_each(&rt, rt.alloc(), true, &[CLEARED_BIT], UNAUTHORIZED)?;
-    expect_each(&rt, rt.alloc(), false, &[WIDE_NONCE], STALE_NONCE)
+    const EXCHANGES: &[Exchange] = &[
+        Exchange::Plain(HASH, UNAUTHORIZED),
+        Exchange::Plain(WRONG_STRONGER, UNAUTHORIZED),
+        Exchange::Plain(SHORT_DIGEST, UNAUTHORIZED),
+        Exchange::Offering(CLEARED_BIT, UNAUTHORIZED),
+    ];
+    play(&rt, rt.alloc(), EXCHANGES)
+}
+
+#[test]
+fn a_forged_nonce_is_stale(rt: HostRuntime) -> Result<(), Fail> {
+    const EXCHANGES: &[Exchange] = &[Exchange::Plain(WIDE_NONCE, STALE_NONCE)];
+    play(&rt, rt.alloc(), EXCHANGES)
 }
 
 #[test]
 fn malformed_messages_are_bad_requests(rt: HostRuntime) -> Result<(), Fail> {
-    let messages = [MALFORMED_NONCE, MALFORMED_NAME, HIDDEN_NAME];
-    expect_each(&rt, rt.alloc(), false, &messages, BAD_REQUEST)?;
-    expect_each(
-        &rt,
-        rt.alloc(),
-        true,
-        &[UNKNOWN_LIST, TURNED_LIST],
-        BAD_REQUEST,
-    )
+    const EXCHANGES: &[Exchange] = &[
+        Exchange::Plain(MALFORMED_NONCE, BAD_REQUEST),
+        Exchange::Plain(MALFORMED_NAME, BAD_REQUEST),
+        Exchange::Plain(HIDDEN_NAME, BAD_REQUEST),
+        Exchange::Offering(UNKNOWN_LIST, BAD_REQUEST),
+        Exchange::Offering(TURNED_LIST, BAD_REQUEST),
+    ];
+    play(&rt, rt.alloc(), EXCHANGES)
 }
 
 /// The algorithm that is told is the key's: either digest may verify under it.
 #[test]
 fn a_weaker_digest_under_the_agreed_key_counts(rt: HostRuntime) -> Result<(), Fail> {
-    expect_each(&rt, rt.alloc(), true, &[WEAKER_DIGEST], SHA256)
+    const EXCHANGES: &[Exchange] = &[Exchange::Offering(WEAKER_DIGEST, SHA256)];
+    play(&rt, rt.alloc(), EXCHANGES)
 }
 
-/// The last name is judged, and told as the client. Who reads the message sees the first.
+/// The last name is judged, and told as the client.
 #[test]
 fn the_last_of_two_names_is_validated(rt: HostRuntime) -> Result<(), Fail> {
-    let alloc = rt.alloc();
-    let mut server = plain_server(alloc, alloc)?;
-    let bytes = bytes_of(alloc, TWO_NAMES)?;
-    let answer = asked(&mut server, bytes.as_slice(), (address(1), 0), ZEROS)?;
-    assert_eq!(rt; answer, SHA1);
-    let told = Some(("user", IntegrityAlgorithm::Sha1));
-    assert_eq!(rt; server.client(address(1)), told);
+    const EXCHANGES: &[Exchange] = &[
+        Exchange::Plain(TWO_NAMES, SHA1),
+        Exchange::Plain(TURNED_NAMES, UNAUTHORIZED),
+    ];
+    play(&rt, rt.alloc(), EXCHANGES)
+}
+
+/// Who reads a message sees the first name.
+#[test]
+fn the_first_of_two_names_is_read(rt: HostRuntime) -> Result<(), Fail> {
+    let bytes = bytes_of(rt.alloc(), TWO_NAMES)?;
     let message = Message::from_bytes(bytes.as_slice())?;
     let first: Username = message.attribute()?;
     assert_eq!(rt; first.username(), "nobody");
-    expect_each(&rt, alloc, false, &[TURNED_NAMES], UNAUTHORIZED)
+    Ok(())
 }
 
-/// REALM of 764 letters `a`, one more than it may have.
+/// REALM is one letter longer than it may be.
 #[test]
 fn a_long_realm_is_none(rt: HostRuntime) -> Result<(), Fail> {
-    let mut bytes = bytes_of(
-        rt.alloc(),
-        "00010334 2112a442 000000000000000000000001 00150010 41414141414141414141414141414141 001402fc",
-    )?;
+    let mut bytes = bytes_of(rt.alloc(), BEFORE_LONG_REALM)?;
     bytes.resize(808, b'a')?;
-    let rest = bytes_of(
-        rt.alloc(),
-        "00060004 75736572 00080014 6483810570b298369ec7ef48dc132f9cdd315a27",
-    )?;
-    bytes.extend_from_slice(&rest)?;
-    expect_bytes(&rt, rt.alloc(), false, bytes.as_slice(), BAD_REQUEST)
+    bytes.extend_from_slice(&bytes_of(rt.alloc(), AFTER_LONG_REALM)?)?;
+    let mut server = plain_server(rt.alloc(), rt.alloc())?;
+    expect_answer(&rt, &mut server, bytes.as_slice(), BAD_REQUEST)
 }

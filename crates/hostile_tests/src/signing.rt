@@ -1,9 +1,9 @@
-//! What signing refuses: each allocation that it asks for in turn, after which the same call succeeds, and the first of two
-//! reasons.
+//! What signing refuses: each allocation that it asks for in turn, after which the same call
+//! succeeds, and the first of two reasons.
 //!
 //! The digests are those of Python's module `hmac`.
 use fail_alloc::RefusingAllocator;
-use std::alloc::{Allocator, Global};
+use std::alloc::{AllocError, Allocator, Global};
 use std::net::SocketAddr;
 use std::process::Abort;
 use std::test::Fail;
@@ -22,13 +22,14 @@ use test_support::server::{
 };
 use test_support::spelled::bytes_of;
 
-/// A password that is just too long to be kept without memory, and the request signed under it.
+/// A password that is just too long to be kept without memory.
 const LONG_PASSWORD: &str = "a password of 33 bytes in letters";
 
+/// The request signed under it.
 const SIGNED_BY_LONG_PASSWORD: &str = "00010018 2112a442 000000000000000000000001
     00080014 17b966a138eb9e653950d41a970dc90572e5dbd7";
 
-/// A challenge with a plain nonce and a list, and the request after it.
+/// A challenge with a plain nonce and a list.
 const CHALLENGE: [Part<'static>; 4] = [
     Part::Code(401),
     Part::Nonce(PLAIN_NONCE),
@@ -36,6 +37,7 @@ const CHALLENGE: [Part<'static>; 4] = [
     Part::List(&[PasswordAlgorithmValue::MD5]),
 ];
 
+/// The request after it.
 const REQUEST: &str =
     "00010050 2112a442 000000000000000000000001 00150010 41414141414141414141414141414141
     00140005 7265616c6d000000 00060004 75736572 80020004 00010000 001d0004 00010000
@@ -52,12 +54,12 @@ type Heap = RefusingAllocator<Global>;
 /// A message that was signed in this memory.
 type Signed<'a> = Result<MessageWriteVec<&'a Heap>, StunWriteError>;
 
-/// Checks what was signed, or that memory was wanting where a refusal was met.
-fn expect_signed(rt: &impl Abort, answer: Signed<'_>, met_none: bool, expected: &[u8]) {
-    match answer {
-        Ok(signed) => assert_eq!(rt; (signed.data(), met_none), (expected, true)),
-        Err(error) => assert_eq!(rt; (error, met_none), (StunWriteError::OutOfMemory, false)),
-    }
+/// The long password, as what signs by HMAC-SHA1.
+fn long_password(heap: &Heap) -> Result<ShortTermAuth<&Heap>, AllocError> {
+    let credentials = ShortTermCredentials::new(String::from_str(heap, LONG_PASSWORD)?);
+    let mut auth = ShortTermAuth::new(heap);
+    auth.set_credentials(credentials, IntegrityAlgorithm::Sha1)?;
+    Ok(auth)
 }
 
 /// Signs a request by a password while the nth allocation is refused, and says whether none was.
@@ -65,45 +67,40 @@ fn password_signs<'a>(
     rt: &impl Abort,
     heap: &'a Heap,
     auth: &mut ShortTermAuth<&'a Heap>,
-    (checks, nth): (bool, u64),
-) -> Result<(Signed<'a>, bool), Fail> {
+    nth: u64,
+) -> Result<(Signed<'a>, bool), StunWriteError> {
+    let writer = begin(MessageClass::Request, MessageWriteVec::new(heap))?;
+    assert_eq!(rt; writer.data().len(), 20);
+    heap.refuse(nth);
+    let answer = auth.sign_outgoing_message(writer);
+    Ok((answer, heap.met_none()))
+}
+
+/// The same unchecked.
+fn password_signs_unchecked<'a>(
+    rt: &impl Abort,
+    heap: &'a Heap,
+    auth: &mut ShortTermAuth<&'a Heap>,
+    nth: u64,
+) -> Result<(Signed<'a>, bool), StunWriteError> {
     let writer = begin(MessageClass::Request, MessageWriteVec::new(heap))?;
     assert_eq!(rt; writer.data().len(), 20);
     assert!(rt; !writer.has_attribute(AttributeType::MESSAGE_INTEGRITY));
     assert!(rt; !writer.has_attribute(AttributeType::MESSAGE_INTEGRITY_SHA256));
     heap.refuse(nth);
-    let answer = if checks {
-        auth.sign_outgoing_message(writer)
-    } else {
-        auth.sign_outgoing_message_unchecked(writer)
-            .map_err(StunWriteError::from)
-    };
-    Ok((answer, heap.met_none()))
+    let answer = auth.sign_outgoing_message_unchecked(writer);
+    Ok((answer.map_err(StunWriteError::from), heap.met_none()))
 }
 
-/// A request under a long password.
-fn request_by_password(
+/// A client that has taken up the challenge.
+fn challenged_client<'a>(
     rt: &impl Abort,
-    (alloc, heap): (Global, &Heap),
-    checks: bool,
-    nth: u64,
-) -> Result<bool, Fail> {
-    let mut auth = ShortTermAuth::new(heap);
-    let credentials = ShortTermCredentials::new(String::from_str(heap, LONG_PASSWORD)?);
-    auth.set_credentials(credentials, IntegrityAlgorithm::Sha1)?;
-    let expected = bytes_of(alloc, SIGNED_BY_LONG_PASSWORD)?;
-    let (answer, met_none) = password_signs(rt, heap, &mut auth, (checks, nth))?;
-    expect_signed(rt, answer, met_none, expected.as_slice());
-    let (again, _) = password_signs(rt, heap, &mut auth, (checks, 0))?;
-    expect_signed(rt, again, true, expected.as_slice());
-    Ok(met_none)
-}
-
-#[test]
-fn a_password_signs_or_not(rt: HostRuntime) -> Result<(), Fail> {
-    let heap = RefusingAllocator::new(rt.alloc());
-    heap.each_refusal(|nth| request_by_password(&rt, (rt.alloc(), &heap), true, nth))?;
-    heap.each_refusal(|nth| request_by_password(&rt, (rt.alloc(), &heap), false, nth))
+    (alloc, heap): (Global, &'a Heap),
+) -> Result<LongTermClientAuth<&'a Heap>, Fail> {
+    let mut client = sha1_client(heap, Feature::Auto)?;
+    let challenge = message(alloc, MessageClass::Error, &CHALLENGE)?;
+    assert_eq!(rt; told(&mut client, challenge.as_slice())?, RESEND);
+    Ok(client)
 }
 
 /// Signs a request unchecked while the nth allocation is refused, and says whether none was.
@@ -123,23 +120,17 @@ fn client_signs<'a>(
     Ok((answer.map_err(StunWriteError::from), heap.met_none()))
 }
 
-/// A request of a client that has taken up the challenge.
-fn request(rt: &impl Abort, (alloc, heap): (Global, &Heap), nth: u64) -> Result<bool, Fail> {
-    let mut client = sha1_client(heap, Feature::Auto)?;
-    let challenge = message(alloc, MessageClass::Error, &CHALLENGE)?;
-    assert_eq!(rt; told(&mut client, challenge.as_slice())?, RESEND);
-    let expected = bytes_of(alloc, REQUEST)?;
-    let (answer, met_none) = client_signs((alloc, heap), &mut client, nth)?;
-    expect_signed(rt, answer, met_none, expected.as_slice());
-    let (again, _) = client_signs((alloc, heap), &mut client, 0)?;
-    expect_signed(rt, again, true, expected.as_slice());
-    Ok(met_none)
-}
-
-#[test]
-fn a_client_signs_unchecked_or_not(rt: HostRuntime) -> Result<(), Fail> {
-    let heap = RefusingAllocator::new(rt.alloc());
-    heap.each_refusal(|nth| request(&rt, (rt.alloc(), &heap), nth))
+/// A server that has validated a client with HMAC-SHA256 at the first address.
+fn server_of_client<A: Allocator + Copy>(
+    rt: &impl Abort,
+    alloc: Global,
+    heap: A,
+) -> Result<LongTermServerAuth<A>, Fail> {
+    let mut server = offering_server(alloc, heap)?;
+    let request = message(alloc, MessageClass::Request, &FULL_REQUEST)?;
+    let accepted = asked(&mut server, request.as_slice(), (address(1), 0), ZEROS)?;
+    assert_eq!(rt; accepted, SHA256);
+    Ok(server)
 }
 
 /// Signs a success unchecked while the nth allocation is refused, and says whether none was.
@@ -161,47 +152,129 @@ fn server_signs<'a>(
     Ok((answer.map_err(StunWriteError::from), heap.met_none()))
 }
 
-/// A server that has validated a client with HMAC-SHA256 at the first address.
-fn server_of_client<A: Allocator + Copy>(
-    rt: &impl Abort,
-    alloc: Global,
-    heap: A,
-) -> Result<LongTermServerAuth<A>, Fail> {
-    let mut server = offering_server(alloc, heap)?;
-    let request = message(alloc, MessageClass::Request, &FULL_REQUEST)?;
-    let accepted = asked(&mut server, request.as_slice(), (address(1), 0), ZEROS)?;
-    assert_eq!(rt; accepted, SHA256);
-    Ok(server)
+/// What signs.
+#[derive(Clone, Copy)]
+enum Side {
+    /// The long password.
+    Password,
+    /// The same unchecked.
+    PasswordUnchecked,
+    /// A client that has taken up the challenge, unchecked.
+    Client,
+    /// A server that has validated a client with HMAC-SHA256, unchecked.
+    Server,
 }
 
-/// A success to a client.
-fn success(rt: &impl Abort, (alloc, heap): (Global, &Heap), nth: u64) -> Result<bool, Fail> {
-    let mut server = server_of_client(rt, alloc, heap)?;
-    let expected = bytes_of(alloc, SUCCESS)?;
-    let (answer, met_none) = server_signs((alloc, heap), &mut server, address(1), nth)?;
-    expect_signed(rt, answer, met_none, expected.as_slice());
-    let (again, _) = server_signs((alloc, heap), &mut server, address(1), 0)?;
-    expect_signed(rt, again, true, expected.as_slice());
+/// One of these sides, in memory that may be refused.
+#[derive(Drop)]
+enum Signer<'a> {
+    Password(ShortTermAuth<&'a Heap>),
+    PasswordUnchecked(ShortTermAuth<&'a Heap>),
+    Client(LongTermClientAuth<&'a Heap>),
+    Server(LongTermServerAuth<&'a Heap>),
+}
+
+impl<'a> Signer<'a> {
+    fn new(
+        rt: &impl Abort,
+        (alloc, heap): (Global, &'a Heap),
+        side: Side,
+    ) -> Result<Signer<'a>, Fail> {
+        Ok(match side {
+            Side::Password => Signer::Password(long_password(heap)?),
+            Side::PasswordUnchecked => Signer::PasswordUnchecked(long_password(heap)?),
+            Side::Client => Signer::Client(challenged_client(rt, (alloc, heap))?),
+            Side::Server => Signer::Server(server_of_client(rt, alloc, heap)?),
+        })
+    }
+
+    /// Signs a message while the nth allocation is refused, and says whether none was.
+    fn sign(
+        &mut self,
+        rt: &impl Abort,
+        (alloc, heap): (Global, &'a Heap),
+        nth: u64,
+    ) -> Result<(Signed<'a>, bool), StunWriteError> {
+        match self {
+            Signer::Password(auth) => password_signs(rt, heap, auth, nth),
+            Signer::PasswordUnchecked(auth) => password_signs_unchecked(rt, heap, auth, nth),
+            Signer::Client(client) => client_signs((alloc, heap), client, nth),
+            Signer::Server(server) => server_signs((alloc, heap), server, address(1), nth),
+        }
+    }
+}
+
+/// Checks what was signed, or that memory was wanting where a refusal was met.
+fn expect_signed(rt: &impl Abort, answer: Signed<'_>, met_none: bool, expected: &[u8]) {
+    match answer {
+        Ok(signed) => assert_eq!(rt; (signed.data(), met_none), (expected, true)),
+        Err(error) => assert_eq!(rt; (error, met_none), (StunWriteError::OutOfMemory, false)),
+    }
+}
+
+/// One side signs a message while the nth allocation is refused, and then while none is. Says
+/// whether none was refused.
+fn signs_twice(
+    rt: &impl Abort,
+    (alloc, heap): (Global, &Heap),
+    (side, nth): (Side, u64),
+    expected: &[u8],
+) -> Result<bool, Fail> {
+    let mut signer = Signer::new(rt, (alloc, heap), side)?;
+    let (answer, met_none) = signer.sign(rt, (alloc, heap), nth)?;
+    expect_signed(rt, answer, met_none, expected);
+    let (again, _) = signer.sign(rt, (alloc, heap), 0)?;
+    expect_signed(rt, again, true, expected);
     Ok(met_none)
+}
+
+/// Checks that a side signs this message, or wants memory at each allocation in turn.
+fn expect_each(rt: &impl Abort, alloc: Global, side: Side, digits: &str) -> Result<(), Fail> {
+    let heap = RefusingAllocator::new(alloc);
+    let expected = bytes_of(alloc, digits)?;
+    heap.each_refusal(|nth| signs_twice(rt, (alloc, &heap), (side, nth), &expected))
+}
+
+#[test]
+fn a_password_signs_or_not(rt: HostRuntime) -> Result<(), Fail> {
+    expect_each(&rt, rt.alloc(), Side::Password, SIGNED_BY_LONG_PASSWORD)
+}
+
+#[test]
+fn a_password_signs_unchecked_or_not(rt: HostRuntime) -> Result<(), Fail> {
+    expect_each(
+        &rt,
+        rt.alloc(),
+        Side::PasswordUnchecked,
+        SIGNED_BY_LONG_PASSWORD,
+    )
+}
+
+#[test]
+fn a_client_signs_unchecked_or_not(rt: HostRuntime) -> Result<(), Fail> {
+    expect_each(&rt, rt.alloc(), Side::Client, REQUEST)
 }
 
 #[test]
 fn a_server_signs_unchecked_or_not(rt: HostRuntime) -> Result<(), Fail> {
-    let heap = RefusingAllocator::new(rt.alloc());
-    heap.each_refusal(|nth| success(&rt, (rt.alloc(), &heap), nth))
+    expect_each(&rt, rt.alloc(), Side::Server, SUCCESS)
 }
 
 /// The digest comes last, so that an attribute that is there is refused before a user who is gone.
 #[test]
 fn the_first_reason_is_told(rt: HostRuntime) -> Result<(), Fail> {
-    let alloc = rt.alloc();
-    let mut server = server_of_client(&rt, alloc, alloc)?;
+    const REFUSALS: &[(&[Part<'static>], StunWriteError)] = &[
+        (
+            &[Part::Choice(PasswordAlgorithmValue::SHA256)],
+            StunWriteError::AttributeExists(AttributeType::PASSWORD_ALGORITHM),
+        ),
+        (&[], StunWriteError::IntegrityFailed),
+    ];
+    let mut server = server_of_client(&rt, rt.alloc(), rt.alloc())?;
     server.remove_user("user");
-    let choice = [Part::Choice(PasswordAlgorithmValue::SHA256)];
-    let exists = StunWriteError::AttributeExists(AttributeType::PASSWORD_ALGORITHM);
-    let answer = signed_bytes(alloc, &mut server, MessageClass::Success, &choice);
-    assert_eq!(rt; answer.err(), Some(exists));
-    let answer = signed_bytes(alloc, &mut server, MessageClass::Success, &[]);
-    assert_eq!(rt; answer.err(), Some(StunWriteError::IntegrityFailed));
+    for (parts, reason) in REFUSALS {
+        let answer = signed_bytes(rt.alloc(), &mut server, MessageClass::Success, parts);
+        assert_eq!(rt; answer.err(), Some(*reason));
+    }
     Ok(())
 }

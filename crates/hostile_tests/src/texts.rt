@@ -6,8 +6,7 @@ use test_support::server::plain_server;
 
 #[test]
 fn a_server_names_its_reasons(rt: HostRuntime) -> Result<(), Fail> {
-    let alloc = rt.alloc();
-    for (reason, text) in [
+    const TEXTS: &[(LongTermServerAuthErrorReason, &str)] = &[
         (
             LongTermServerAuthErrorReason::Unauthorized,
             "The message is not sufficiently authenticated",
@@ -29,16 +28,16 @@ fn a_server_names_its_reasons(rt: HostRuntime) -> Result<(), Fail> {
             "The request presented with an out of date nonce.",
         ),
         (LongTermServerAuthErrorReason::OutOfMemory, "Out of memory"),
-    ] {
-        assert_eq!(rt; format!(in alloc; "{reason}")?.as_str(), text);
+    ];
+    for (reason, text) in TEXTS {
+        assert_eq!(rt; format!(in rt.alloc(); "{reason}")?.as_str(), *text);
     }
     Ok(())
 }
 
 #[test]
 fn a_client_names_its_reasons(rt: HostRuntime) -> Result<(), Fail> {
-    let alloc = rt.alloc();
-    for (reason, text) in [
+    const TEXTS: &[(LongTermClientAuthErrorReason, &str)] = &[
         (
             LongTermClientAuthErrorReason::Unauthorized,
             "The message is not sufficiently authenticated",
@@ -52,8 +51,9 @@ fn a_client_names_its_reasons(rt: HostRuntime) -> Result<(), Fail> {
             "A required feature is not supported",
         ),
         (LongTermClientAuthErrorReason::OutOfMemory, "Out of memory"),
-    ] {
-        assert_eq!(rt; format!(in alloc; "{reason}")?.as_str(), text);
+    ];
+    for (reason, text) in TEXTS {
+        assert_eq!(rt; format!(in rt.alloc(); "{reason}")?.as_str(), *text);
     }
     Ok(())
 }
@@ -61,12 +61,12 @@ fn a_client_names_its_reasons(rt: HostRuntime) -> Result<(), Fail> {
 /// Whatever the formatter asks for, and where a write fails.
 #[test]
 fn debug_shows_nothing_of_a_server(rt: HostRuntime) -> Result<(), Fail> {
-    let alloc = rt.alloc();
-    let server = plain_server(alloc, alloc)?;
-    let texts = shown(alloc, &server)?;
-    assert_eq!(rt; texts[0].as_str(), "LongTermServerAuth { .. }");
     // The user, the realm, the nonce, the password, and a byte of the key.
-    assert!(rt; are_silent(&texts, &["user", "realm", "AAAA", "pass", "147"]));
+    const SECRETS: &[&str] = &["user", "realm", "AAAA", "pass", "147"];
+    let server = plain_server(rt.alloc(), rt.alloc())?;
+    let texts = shown(rt.alloc(), &server)?;
+    assert_eq!(rt; texts[0].as_str(), "LongTermServerAuth { .. }");
+    assert!(rt; are_silent(&texts, SECRETS));
     Ok(())
 }
 

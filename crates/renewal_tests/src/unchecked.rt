@@ -1,5 +1,7 @@
-//! What a client signs is the same message, whether the call checks what it adds or not (RFC 8489, section 9.2.5).
+//! What a client signs is the same message, whether the call checks what it adds or not (RFC 8489,
+//! section 9.2.5).
 use std::alloc::Global;
+use std::process::Abort;
 use std::test::Fail;
 use stun_auth::auth::{Feature, LongTermClientAuth};
 use stun_auth::laws::what_was_signed_may_be_signed;
@@ -25,14 +27,19 @@ fn signed_by_client(
     Ok((checked.finish(), unchecked.finish()))
 }
 
-#[test]
-fn a_client_signs_the_same_unchecked(rt: HostRuntime) -> Result<(), Fail> {
-    let alloc = rt.alloc();
+/// A client that has taken up the challenge of a server with both algorithms.
+fn challenged_client(rt: &impl Abort, alloc: Global) -> Result<LongTermClientAuth, Fail> {
     let mut server = offering_server(alloc, alloc)?;
     let challenge = signed_challenge(alloc, &mut server)?;
     let mut client = full_client(alloc, Feature::Auto)?;
     assert_eq!(rt; told(&mut client, challenge.as_slice())?, RESEND);
-    let (checked, unchecked) = signed_by_client(alloc, &mut client)?;
+    Ok(client)
+}
+
+#[test]
+fn a_client_signs_the_same_unchecked(rt: HostRuntime) -> Result<(), Fail> {
+    let mut client = challenged_client(&rt, rt.alloc())?;
+    let (checked, unchecked) = signed_by_client(rt.alloc(), &mut client)?;
     // As long as a request with a hashed name, a list and HMAC-SHA256 is.
     assert_eq!(rt; checked.len(), 160);
     assert_eq!(rt; checked.as_slice(), unchecked.as_slice());

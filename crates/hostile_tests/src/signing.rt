@@ -230,9 +230,18 @@ fn signs_twice(
 
 /// Checks that a side signs this message, or wants memory at each allocation in turn.
 fn expect_each(rt: &impl Abort, alloc: Global, side: Side, digits: &str) -> Result<(), Fail> {
-    let heap = RefusingAllocator::new(alloc);
     let expected = bytes_of(alloc, digits)?;
-    heap.each_refusal(|nth| signs_twice(rt, (alloc, &heap), (side, nth), &expected))
+    expect_each_refusal(rt, alloc, side, expected.as_slice())
+}
+
+fn expect_each_refusal(
+    rt: &impl Abort,
+    alloc: Global,
+    side: Side,
+    expected: &[u8],
+) -> Result<(), Fail> {
+    let heap = RefusingAllocator::new(alloc);
+    heap.each_refusal(|nth| signs_twice(rt, (alloc, &heap), (side, nth), expected))
 }
 
 #[test]

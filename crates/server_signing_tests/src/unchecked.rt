@@ -1,4 +1,5 @@
-//! What a server signs is the same message, whether the call checks what it adds or not (RFC 8489, section 9.2.4).
+//! What a server signs is the same message, whether the call checks what it adds or not (RFC 8489,
+//! section 9.2.4).
 use std::alloc::Global;
 use std::net::SocketAddr;
 use std::process::Abort;

@@ -42,7 +42,8 @@ fn a_client_is_told_with_its_algorithm(rt: HostRuntime) -> Result<(), Fail> {
     play(rt.alloc(), STEPS)
 }
 
-/// An address with a client keeps its expired nonce; without one it is forgotten, and its memory given back.
+/// An address with a client keeps its expired nonce; without one it is forgotten, and its memory
+/// given back.
 #[test]
 fn an_address_with_a_client_is_kept(rt: HostRuntime) -> Result<(), Fail> {
     const ACTS: &[Act<'static>] = &[
@@ -76,8 +77,8 @@ fn a_current_nonce_is_kept(rt: HostRuntime) -> Result<(), Fail> {
     play(rt.alloc(), STEPS)
 }
 
-/// At an address that was forgotten an old request is stale, and one that repeats an offer is a bad request, since the offer
-/// is forgotten too.
+/// At an address that was forgotten an old request is stale, and one that repeats an offer is a bad
+/// request, since the offer is forgotten too.
 #[test]
 fn a_forgotten_address_is_asked_anew(rt: HostRuntime) -> Result<(), Fail> {
     const STEPS: &[Step<'static>] = &[

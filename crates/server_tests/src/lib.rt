@@ -1,4 +1,5 @@
-//! Tests of what the authenticator of a server answers and keeps, of its settings, and of the memory that it asks for.
+//! Tests of what the authenticator of a server answers and keeps, of its settings, and of the
+//! memory that it asks for.
 #![tactic(auto)]
 
 #[cfg(test)]

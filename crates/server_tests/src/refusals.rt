@@ -1,4 +1,5 @@
-//! Each allocation that a server asks for refused in turn: it is then as before, and the call succeeds when it is made again.
+//! Each allocation that a server asks for refused in turn: it is then as before, and the call
+//! succeeds when it is made again.
 use crate::watched::{Act, Heap, play_acts};
 use fail_alloc::RefusingAllocator;
 use std::alloc::Global;
@@ -27,6 +28,7 @@ enum Call<'a> {
 /// A call, of which each allocation is refused in turn.
 #[derive(Clone, Copy)]
 struct Attempt<'a> {
+    /// What is done before.
     before: &'a [Step<'a>],
     call: Call<'a>,
     /// What is seen once it succeeded.
@@ -99,6 +101,7 @@ fn sign_short<'a>(
     })
 }
 
+/// Makes a call while its nth allocation is refused.
 fn call_short<'a>(
     rt: &impl Abort,
     heap: &'a Heap,

@@ -46,7 +46,8 @@ fn refusals_take_no_memory(rt: HostRuntime) -> Result<(), Fail> {
     play_acts(&rt, rt.alloc(), ACTS)
 }
 
-/// A client who is kept already does not allocate. The same user with another algorithm does, and is another client.
+/// A client who is kept already does not allocate. The same user with another algorithm does, and
+/// is another client.
 #[test]
 fn a_kept_client_takes_no_memory(rt: HostRuntime) -> Result<(), Fail> {
     const ACTS: &[Act<'static>] = &[

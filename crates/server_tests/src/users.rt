@@ -18,7 +18,8 @@ const SECOND_REQUEST: &str = "00010044 2112a442 000000000000000000000001
 const HASHED_REQUEST: &str = "0001006c 2112a442 000000000000000000000001
     0015001d 6f624d61744a6f73325141414141414141414141414141414141414141000000
     00140005 7265616c6d000000
-    001e0020 dc4db732e97774ca4c91757e53c5ccf6fd6891804c3ba74650075c34b4fc8a7c 00080014 5ce069b247942b1ad9a88c9c78939f593b883498";
+    001e0020 dc4db732e97774ca4c91757e53c5ccf6fd6891804c3ba74650075c34b4fc8a7c
+    00080014 5ce069b247942b1ad9a88c9c78939f593b883498";
 
 /// The second user takes the place of the first at its address, and the other way round.
 #[test]
@@ -44,7 +45,7 @@ fn a_hash_names_a_second_user(rt: HostRuntime) -> Result<(), Fail> {
     const STEPS: &[Step<'static>] = &[
         Step::Begin(Begin::Sha1(Feature::Auto)),
         Step::AddUser("other", LONG_PASSWORD),
-        Step::From(Place::Sixth),
+        Step::From(Place::Ipv6),
         Step::Request(&[], UNAUTHORIZED),
         Step::Spelled(HASHED_REQUEST, SHA1),
     ];

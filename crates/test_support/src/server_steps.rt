@@ -20,10 +20,11 @@ use stun_types::message::{
 };
 use stun_types::prelude::*;
 
-/// How a server of the realm `realm` begins. All but a new one have the user `user` with the password `pass`.
+/// How a server of the realm `realm` begins. All but a new one have the user `user`, who has the
+/// password `pass`.
 #[derive(Clone, Copy)]
 pub enum Begin {
-    /// No user is there, and nothing is set.
+    /// Without a user, and nothing is set.
     New,
     /// With HMAC-SHA1 alone.
     Sha1(Feature),
@@ -33,11 +34,12 @@ pub enum Begin {
     Full(Feature),
     /// With HMAC-SHA1 and plain names; its nonce is current for the first address.
     Plain,
-    /// With both algorithms and hashed names; its nonce is current for the first address, to which its list was offered.
+    /// With both algorithms and hashed names; its nonce is current for the first address, to which
+    /// its list was offered.
     Offering,
 }
 
-/// An address of a client.
+/// The address of a client.
 #[derive(Clone, Copy)]
 pub enum Place {
     /// 10.0.0.1, port 12345.
@@ -45,13 +47,14 @@ pub enum Place {
     /// 10.0.0.2, port 12345.
     Second,
     /// 2001:db8::1, port 3478.
-    Sixth,
+    Ipv6,
 }
 
 /// A step of a script: what is done to the server, or what must be seen of it.
 #[derive(Clone, Copy)]
 pub enum Step<'a> {
-    /// A server begins, at the first moment; its client is at the first address, and the words that it draws are zeros.
+    /// A server begins, in the place of the one before. It is the first moment, the client is at
+    /// the first address, and the server draws zeros.
     Begin(Begin),
     /// From here on the client is at this address.
     From(Place),
@@ -60,51 +63,60 @@ pub enum Step<'a> {
     /// From here on the server draws these random words.
     Draw(&'a [u32; 16]),
 
-    /// A request of the client has these attributes, and this is its answer.
+    /// A request of the client with these attributes, and its answer.
     Request(&'a [Part<'a>], Answer),
-    /// The same of an indication.
+    /// An indication of the client with these attributes, and its answer.
     Indication(&'a [Part<'a>], Answer),
-    /// The same of a success.
+    /// A success of the client with these attributes, and its answer.
     Success(&'a [Part<'a>], Answer),
-    /// The same of the message that these digits spell.
+    /// A message of the client that these digits spell, and its answer.
     Spelled(&'a str, Answer),
 
     /// A user of this name is added with this password.
     AddUser(&'a str, &'a str),
+    /// The user of this name is removed.
     RemoveUser(&'a str),
+    /// The client of the address is forgotten.
     RemoveClient,
+    /// This algorithm is supported too.
     AddAlgorithm(IntegrityAlgorithm),
+    /// This algorithm alone is supported.
     SetAlgorithm(IntegrityAlgorithm),
+    /// It is said whether users may be named by a hash.
     SetAnonymous(Feature),
     /// Nonces that are made from here on last 30 seconds.
     ShortenNonces,
+    /// The addresses without a client whose nonces have expired are forgotten.
     ForgetExpired,
 
-    /// A 401 to the client is signed, which offers the algorithms.
+    /// A 401 to the client is signed, which offers it the algorithms.
     Challenge,
-    /// A message to the client that has these attributes is spelled by these digits once it is signed.
+    /// A message to the client with these attributes, and the digits that spell it once it is
+    /// signed.
     Signed(MessageClass, &'a [Part<'a>], &'a str),
-    /// A message to the client is so long once it is signed.
+    /// A message to the client, and how many bytes it has once it is signed.
     SignedLength(MessageClass, usize),
-    /// A success to the client is signed in a slice of so many bytes, and then spelled by these digits; or it is not.
+    /// A success to the client in a slice of so many bytes, and the digits that spell it once it is
+    /// signed, or why it is not.
     SignedInSlice(usize, Result<&'a str, StunWriteError>),
-    /// A message to the client that has these attributes is not signed.
+    /// A message to the client with these attributes, and why it is not signed.
     NotSigned(MessageClass, &'a [Part<'a>], StunWriteError),
 
-    /// The nonce of the client.
+    /// The nonce of the client's address.
     Nonce(Option<&'a str>),
-    /// The user and the algorithm of the client, where it was validated.
+    /// The user whom the server tells as the client of the address, with the algorithm.
     Client(Option<(&'a str, IntegrityAlgorithm)>),
     /// How many bytes signing adds to a request to the client and to a response.
     Sizes(usize, usize),
-    /// The supported algorithms.
+    /// The supported algorithms, the strongest first.
     Algorithms(&'a [IntegrityAlgorithm]),
-    /// Whether users may be named by a hash.
+    /// What the server tells of whether users may be named by a hash.
     Anonymous(Feature),
+    /// The realm.
     Realm(&'a str),
 }
 
-/// A server to which the steps of scripts are done.
+/// Where scripts are played: a server, its client, the moment, and the words that are drawn next.
 #[derive(Drop)]
 pub struct Stage<A: Allocator + Copy> {
     alloc: Global,
@@ -113,7 +125,7 @@ pub struct Stage<A: Allocator + Copy> {
     client: SocketAddr,
     nanos: u64,
     words: [u32; 16],
-    /// How many steps were begun.
+    /// How many steps were played, so that a failure tells which it was.
     steps: u64,
 }
 
@@ -137,7 +149,7 @@ fn address_of(place: Place) -> SocketAddr {
     match place {
         Place::First => address(1),
         Place::Second => address(2),
-        Place::Sixth => {
+        Place::Ipv6 => {
             let ip = Ipv6Addr::new(0x2001, 0xdb8, 0, 0, 0, 0, 0, 1);
             SocketAddr::new(IpAddr::V6(ip), 3478)
         }
@@ -145,7 +157,7 @@ fn address_of(place: Place) -> SocketAddr {
 }
 
 impl<A: Allocator + Copy> Stage<A> {
-    /// A stage for scripts, each of which has a server begin. The server allocates on the heap.
+    /// A stage for scripts that have their server begin. Servers allocate on the heap.
     pub fn new(alloc: Global, heap: A) -> Self {
         Stage {
             alloc,
@@ -338,7 +350,7 @@ impl<A: Allocator + Copy> Stage<A> {
     }
 }
 
-/// Plays a script of a server that allocates where all else does.
+/// Plays a script of servers that allocate where all else does.
 pub fn play(alloc: Global, steps: &[Step<'_>]) -> Result<(), Fail> {
     let mut stage = Stage::new(alloc, alloc);
     stage.play(steps)

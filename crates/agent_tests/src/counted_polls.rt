@@ -1,7 +1,9 @@
 //! A poll that counts what it reads answers as one that does not.
 ghost use Rattle.stun_agent.specs.Deadlines.{IsUnused};
 
-use crate::answers::wait;
+use crate::answers::Answer;
+use crate::calls::{Call, Line, play_on};
+use crate::tables::OVER_UDP;
 use std::alloc::Allocator;
 use std::marker::Brand;
 use std::sync::ledger::{Blank, Ledger};
@@ -9,7 +11,7 @@ use std::test::Fail;
 use stun_agent::agent::{StunAgent, StunAgentPollRet};
 use stun_base::instant::Instant;
 use stun_base::transport::TransportType;
-use test_support::datagrams::{REQUEST, at, id, local, message, peer};
+use test_support::datagrams::at;
 
 /// What a poll answers that begins to count.
 fn counted<L: Ledger, A: Allocator + Copy>(
@@ -23,20 +25,27 @@ fn counted<L: Ledger, A: Allocator + Copy>(
     answer
 }
 
+/// Polls, and counts what is read.
+fn poll(agent: &mut StunAgent, now: Instant) -> StunAgentPollRet {
+    counted::<Brand, _>(agent, now, Blank::new(1))
+}
+
 #[test]
 fn a_counted_poll_answers_as_a_poll(rt: HostRuntime) -> Result<(), Fail> {
-    let mut agent = StunAgent::builder(rt.alloc(), TransportType::Udp, local()).build();
-    let _first = agent.send_request(message(REQUEST, 1), peer(), at(0))?;
-    let _second = agent.send_request(message(REQUEST, 2), peer(), at(100))?;
-    let answer = counted::<Brand, _>(&mut agent, at(100), Blank::new(1));
-    assert_eq!(rt; answer, wait(500));
-    match agent.mut_request_transaction(id(2)?) {
-        Some(mut request) => request.cancel(),
-        None => {}
-    }
-    let answer = counted::<Brand, _>(&mut agent, at(100), Blank::new(1));
-    assert_eq!(rt; answer, StunAgentPollRet::TransactionCancelled(id(2)?));
-    let answer = counted::<Brand, _>(&mut agent, at(600), Blank::new(1));
-    assert_eq!(rt; answer, wait(600));
+    const TWO_ASKED: &[Line] = &[(0, Call::Ask(1)), (100, Call::Ask(2))];
+    const SECOND_CANCELLED: &[Line] = &[(100, Call::Cancel(2))];
+    let memory = (rt.alloc(), TransportType::Udp);
+    let mut agent = OVER_UDP.agent(rt.alloc());
+    play_on(&rt, &mut agent, memory, TWO_ASKED)?;
+    assert_eq!(rt;
+        poll(&mut agent, at(100)),
+        Answer::WaitUntil(500).of_poll()?
+    );
+    play_on(&rt, &mut agent, memory, SECOND_CANCELLED)?;
+    assert_eq!(rt; poll(&mut agent, at(100)), Answer::Cancelled(2).of_poll()?);
+    assert_eq!(rt;
+        poll(&mut agent, at(600)),
+        Answer::WaitUntil(600).of_poll()?
+    );
     Ok(())
 }

@@ -10,7 +10,11 @@ mod application;
 #[cfg(test)]
 mod authenticator_first;
 #[cfg(test)]
+mod calls;
+#[cfg(test)]
 mod counted_polls;
+#[cfg(test)]
+mod counts;
 #[cfg(test)]
 mod long_requests;
 #[cfg(test)]
@@ -18,11 +22,13 @@ mod memory;
 #[cfg(test)]
 mod new_statistics;
 #[cfg(test)]
+mod perform;
+#[cfg(test)]
 mod requests;
 #[cfg(test)]
 mod statistics;
 #[cfg(test)]
-mod steps;
+mod tables;
 #[cfg(test)]
 mod timeouts;
 #[cfg(test)]

@@ -1,213 +1,231 @@
 //! Requests of an agent: when they are sent again, and how they end.
-use crate::answers::wait;
+use crate::answers::{Answer, LAST_MOMENT};
+use crate::calls::{Call, Line, play};
+use crate::tables::Place::{self, Peer};
+use crate::tables::{Built, Datagram, ONE_SECOND, OVER_TCP, OVER_UDP, Span, Waits};
+use std::alloc::Global;
+use std::process::Abort;
 use std::test::Fail;
 use std::time::Duration;
-use stun_agent::agent::{StunAgent, StunAgentPollRet, StunError};
-use stun_base::instant::Instant;
+use stun_agent::agent::{StunAgent, StunError, StunRequestMut};
 use stun_base::transport::TransportType;
 use stun_types::message::{Message, StunParseError};
-use test_support::datagrams::{
-    ERROR, INDICATION, REQUEST, SUCCESS, address, at, id, local, mapped, message, peer,
-};
+use test_support::datagrams::{REQUEST, at, id, local, mapped, message, peer};
+
+/// Builds an agent and checks what it tells of how it was built.
+fn expect_built(rt: &impl Abort, alloc: Global, built: Built) {
+    let agent = built.agent(alloc);
+    assert_eq!(rt; agent.transport(), built.transport);
+    assert_eq!(rt; agent.local_addr(), built.local.address());
+    match built.remote {
+        Some(remote) => assert_eq!(rt; agent.remote_addr(), Some(remote.address())),
+        None => assert_eq!(rt; agent.remote_addr(), None),
+    }
+}
 
 #[test]
 fn an_agent_tells_how_it_was_built(rt: HostRuntime) -> Result<(), Fail> {
-    let builder = StunAgent::builder(rt.alloc(), TransportType::Tcp, local());
-    let mut agent = builder.remote_addr(peer()).build();
-    assert_eq!(rt; agent.transport(), TransportType::Tcp);
-    assert_eq!(rt;
-        (agent.local_addr(), agent.remote_addr()),
-        (local(), Some(peer()))
-    );
-    let sent = agent.send_request(message(REQUEST, 1), peer(), at(0))?;
-    assert_eq!(rt; sent.transport, TransportType::Tcp);
-    let agent = StunAgent::builder(rt.alloc(), TransportType::Udp, peer()).build();
-    assert_eq!(rt; agent.transport(), TransportType::Udp);
-    assert_eq!(rt; (agent.local_addr(), agent.remote_addr()), (peer(), None));
-    Ok(())
+    const BOUND: Built = Built {
+        remote: Some(Peer),
+        ..OVER_TCP
+    };
+    const AT_PEER: Built = Built {
+        local: Peer,
+        ..OVER_UDP
+    };
+    expect_built(&rt, rt.alloc(), BOUND);
+    expect_built(&rt, rt.alloc(), AT_PEER);
+    play(&rt, rt.alloc(), BOUND, &[(0, Call::Ask(1))])
 }
 
 #[test]
 fn a_default_request_is_sent_seven_times(rt: HostRuntime) -> Result<(), Fail> {
-    let mut agent = StunAgent::builder(rt.alloc(), TransportType::Udp, local()).build();
-    let sent = agent.send_request(message(REQUEST, 1), peer(), at(0))?;
-    assert_eq!(rt; sent.data, message(REQUEST, 1).as_slice());
-    assert_eq!(rt;
-        (sent.transport, sent.from, sent.to),
-        (TransportType::Udp, local(), peer())
-    );
-    for moment in [500, 1500, 3500, 7500, 15500, 31500] {
-        assert_eq!(rt; agent.poll(at(0)), wait(moment));
-        assert!(rt; agent.poll_transmit(at(moment - 1)).is_none());
-        let again = agent.poll_transmit(at(moment)).ok_or("it is sent again")?;
-        assert_eq!(rt; again.data, message(REQUEST, 1).as_slice());
-        assert_eq!(rt; again.to, peer());
-        assert!(rt; agent.poll_transmit(at(moment)).is_none());
-    }
-    assert_eq!(rt; agent.poll(at(39499)), wait(39500));
-    assert_eq!(rt;
-        agent.poll(at(39500)),
-        StunAgentPollRet::TransactionTimedOut(id(1)?)
-    );
-    assert!(rt; agent.request_transaction(id(1)?).is_none());
-    assert!(rt; !agent.is_validated_peer(peer()));
-    Ok(())
+    const LINES: &[Line] = &[
+        (0, Call::Ask(1)),
+        (0, Call::Poll(Answer::WaitUntil(500))),
+        (499, Call::PollTransmit(None)),
+        (500, Call::PollTransmit(Some(1))),
+        (500, Call::PollTransmit(None)),
+        (0, Call::Poll(Answer::WaitUntil(1500))),
+        (1499, Call::PollTransmit(None)),
+        (1500, Call::PollTransmit(Some(1))),
+        (1500, Call::PollTransmit(None)),
+        (0, Call::Poll(Answer::WaitUntil(3500))),
+        (3499, Call::PollTransmit(None)),
+        (3500, Call::PollTransmit(Some(1))),
+        (3500, Call::PollTransmit(None)),
+        (0, Call::Poll(Answer::WaitUntil(7500))),
+        (7499, Call::PollTransmit(None)),
+        (7500, Call::PollTransmit(Some(1))),
+        (7500, Call::PollTransmit(None)),
+        (0, Call::Poll(Answer::WaitUntil(15500))),
+        (15499, Call::PollTransmit(None)),
+        (15500, Call::PollTransmit(Some(1))),
+        (15500, Call::PollTransmit(None)),
+        (0, Call::Poll(Answer::WaitUntil(31500))),
+        (31499, Call::PollTransmit(None)),
+        (31500, Call::PollTransmit(Some(1))),
+        (31500, Call::PollTransmit(None)),
+        (39499, Call::Poll(Answer::WaitUntil(39500))),
+        (39500, Call::Poll(Answer::TimedOut(1))),
+        (39500, Call::IsOver(1)),
+        (39500, Call::IsValidated(Peer, false)),
+    ];
+    play(&rt, rt.alloc(), OVER_UDP, LINES)
 }
 
 #[test]
 fn timeouts_can_be_configured(rt: HostRuntime) -> Result<(), Fail> {
-    let mut agent = StunAgent::builder(rt.alloc(), TransportType::Udp, local()).build();
-    let _sent = agent.send_request(message(REQUEST, 1), peer(), at(0))?;
-    agent
-        .mut_request_transaction(id(1)?)
-        .ok_or("it is outstanding")?
-        .configure_timeout_with_max(
-            Duration::from_secs(1),
-            4,
-            Duration::from_secs(10),
-            Duration::from_secs(2),
-        );
-    for moment in [1000, 3000, 5000] {
-        assert_eq!(rt; agent.poll(at(0)), wait(moment));
-        // One that is due and not yet taken is awaited now.
-        assert_eq!(rt; agent.poll(at(moment)), wait(moment));
-        assert!(rt; agent.poll_transmit(at(moment)).is_some());
-    }
-    assert_eq!(rt; agent.poll(at(5000)), wait(15000));
-    assert_eq!(rt;
-        agent.poll(at(15000)),
-        StunAgentPollRet::TransactionTimedOut(id(1)?)
-    );
-    Ok(())
+    const WAITS: Waits = Waits {
+        initial: Span::Seconds(1),
+        max: Some(Span::Seconds(2)),
+        retransmits: 4,
+        last_retransmit: Span::Seconds(10),
+    };
+    // A transmission that is due and not yet taken is awaited now.
+    const LINES: &[Line] = &[
+        (0, Call::Ask(1)),
+        (0, Call::Configure(1, WAITS)),
+        (0, Call::Poll(Answer::WaitUntil(1000))),
+        (1000, Call::Poll(Answer::WaitUntil(1000))),
+        (1000, Call::PollTransmit(Some(1))),
+        (0, Call::Poll(Answer::WaitUntil(3000))),
+        (3000, Call::Poll(Answer::WaitUntil(3000))),
+        (3000, Call::PollTransmit(Some(1))),
+        (0, Call::Poll(Answer::WaitUntil(5000))),
+        (5000, Call::Poll(Answer::WaitUntil(5000))),
+        (5000, Call::PollTransmit(Some(1))),
+        (5000, Call::Poll(Answer::WaitUntil(15000))),
+        (15000, Call::Poll(Answer::TimedOut(1))),
+    ];
+    play(&rt, rt.alloc(), OVER_UDP, LINES)
 }
 
 #[test]
 fn the_least_id_ends_first(rt: HostRuntime) -> Result<(), Fail> {
-    let mut agent = StunAgent::builder(rt.alloc(), TransportType::Udp, local()).build();
-    for number in [3, 2, 1] {
-        let _sent = agent.send_request(message(REQUEST, number), peer(), at(0))?;
-    }
-    for (number, last) in [(2, 1), (1, 2)] {
-        agent
-            .mut_request_transaction(id(number)?)
-            .ok_or("it is outstanding")?
-            .configure_timeout(Duration::from_millis(500), 1, Duration::from_secs(last));
-    }
-    agent
-        .mut_request_transaction(id(3)?)
-        .ok_or("it is outstanding")?
-        .cancel();
-    assert_eq!(rt;
-        agent.poll(at(3000)),
-        StunAgentPollRet::TransactionTimedOut(id(1)?)
-    );
-    assert_eq!(rt;
-        agent.poll(at(3000)),
-        StunAgentPollRet::TransactionTimedOut(id(2)?)
-    );
-    assert_eq!(rt;
-        agent.poll(at(3000)),
-        StunAgentPollRet::TransactionCancelled(id(3)?)
-    );
-    assert_eq!(rt; agent.poll(at(3000)), wait(3603000));
-    assert_eq!(rt; agent.next_awaited(), None);
-    Ok(())
+    const TWO_SECONDS: Waits = Waits {
+        last_retransmit: Span::Seconds(2),
+        ..ONE_SECOND
+    };
+    const LINES: &[Line] = &[
+        (0, Call::Ask(3)),
+        (0, Call::Ask(2)),
+        (0, Call::Ask(1)),
+        (0, Call::Configure(2, ONE_SECOND)),
+        (0, Call::Configure(1, TWO_SECONDS)),
+        (0, Call::Cancel(3)),
+        (3000, Call::Poll(Answer::TimedOut(1))),
+        (3000, Call::Poll(Answer::TimedOut(2))),
+        (3000, Call::Poll(Answer::Cancelled(3))),
+        (3000, Call::Poll(Answer::WaitUntil(3603000))),
+        (3000, Call::NextAwaited(None)),
+    ];
+    play(&rt, rt.alloc(), OVER_UDP, LINES)
 }
 
 #[test]
 fn the_least_id_is_sent_first(rt: HostRuntime) -> Result<(), Fail> {
-    let mut agent = StunAgent::builder(rt.alloc(), TransportType::Udp, local()).build();
-    let _second = agent.send_request(message(REQUEST, 2), peer(), at(0))?;
-    let _first = agent.send_request(message(REQUEST, 1), peer(), at(200))?;
-    for number in [1, 2] {
-        let again = agent.poll_transmit(at(1000)).ok_or("it is sent again")?;
-        assert_eq!(rt; again.data, message(REQUEST, number).as_slice());
-    }
-    assert!(rt; agent.poll_transmit(at(1000)).is_none());
-    Ok(())
+    const LINES: &[Line] = &[
+        (0, Call::Ask(2)),
+        (200, Call::Ask(1)),
+        (1000, Call::PollTransmit(Some(1))),
+        (1000, Call::PollTransmit(Some(2))),
+        (1000, Call::PollTransmit(None)),
+    ];
+    play(&rt, rt.alloc(), OVER_UDP, LINES)
 }
 
 #[test]
 fn a_cancelled_request_ends_at_the_next_poll(rt: HostRuntime) -> Result<(), Fail> {
-    let mut agent = StunAgent::builder(rt.alloc(), TransportType::Udp, local()).build();
-    let _sent = agent.send_request(message(REQUEST, 1), peer(), at(0))?;
-    agent
-        .mut_request_transaction(id(1)?)
-        .ok_or("it is outstanding")?
-        .cancel();
-    assert!(rt; agent.poll_transmit(at(500)).is_none());
-    assert_eq!(rt; agent.next_awaited(), None);
-    assert_eq!(rt;
-        agent.poll(at(0)),
-        StunAgentPollRet::TransactionCancelled(id(1)?)
-    );
-    assert!(rt; agent.request_transaction(id(1)?).is_none());
-    assert!(rt; !agent.is_validated_peer(peer()));
-    Ok(())
+    const LINES: &[Line] = &[
+        (0, Call::Ask(1)),
+        (0, Call::Cancel(1)),
+        (500, Call::PollTransmit(None)),
+        (500, Call::NextAwaited(None)),
+        (0, Call::Poll(Answer::Cancelled(1))),
+        (0, Call::IsOver(1)),
+        (0, Call::IsValidated(Peer, false)),
+    ];
+    play(&rt, rt.alloc(), OVER_UDP, LINES)
 }
 
 #[test]
 fn a_silent_request_ends_as_cancelled(rt: HostRuntime) -> Result<(), Fail> {
-    for transport in [TransportType::Udp, TransportType::Tcp] {
-        let mut agent = StunAgent::builder(rt.alloc(), transport, local()).build();
-        let _sent = agent.send_request(message(REQUEST, 1), peer(), at(0))?;
-        agent
-            .mut_request_transaction(id(1)?)
-            .ok_or("it is outstanding")?
-            .cancel_retransmissions();
-        for moment in [500, 1500, 3500, 7500, 15500, 31500] {
-            assert!(rt; agent.poll_transmit(at(moment)).is_none());
-        }
-        assert_eq!(rt; agent.poll(at(39499)), wait(39500));
-        assert_eq!(rt;
-            agent.poll(at(39500)),
-            StunAgentPollRet::TransactionCancelled(id(1)?)
-        );
+    const LINES: &[Line] = &[
+        (0, Call::Ask(1)),
+        (0, Call::CancelRetransmissions(1)),
+        (500, Call::PollTransmit(None)),
+        (1500, Call::PollTransmit(None)),
+        (3500, Call::PollTransmit(None)),
+        (7500, Call::PollTransmit(None)),
+        (15500, Call::PollTransmit(None)),
+        (31500, Call::PollTransmit(None)),
+        (39499, Call::Poll(Answer::WaitUntil(39500))),
+        (39500, Call::Poll(Answer::Cancelled(1))),
+    ];
+    for built in [OVER_UDP, OVER_TCP] {
+        play(&rt, rt.alloc(), built, LINES)?;
     }
     Ok(())
 }
 
 #[test]
 fn only_one_response_is_taken(rt: HostRuntime) -> Result<(), Fail> {
-    let mut agent = StunAgent::builder(rt.alloc(), TransportType::Udp, local()).build();
-    let _sent = agent.send_request(message(REQUEST, 1), peer(), at(0))?;
-    let refused = agent
-        .send_request(message(REQUEST, 1), address(3, 3478), at(9))
-        .err();
-    assert_eq!(rt; refused, Some(StunError::AlreadyInProgress));
-    let first = agent.request_transaction(id(1)?).ok_or("the first stays")?;
-    assert_eq!(rt; first.peer_address(), peer());
-    let bytes = message(SUCCESS, 1);
-    let response = Message::from_bytes(&bytes)?;
-    assert!(rt; agent.handle_stun_message(&response, peer())?);
-    assert!(rt; !agent.handle_stun_message(&response, address(3, 3478))?);
-    assert!(rt; agent.is_validated_peer(peer()));
-    assert!(rt; !agent.is_validated_peer(address(3, 3478)));
-    let _indication = agent.send(message(INDICATION, 2), peer(), at(0))?;
-    let bytes = message(ERROR, 2);
-    assert!(rt; !agent.handle_stun_message(&Message::from_bytes(&bytes)?, address(3, 3478))?);
-    Ok(())
+    const OTHER: Place = Place::Other(3, 3478);
+    const TWICE: StunError = StunError::AlreadyInProgress;
+    const LINES: &[Line] = &[
+        (0, Call::Ask(1)),
+        (9, Call::AskRefused(Datagram::Request(1), OTHER, TWICE)),
+        (9, Call::IsOutstanding(1)),
+        (9, Call::Take(Datagram::Success(1), Peer)),
+        (9, Call::Leave(Datagram::Success(1), OTHER)),
+        (9, Call::IsValidated(Peer, true)),
+        (9, Call::IsValidated(OTHER, false)),
+        (0, Call::Send(Datagram::Indication(2))),
+        (0, Call::Leave(Datagram::Error(2), OTHER)),
+    ];
+    play(&rt, rt.alloc(), OVER_UDP, LINES)
 }
 
 #[test]
 fn other_classes_and_headers_are_refused(rt: HostRuntime) -> Result<(), Fail> {
-    let mut agent = StunAgent::builder(rt.alloc(), TransportType::Udp, local()).build();
-    let refused = agent.send(message(REQUEST, 1), peer(), at(0)).err();
-    assert_eq!(rt; refused, Some(StunError::ProtocolViolation));
-    for kind in [INDICATION, SUCCESS, ERROR] {
-        let refused = agent.send_request(message(kind, 1), peer(), at(0)).err();
-        assert_eq!(rt; refused, Some(StunError::ProtocolViolation));
-    }
-    let truncated = Some(StunError::ParseError(StunParseError::Truncated));
-    assert_eq!(rt; agent.send([0; 19], peer(), at(0)).err(), truncated);
-    assert_eq!(rt; agent.send_request([0; 19], peer(), at(0)).err(), truncated);
-    let foreign = Some(StunError::ParseError(StunParseError::NotStun));
-    assert_eq!(rt; agent.send_request([0; 20], peer(), at(0)).err(), foreign);
+    const CLASS: StunError = StunError::ProtocolViolation;
+    const TRUNCATED: StunError = StunError::ParseError(StunParseError::Truncated);
+    const FOREIGN: StunError = StunError::ParseError(StunParseError::NotStun);
+    const SHORT: Datagram = Datagram::Bytes(&[0; 19]);
+    const ZEROS: Datagram = Datagram::Bytes(&[0; 20]);
     // No message has a length that is not a multiple of 4.
-    let mut odd = message(REQUEST, 1);
-    odd[3] = 2;
-    assert_eq!(rt; agent.send_request(odd, peer(), at(0)).err(), foreign);
-    assert_eq!(rt; agent.next_awaited(), None);
+    const ODD: Datagram = Datagram::Bytes(&[
+        0x00, 0x01, 0, 2, 0x21, 0x12, 0xa4, 0x42, 0, 0, 0, 0, 0, 0, 0, 0, 0, 0, 0, 1,
+    ]);
+    const LINES: &[Line] = &[
+        (0, Call::SendRefused(Datagram::Request(1), Peer, CLASS)),
+        (0, Call::AskRefused(Datagram::Indication(1), Peer, CLASS)),
+        (0, Call::AskRefused(Datagram::Success(1), Peer, CLASS)),
+        (0, Call::AskRefused(Datagram::Error(1), Peer, CLASS)),
+        (0, Call::SendRefused(SHORT, Peer, TRUNCATED)),
+        (0, Call::AskRefused(SHORT, Peer, TRUNCATED)),
+        (0, Call::AskRefused(ZEROS, Peer, FOREIGN)),
+        (0, Call::AskRefused(ODD, Peer, FOREIGN)),
+        (0, Call::NextAwaited(None)),
+    ];
+    play(&rt, rt.alloc(), OVER_UDP, LINES)
+}
+
+/// Answers a request through its handle, and changes it when it is gone.
+fn end_and_change(rt: &impl Abort, mut request: StunRequestMut<'_>) -> Result<(), Fail> {
+    let bytes = mapped(1);
+    let response = Message::from_bytes(&bytes)?;
+    assert_eq!(rt;
+        request.mut_agent().handle_stun_message(&response, peer()),
+        Ok(true)
+    );
+    request.cancel_retransmissions();
+    request.cancel();
+    request.configure_timeout(Duration::from_secs(1), 3, Duration::from_secs(2));
+    assert_eq!(rt; request.peer_address(), peer());
+    assert_eq!(rt; request.integrity(), None);
+    assert!(rt; request.agent().request_transaction(id(1)?).is_none());
     Ok(())
 }
 
@@ -215,52 +233,43 @@ fn other_classes_and_headers_are_refused(rt: HostRuntime) -> Result<(), Fail> {
 fn a_request_tells_its_peer_when_it_is_gone(rt: HostRuntime) -> Result<(), Fail> {
     let mut agent = StunAgent::builder(rt.alloc(), TransportType::Udp, local()).build();
     let _sent = agent.send_request(message(REQUEST, 1), peer(), at(0))?;
-    let mut request = agent
+    let request = agent
         .mut_request_transaction(id(1)?)
         .ok_or("it is outstanding")?;
-    let bytes = mapped(1);
-    let response = Message::from_bytes(&bytes)?;
-    assert!(rt; request.mut_agent().handle_stun_message(&response, peer())?);
-    request.cancel_retransmissions();
-    request.cancel();
-    request.configure_timeout(Duration::from_secs(1), 3, Duration::from_secs(2));
-    assert_eq!(rt; request.peer_address(), peer());
-    assert_eq!(rt; request.integrity(), None);
-    assert!(rt; request.agent().request_transaction(id(1)?).is_none());
+    end_and_change(&rt, request)?;
     assert_eq!(rt; agent.next_awaited(), None);
     Ok(())
 }
 
 #[test]
 fn moments_may_go_back(rt: HostRuntime) -> Result<(), Fail> {
-    let mut agent = StunAgent::builder(rt.alloc(), TransportType::Udp, local()).build();
-    let _sent = agent.send_request(message(REQUEST, 1), peer(), at(10000))?;
-    assert_eq!(rt; agent.poll(at(5000)), wait(10500));
-    assert_eq!(rt; agent.poll(at(0)), wait(10500));
-    assert!(rt; agent.poll_transmit(at(5000)).is_none());
-    assert!(rt; agent.poll_transmit(at(10500)).is_some());
-    assert!(rt; agent.poll_transmit(at(10400)).is_none());
-    assert_eq!(rt; agent.poll(at(0)), wait(11500));
-    Ok(())
+    const LINES: &[Line] = &[
+        (10000, Call::Ask(1)),
+        (5000, Call::Poll(Answer::WaitUntil(10500))),
+        (0, Call::Poll(Answer::WaitUntil(10500))),
+        (5000, Call::PollTransmit(None)),
+        (10500, Call::PollTransmit(Some(1))),
+        (10400, Call::PollTransmit(None)),
+        (0, Call::Poll(Answer::WaitUntil(11500))),
+    ];
+    play(&rt, rt.alloc(), OVER_UDP, LINES)
 }
 
 #[test]
 fn the_longest_waits_end_at_the_last_moment(rt: HostRuntime) -> Result<(), Fail> {
-    let mut agent = StunAgent::builder(rt.alloc(), TransportType::Udp, local()).build();
-    let _sent = agent.send_request(message(REQUEST, 1), peer(), at(0))?;
-    agent
-        .mut_request_transaction(id(1)?)
-        .ok_or("it is outstanding")?
-        .configure_timeout(Duration::MAX, 2, Duration::MAX);
-    assert_eq!(rt; agent.poll(at(0)), wait(3600000));
-    assert_eq!(rt;
-        agent.poll(Instant::MAX),
-        StunAgentPollRet::WaitUntil(Instant::MAX)
-    );
-    assert!(rt; agent.poll_transmit(Instant::MAX).is_some());
-    assert_eq!(rt;
-        agent.poll(Instant::MAX),
-        StunAgentPollRet::TransactionTimedOut(id(1)?)
-    );
-    Ok(())
+    const LONGEST: Waits = Waits {
+        initial: Span::Longest,
+        max: None,
+        retransmits: 2,
+        last_retransmit: Span::Longest,
+    };
+    const LINES: &[Line] = &[
+        (0, Call::Ask(1)),
+        (0, Call::Configure(1, LONGEST)),
+        (0, Call::Poll(Answer::WaitUntil(3600000))),
+        (LAST_MOMENT, Call::Poll(Answer::WaitUntil(LAST_MOMENT))),
+        (LAST_MOMENT, Call::PollTransmit(Some(1))),
+        (LAST_MOMENT, Call::Poll(Answer::TimedOut(1))),
+    ];
+    play(&rt, rt.alloc(), OVER_UDP, LINES)
 }

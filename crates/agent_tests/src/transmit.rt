@@ -1,10 +1,15 @@
 //! What is to be sent, and the texts of it and of the agent's errors.
+use crate::calls::{Call, Line, play};
+use crate::tables::OVER_UDP;
+use std::alloc::Global;
+use std::fmt::Display;
+use std::process::Abort;
 use std::test::Fail;
-use stun_agent::agent::{NoRoom, StunAgent, StunError, Transmit};
+use stun_agent::agent::{NoRoom, StunError, Transmit};
 use stun_base::data::{Data, OwnedBytes};
 use stun_base::error::{StunParseError, StunWriteError};
 use stun_base::transport::TransportType;
-use test_support::datagrams::{REQUEST, at, id, local, message, peer};
+use test_support::datagrams::{local, peer};
 
 struct Wrapped([u8; 8]);
 
@@ -44,78 +49,71 @@ fn a_transmit_keeps_its_addresses(rt: HostRuntime) -> Result<(), Fail> {
 
 #[test]
 fn what_is_lent_next_is_told_before(rt: HostRuntime) -> Result<(), Fail> {
-    let mut agent = StunAgent::builder(rt.alloc(), TransportType::Udp, local()).build();
-    for number in [1, 2] {
-        let _sent = agent.send_request(message(REQUEST, number), peer(), at(0))?;
-    }
-    let mut silent = agent
-        .mut_request_transaction(id(1)?)
-        .ok_or("it is outstanding")?;
-    silent.cancel_retransmissions();
-    assert!(rt; agent.next_transmit(at(499)).is_none());
-    let next = agent.next_transmit(at(500)).ok_or("the second is due")?;
-    assert_eq!(rt; next.data, message(REQUEST, 2).as_slice());
-    assert_eq!(rt;
-        (next.transport, next.from, next.to),
-        (TransportType::Udp, local(), peer())
-    );
-    let lent = agent.poll_transmit(at(500)).ok_or("it is still due")?;
-    assert_eq!(rt; lent.data, message(REQUEST, 2).as_slice());
-    assert!(rt; agent.next_transmit(at(500)).is_none());
-    Ok(())
+    const LINES: &[Line] = &[
+        (0, Call::Ask(1)),
+        (0, Call::Ask(2)),
+        (0, Call::CancelRetransmissions(1)),
+        (499, Call::NextTransmit(None)),
+        (500, Call::NextTransmit(Some(2))),
+        (500, Call::PollTransmit(Some(2))),
+        (500, Call::NextTransmit(None)),
+    ];
+    play(&rt, rt.alloc(), OVER_UDP, LINES)
 }
 
 #[test]
 fn what_does_not_fit_is_not_lost(rt: HostRuntime) -> Result<(), Fail> {
-    let mut agent = StunAgent::builder(rt.alloc(), TransportType::Udp, local()).build();
-    for number in [1, 2] {
-        let _sent = agent.send_request(message(REQUEST, number), peer(), at(0))?;
-    }
-    // A message of no attributes has 20 bytes.
-    assert!(rt; agent.poll_transmit_within(at(499), 0)?.is_none());
-    assert_eq!(rt; agent.poll_transmit_within(at(500), 19).err(), Some(NoRoom));
-    let first = agent.poll_transmit_within(at(500), 20)?;
-    assert_eq!(rt;
-        first.ok_or("the first is due")?.data,
-        message(REQUEST, 1).as_slice()
-    );
-    // At its next slot the first is not sent, and the room has to do for the second all the same.
-    agent
-        .mut_request_transaction(id(1)?)
-        .ok_or("it is outstanding")?
-        .cancel_retransmissions();
-    assert!(rt; agent.poll_transmit_within(at(500), 20)?.is_some());
-    assert_eq!(rt;
-        agent.poll_transmit_within(at(1500), 19).err(),
-        Some(NoRoom)
-    );
-    let second = agent.poll_transmit_within(at(1500), 20)?;
-    assert_eq!(rt;
-        second.ok_or("the second is due")?.data,
-        message(REQUEST, 2).as_slice()
-    );
-    assert!(rt; agent.poll_transmit_within(at(1500), 0)?.is_none());
+    // A message of no attributes has 20 bytes. At its second slot the first request is not sent, and
+    // the room has to do for the second all the same.
+    const LINES: &[Line] = &[
+        (0, Call::Ask(1)),
+        (0, Call::Ask(2)),
+        (499, Call::PollTransmitWithin(0, Ok(None))),
+        (500, Call::PollTransmitWithin(19, Err(NoRoom))),
+        (500, Call::PollTransmitWithin(20, Ok(Some(1)))),
+        (500, Call::CancelRetransmissions(1)),
+        (500, Call::PollTransmitWithin(20, Ok(Some(2)))),
+        (1500, Call::PollTransmitWithin(19, Err(NoRoom))),
+        (1500, Call::PollTransmitWithin(20, Ok(Some(2)))),
+        (1500, Call::PollTransmitWithin(0, Ok(None))),
+    ];
+    play(&rt, rt.alloc(), OVER_UDP, LINES)
+}
+
+fn expect_text<T: Display>(
+    rt: &impl Abort,
+    alloc: Global,
+    value: &T,
+    text: &str,
+) -> Result<(), Fail> {
+    assert_eq!(rt; format!(in alloc; "{value}")?.as_str(), text);
     Ok(())
 }
 
 #[test]
-fn texts(rt: HostRuntime) -> Result<(), Fail> {
-    let alloc = rt.alloc();
-    let sent = Transmit::new(
-        [0x10, 0x20],
-        TransportType::Udp,
-        "127.0.0.1:1000".parse()?,
-        "127.0.0.1:2000".parse()?,
-    );
-    assert_eq!(rt;
-        format!(in alloc; "{sent}")?.as_str(),
-        "Transmit(UDP: 127.0.0.1:1000 -> 127.0.0.1:2000 of 2 bytes)"
-    );
-    let (udp, tcp) = (TransportType::Udp, TransportType::Tcp);
-    assert_eq!(rt; format!(in alloc; "{udp} {tcp}")?.as_str(), "UDP TCP");
-    let inner = StunParseError::Truncated;
-    let written = StunWriteError::TooSmall;
-    for (error, text) in [
+fn text_of_a_transmit(rt: HostRuntime) -> Result<(), Fail> {
+    let from = "127.0.0.1:1000".parse()?;
+    let to = "127.0.0.1:2000".parse()?;
+    let sent = Transmit::new([0x10, 0x20], TransportType::Udp, from, to);
+    let text = "Transmit(UDP: 127.0.0.1:1000 -> 127.0.0.1:2000 of 2 bytes)";
+    expect_text(&rt, rt.alloc(), &sent, text)
+}
+
+#[test]
+fn texts_of_transports(rt: HostRuntime) -> Result<(), Fail> {
+    const TEXTS: &[(TransportType, &str)] = &[
+        (TransportType::Udp, "UDP"),
+        (TransportType::Tcp, "TCP"),
+    ];
+    for (transport, text) in TEXTS {
+        expect_text(&rt, rt.alloc(), transport, text)?;
+    }
+    Ok(())
+}
+
+#[test]
+fn texts_of_errors(rt: HostRuntime) -> Result<(), Fail> {
+    const TEXTS: &[(StunError, &str)] = &[
         (
             StunError::AlreadyInProgress,
             "The operation is already in progress",
@@ -128,23 +126,28 @@ fn texts(rt: HostRuntime) -> Result<(), Fail> {
         (StunError::ProtocolViolation, "Unexpected data was received"),
         (StunError::Aborted, "Operation was aborted"),
         (StunError::OutOfMemory, "Out of memory"),
-    ] {
-        assert_eq!(rt; format!(in alloc; "{error}")?.as_str(), text);
+        (
+            StunError::ParseError(StunParseError::Truncated),
+            "the bytes end too early",
+        ),
+        (
+            StunError::WriteError(StunWriteError::TooSmall),
+            "the writer has too little room",
+        ),
+    ];
+    for (error, text) in TEXTS {
+        expect_text(&rt, rt.alloc(), error, text)?;
     }
-    let refused = NoRoom;
-    assert_eq!(rt;
-        format!(in alloc; "{refused}")?.as_str(),
-        "No room for what is to be sent"
-    );
-    let parse = StunError::from(inner);
-    let write = StunError::from(written);
-    assert_eq!(rt;
-        format!(in alloc; "{parse}")?.as_str(),
-        format!(in alloc; "{inner}")?.as_str()
-    );
-    assert_eq!(rt;
-        format!(in alloc; "{write}")?.as_str(),
-        format!(in alloc; "{written}")?.as_str()
-    );
-    Ok(())
+    expect_text(&rt, rt.alloc(), &NoRoom, "No room for what is to be sent")
+}
+
+/// An error of an agent that passes on another one has its text.
+#[test]
+fn texts_of_other_errors_are_kept(rt: HostRuntime) -> Result<(), Fail> {
+    let parse = StunParseError::Truncated;
+    let write = StunWriteError::TooSmall;
+    assert_eq!(rt; StunError::from(parse), StunError::ParseError(parse));
+    assert_eq!(rt; StunError::from(write), StunError::WriteError(write));
+    expect_text(&rt, rt.alloc(), &parse, "the bytes end too early")?;
+    expect_text(&rt, rt.alloc(), &write, "the writer has too little room")
 }

@@ -20,8 +20,8 @@ fn received(now: Instant) -> Option<[u8; 32]> {
     }
 }
 
-/// Hands in what has come, and tells whether it was taken. An authenticator would be asked first, as
-/// in `client_loop`.
+/// Hands in what has come, and tells whether it was taken. An authenticator would be asked first,
+/// as in `client_loop`.
 fn receive(agent: &mut StunAgent, now: Instant) -> Result<bool, Fail> {
     match received(now) {
         Some(bytes) => {

@@ -61,7 +61,8 @@ fn expect_verdict(
     Ok(())
 }
 
-/// Asks, checks what the authenticator says of the response, and then plays the transcript to the agent.
+/// Asks, checks what the authenticator says of the response, and then plays the transcript to the
+/// agent.
 fn exchange(
     rt: &impl Abort,
     alloc: Global,

@@ -20,8 +20,8 @@ fn received(now: Instant) -> Option<[u8; 32]> {
     }
 }
 
-/// Hands in what has come, and tells whether it was taken. An authenticator would be asked first, as
-/// in `client_loop`.
+/// Hands in what has come, and tells whether it was taken. An authenticator would be asked first,
+/// as in `client_loop`.
 fn receive(agent: &mut StunAgent, now: Instant) -> Result<bool, Fail> {
     match received(now) {
         Some(bytes) => {
@@ -57,11 +57,17 @@ fn wait(rt: &impl Abort, agent: &mut StunAgent, now: Instant) -> Instant {
     }
 }
 
-/// Asks and waits for the response. Tells when it came, and how often the request was sent till then.
-fn ask_and_wait(rt: &impl Abort, agent: &mut StunAgent) -> Result<(Instant, u32), Fail> {
-    let mut now = at(0);
+/// Sends the request.
+fn ask(rt: &impl Abort, agent: &mut StunAgent, now: Instant) -> Result<(), Fail> {
     let sent = agent.send_request(message(REQUEST, 1), peer(), now)?;
     assert_eq!(rt; sent.to, peer());
+    Ok(())
+}
+
+/// Asks, and waits until the third transmission is answered.
+fn ask_and_wait(rt: &impl Abort, agent: &mut StunAgent) -> Result<(), Fail> {
+    let mut now = at(0);
+    ask(rt, agent, now)?;
     let mut transmissions = 1_u32;
     for _ in 0..1000 {
         if receive(agent, now)? {
@@ -70,7 +76,9 @@ fn ask_and_wait(rt: &impl Abort, agent: &mut StunAgent) -> Result<(Instant, u32)
         transmissions = transmissions.saturating_add(retransmit(rt, agent, now));
         now = wait(rt, agent, now);
     }
-    Ok((now, transmissions))
+    assert_eq!(rt; now, at(1600));
+    assert_eq!(rt; transmissions, 3);
+    Ok(())
 }
 
 #[test]
@@ -80,9 +88,7 @@ fn a_loop(rt: HostRuntime) -> Result<(), Fail> {
         (1600, Call::IsOver(1)),
     ];
     let mut agent = OVER_UDP.agent(rt.alloc());
-    let (now, transmissions) = ask_and_wait(&rt, &mut agent)?;
-    assert_eq!(rt; now, at(1600));
-    assert_eq!(rt; transmissions, 3);
+    ask_and_wait(&rt, &mut agent)?;
     play_on(&rt, &mut agent, (rt.alloc(), TransportType::Udp), ANSWERED)
 }
 

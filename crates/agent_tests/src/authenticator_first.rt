@@ -1,7 +1,7 @@
 //! The order that users keep: the authenticator is asked first, and then the agent (RFC 8489, sections 6.3 and 9.1).
 use crate::calls::{Call, Line, play_on};
-use crate::tables::Datagram;
 use crate::tables::Place::Peer;
+use crate::tables::{Datagram, OVER_UDP};
 use std::alloc::Global;
 use std::process::Abort;
 use std::test::Fail;
@@ -12,7 +12,7 @@ use stun_types::message::{
     BINDING, IntegrityAlgorithm, Message, MessageWriteVec, ShortTermCredentials, ValidateError,
 };
 use stun_types::prelude::*;
-use test_support::datagrams::{at, id, local, peer};
+use test_support::datagrams::{at, id, peer};
 use test_support::spelled::bytes_of;
 
 /// A Binding success with id 1 and XOR-MAPPED-ADDRESS 10.0.0.1:12345, with MESSAGE-INTEGRITY under `password`, by
@@ -32,11 +32,15 @@ fn authenticator(alloc: Global) -> Result<ShortTermAuth, Fail> {
     Ok(auth)
 }
 
-/// An agent that has sent a signed Binding request with id 1.
-fn asking_agent(alloc: Global, auth: &mut ShortTermAuth) -> Result<StunAgent, Fail> {
+/// A signed Binding request with id 1.
+fn signed_request(alloc: Global, auth: &mut ShortTermAuth) -> Result<Vec<u8>, Fail> {
     let request = Message::builder_request(BINDING, id(1)?, MessageWriteVec::new(alloc))?;
-    let request = auth.sign_outgoing_message(request)?.finish();
-    let mut agent = StunAgent::builder(alloc, TransportType::Udp, local()).build();
+    Ok(auth.sign_outgoing_message(request)?.finish())
+}
+
+/// An agent that has sent a request.
+fn asking_agent(alloc: Global, request: Vec<u8>) -> Result<StunAgent, Fail> {
+    let mut agent = OVER_UDP.agent(alloc);
     let _sent = agent.send_request(request, peer(), at(0))?;
     Ok(agent)
 }
@@ -57,7 +61,8 @@ fn expect_verdict(
     Ok(())
 }
 
-/// Asks, checks what the authenticator says of the response, and then plays the transcript to the agent.
+/// Asks, checks what the authenticator says of the response, and then plays the transcript to the
+/// agent.
 fn exchange(
     rt: &impl Abort,
     alloc: Global,
@@ -65,7 +70,8 @@ fn exchange(
     lines: &[Line],
 ) -> Result<(), Fail> {
     let mut auth = authenticator(alloc)?;
-    let mut agent = asking_agent(alloc, &mut auth)?;
+    let request = signed_request(alloc, &mut auth)?;
+    let mut agent = asking_agent(alloc, request)?;
     expect_verdict(rt, alloc, &mut auth, response, verdict)?;
     play_on(rt, &mut agent, (alloc, TransportType::Udp), lines)
 }

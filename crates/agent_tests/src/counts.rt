@@ -51,31 +51,13 @@ pub(crate) const NOTHING: Counts = Counts {
 
 /// Checks all that statistics tell.
 pub(crate) fn expect_counts(rt: &impl Abort, stats: &StunAgentStats, counts: &Counts) {
-    assert_eq!(rt; messages_in(stats), messages_of(counts));
-    assert_eq!(rt; ends_in(stats), ends_of(counts));
-    assert_eq!(rt;
-        [
-            stats.bytes_sent(),
-            stats.bytes_received(),
-            stats.rtt_count()
-        ],
-        [counts.bytes_sent, counts.bytes_received, counts.round_trips]
-    );
-    assert_eq!(rt;
-        [stats.rtt_min(), stats.rtt_max(), stats.rtt_average()],
-        [counts.shortest, counts.longest, counts.average].map(|trip| span_of(trip))
-    );
+    assert_eq!(rt; counters_in(stats), counters_of(counts));
+    let trips = [stats.rtt_min(), stats.rtt_max(), stats.rtt_average()];
+    assert_eq!(rt; trips, trips_of(counts));
 }
 
-fn span_of(trip: Option<u64>) -> Option<Duration> {
-    match trip {
-        Some(nanos) => Some(Duration::from_nanos(nanos)),
-        None => None,
-    }
-}
-
-/// Requests, responses and indications, each as many as were sent and as were received.
-fn messages_in(stats: &StunAgentStats) -> [u64; 6] {
+/// Messages, bytes, ends of requests and round trips.
+fn counters_in(stats: &StunAgentStats) -> [u64; 12] {
     [
         stats.requests_sent(),
         stats.requests_received(),
@@ -83,10 +65,16 @@ fn messages_in(stats: &StunAgentStats) -> [u64; 6] {
         stats.responses_received(),
         stats.indications_sent(),
         stats.indications_received(),
+        stats.bytes_sent(),
+        stats.bytes_received(),
+        stats.outstanding_requests(),
+        stats.transactions_timed_out(),
+        stats.transactions_cancelled(),
+        stats.rtt_count(),
     ]
 }
 
-fn messages_of(counts: &Counts) -> [u64; 6] {
+fn counters_of(counts: &Counts) -> [u64; 12] {
     [
         counts.requests_sent,
         counts.requests_received,
@@ -94,18 +82,26 @@ fn messages_of(counts: &Counts) -> [u64; 6] {
         counts.responses_received,
         counts.indications_sent,
         counts.indications_received,
+        counts.bytes_sent,
+        counts.bytes_received,
+        counts.outstanding,
+        counts.timed_out,
+        counts.cancelled,
+        counts.round_trips,
     ]
 }
 
-/// The requests that are outstanding, that timed out and that were cancelled.
-fn ends_in(stats: &StunAgentStats) -> [u64; 3] {
+fn trips_of(counts: &Counts) -> [Option<Duration>; 3] {
     [
-        stats.outstanding_requests(),
-        stats.transactions_timed_out(),
-        stats.transactions_cancelled(),
+        span_of(counts.shortest),
+        span_of(counts.longest),
+        span_of(counts.average),
     ]
 }
 
-fn ends_of(counts: &Counts) -> [u64; 3] {
-    [counts.outstanding, counts.timed_out, counts.cancelled]
+fn span_of(trip: Option<u64>) -> Option<Duration> {
+    match trip {
+        Some(nanos) => Some(Duration::from_nanos(nanos)),
+        None => None,
+    }
 }

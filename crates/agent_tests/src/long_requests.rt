@@ -21,6 +21,10 @@ fn expect_kept(rt: &impl Abort, agent: &mut StunAgent, request: Vec<u8>) -> Resu
     assert_eq!(rt; request.len(), 65552);
     let sent = agent.send_request(request, peer(), at(0))?;
     assert_eq!(rt; sent.data.len(), 65552);
+    Ok(())
+}
+
+fn expect_due(rt: &impl Abort, agent: &mut StunAgent) -> Result<(), Fail> {
     let again = agent.poll_transmit(at(500)).ok_or("it is due")?;
     assert_eq!(rt; again.data.len(), 65552);
     Ok(())
@@ -29,5 +33,7 @@ fn expect_kept(rt: &impl Abort, agent: &mut StunAgent, request: Vec<u8>) -> Resu
 #[test]
 fn the_longest_request_is_kept(rt: HostRuntime) -> Result<(), Fail> {
     let request = longest_request(rt.alloc())?;
-    expect_kept(&rt, &mut OVER_UDP.agent(rt.alloc()), request)
+    let mut agent = OVER_UDP.agent(rt.alloc());
+    expect_kept(&rt, &mut agent, request)?;
+    expect_due(&rt, &mut agent)
 }

@@ -256,6 +256,11 @@ fn a_peer_is_validated_or_not(rt: HostRuntime) -> Result<(), Fail> {
     heap.each_refusal(|nth| validates(&rt, &heap, nth))
 }
 
+fn expect_owned(rt: &impl Abort, owned: &Transmit<Data<'_, &Heap>>, bytes: &[u8]) {
+    assert_eq!(rt; owned.data.bytes(), bytes);
+    assert_eq!(rt; owned.to, peer());
+}
+
 /// What is to be sent, owned or not.
 fn owns(rt: &impl Abort, heap: &Heap, nth: u64) -> Result<bool, Fail> {
     let bytes = [7; 4000];
@@ -265,8 +270,7 @@ fn owns(rt: &impl Abort, heap: &Heap, nth: u64) -> Result<bool, Fail> {
     let met_none = heap.met_none();
     assert_eq!(rt; answer.is_ok(), met_none);
     if let Ok(owned) = answer {
-        assert_eq!(rt; owned.data.bytes(), bytes.as_slice());
-        assert_eq!(rt; owned.to, peer());
+        expect_owned(rt, &owned, &bytes);
     }
     Ok(met_none)
 }

@@ -337,12 +337,16 @@ pub(crate) fn lend_next<A: Allocator + Copy>(
     expect_lent(rt, scene, agent.next_transmit(scene.now), number)
 }
 
+fn statistics<A: Allocator + Copy>(agent: &StunAgent<A>) -> Result<&StunAgentStats, Fail> {
+    Ok(agent.stats().ok_or("they are kept")?)
+}
+
 pub(crate) fn expect_counted<A: Allocator + Copy>(
     rt: &impl Abort,
     agent: &StunAgent<A>,
     counts: &Counts,
 ) -> Result<(), Fail> {
-    expect_counts(rt, agent.stats().ok_or("they are kept")?, counts);
+    expect_counts(rt, statistics(agent)?, counts);
     Ok(())
 }
 
@@ -350,8 +354,7 @@ pub(crate) fn expect_new<A: Allocator + Copy>(
     rt: &impl Abort,
     agent: &StunAgent<A>,
 ) -> Result<(), Fail> {
-    let stats = agent.stats().ok_or("they are kept")?;
-    assert!(rt; stats == &StunAgentStats::default());
+    assert!(rt; statistics(agent)? == &StunAgentStats::default());
     Ok(())
 }
 

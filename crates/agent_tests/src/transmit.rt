@@ -63,8 +63,8 @@ fn what_is_lent_next_is_told_before(rt: HostRuntime) -> Result<(), Fail> {
 
 #[test]
 fn what_does_not_fit_is_not_lost(rt: HostRuntime) -> Result<(), Fail> {
-    // A message of no attributes has 20 bytes. At its second slot the first request is not sent, and
-    // the room has to do for the second all the same.
+    // A message of no attributes has 20 bytes. At its second slot the first request is not sent,
+    // and the room has to do for the second all the same.
     const LINES: &[Line] = &[
         (0, Call::Ask(1)),
         (0, Call::Ask(2)),

@@ -1,27 +1,45 @@
 //! What the errors of reading, checking and writing say.
+use std::alloc::Global;
+use std::fmt::Display;
+use std::process::Abort;
 use std::test::Fail;
 use stun_base::attribute_type::AttributeType;
 use stun_base::error::{StunParseError, StunWriteError, ValidateError};
 
+fn expect_text<T: Display>(
+    rt: &impl Abort,
+    alloc: Global,
+    value: &T,
+    text: &str,
+) -> Result<(), Fail> {
+    assert_eq!(rt; format!(in alloc; "{value}")?.as_str(), text);
+    Ok(())
+}
+
+const MISSING: StunParseError = StunParseError::MissingAttribute(AttributeType::MESSAGE_INTEGRITY);
+
 #[test]
 fn of_reading(rt: HostRuntime) -> Result<(), Fail> {
-    let alloc = rt.alloc();
-    for (error, text) in [
+    const TEXTS: &[(StunParseError, &str)] = &[
         (StunParseError::Truncated, "the bytes end too early"),
         (StunParseError::NotStun, "the bytes are not a STUN message"),
         (StunParseError::TooLarge, "bytes follow the message"),
-        (
-            StunParseError::MissingAttribute(AttributeType::MESSAGE_INTEGRITY),
-            "attribute 0x0008 is missing",
-        ),
+        (MISSING, "attribute 0x0008 is missing"),
         (
             StunParseError::InvalidAttributeData,
             "an attribute is malformed",
         ),
-    ] {
-        assert_eq!(rt; format!(in alloc; "{error}")?.as_str(), text);
+    ];
+    for (error, text) in TEXTS {
+        expect_text(&rt, rt.alloc(), error, text)?;
     }
-    // No option of the formatter changes the text of a type.
+    Ok(())
+}
+
+/// No option of the formatter changes the text of a type.
+#[test]
+fn of_a_type(rt: HostRuntime) -> Result<(), Fail> {
+    let alloc = rt.alloc();
     let kind = AttributeType::MESSAGE_INTEGRITY;
     assert_eq!(rt;
         format!(in alloc;
@@ -34,44 +52,32 @@ fn of_reading(rt: HostRuntime) -> Result<(), Fail> {
 
 #[test]
 fn of_checking(rt: HostRuntime) -> Result<(), Fail> {
-    let alloc = rt.alloc();
-    for (error, text) in [
+    const MALFORMED: StunParseError = StunParseError::InvalidAttributeData;
+    const TEXTS: &[(ValidateError, &str)] = &[
+        (ValidateError::Parse(MISSING), "attribute 0x0008 is missing"),
+        (ValidateError::Parse(MALFORMED), "an attribute is malformed"),
         (
-            StunParseError::MissingAttribute(AttributeType::MESSAGE_INTEGRITY),
-            "attribute 0x0008 is missing",
+            ValidateError::IntegrityFailed,
+            "the digest is not that of the message",
         ),
-        (
-            StunParseError::InvalidAttributeData,
-            "an attribute is malformed",
-        ),
-    ] {
-        let parse = ValidateError::Parse(error);
-        assert_eq!(rt; format!(in alloc; "{parse}")?.as_str(), text);
+    ];
+    for (error, text) in TEXTS {
+        expect_text(&rt, rt.alloc(), error, text)?;
     }
-    let failed = ValidateError::IntegrityFailed;
-    assert_eq!(rt;
-        format!(in alloc; "{failed}")?.as_str(),
-        "the digest is not that of the message"
-    );
     Ok(())
 }
 
 #[test]
 fn of_writing(rt: HostRuntime) -> Result<(), Fail> {
-    let alloc = rt.alloc();
-    for (error, text) in [
+    const TWICE: StunWriteError = StunWriteError::AttributeExists(AttributeType::NONCE);
+    const SIGNED: StunWriteError = StunWriteError::MessageIntegrityExists;
+    const TEXTS: &[(StunWriteError, &str)] = &[
         (
             StunWriteError::NotAllowed,
             "the attribute is not written by this call",
         ),
-        (
-            StunWriteError::MessageIntegrityExists,
-            "the message has its integrity attribute already",
-        ),
-        (
-            StunWriteError::AttributeExists(AttributeType::NONCE),
-            "attribute 0x0015 is in the message already",
-        ),
+        (SIGNED, "the message has its integrity attribute already"),
+        (TWICE, "attribute 0x0015 is in the message already"),
         (
             StunWriteError::TooLarge,
             "the value or the message would be too large",
@@ -82,8 +88,9 @@ fn of_writing(rt: HostRuntime) -> Result<(), Fail> {
             "there is no key for the integrity attribute",
         ),
         (StunWriteError::OutOfMemory, "out of memory"),
-    ] {
-        assert_eq!(rt; format!(in alloc; "{error}")?.as_str(), text);
+    ];
+    for (error, text) in TEXTS {
+        expect_text(&rt, rt.alloc(), error, text)?;
     }
     Ok(())
 }

@@ -5,7 +5,7 @@ ghost use Rattle.stun_proto.specs.Schedule.{AreInOrder};
 mod by_hand;
 
 use fail_alloc::RefusingAllocator;
-use std::alloc::{Allocator, Global};
+use std::alloc::{AllocError, Allocator, Global};
 use std::process::Abort;
 use std::test::Fail;
 use std::time::Duration;
@@ -18,17 +18,135 @@ use test_support::datagrams::{
     INDICATION, REQUEST, SUCCESS, address, at, id, local, message, peer,
 };
 
-/// The moments at which the default settings send a request over UDP, in milliseconds (RFC 8489, section 6.2.1).
-const DEFAULT_MOMENTS: [u64; 7] = [0, 500, 1500, 3500, 7500, 15500, 31500];
+/// What happens to the agent. A request is named by the number that is its id; all that is sent goes to the peer.
+#[derive(Clone, Copy)]
+enum Event {
+    /// A request is to be sent.
+    Request(u8),
+    /// A message of another type is to be sent.
+    Send([u8; 2], u8),
+    /// A message of a type comes from the peer.
+    Receive([u8; 2], u8),
+    /// No bytes come from the peer.
+    ReceiveNothing,
+    /// A request is cancelled.
+    Cancel(u8),
+    /// A request is not sent again.
+    CancelRetransmissions(u8),
+    /// A request gets other timeouts.
+    Configure(u8, Timeouts),
+    /// The address with this last byte and this port is named as a peer.
+    ValidatePeer(u8, u16),
+}
 
-/// When they give it up.
-const DEFAULT_END: u64 = 39500;
+/// The timeouts of a request, in seconds.
+#[derive(Clone, Copy)]
+struct Timeouts {
+    initial: u64,
+    retransmits: u32,
+    last: u64,
+    max: u64,
+}
 
-/// The number of events of the mixed run.
-const EVENTS: u8 = 13;
+/// What the agent does.
+#[derive(Clone, Copy)]
+enum Step {
+    /// A request is sent, for the first time or again.
+    Transmitted(u8),
+    /// A message of another type is sent.
+    Sent([u8; 2], u8),
+    /// A message came, and was taken or not.
+    Received(bool),
+    /// A call was refused.
+    Refused(StunError),
+    /// No answer came in time.
+    TimedOut(u8),
+    /// A request that was cancelled has ended.
+    Cancelled(u8),
+}
+
+/// Events, each with its moment, and what the agent does up to the last moment. Moments are milliseconds after the start.
+#[derive(Clone, Copy)]
+struct Run {
+    /// The start, in nanoseconds.
+    start: u64,
+    events: &'static [(u64, Event)],
+    /// `None` where the run goes on to the last moment there is.
+    until: Option<u64>,
+    steps: &'static [(u64, Step)],
+    /// The moment that a request awaits then.
+    awaited: Option<u64>,
+}
+
+/// The moments at which the default settings send a request over UDP, and when they give it up (RFC 8489, section 6.2.1).
+const UNANSWERED: Run = Run {
+    start: 0,
+    events: &[(0, Event::Request(1))],
+    until: None,
+    steps: &[
+        (0, Step::Transmitted(1)),
+        (500, Step::Transmitted(1)),
+        (1500, Step::Transmitted(1)),
+        (3500, Step::Transmitted(1)),
+        (7500, Step::Transmitted(1)),
+        (15500, Step::Transmitted(1)),
+        (31500, Step::Transmitted(1)),
+        (39500, Step::TimedOut(1)),
+    ],
+    awaited: None,
+};
 
 /// The last moment of the mixed run, at which its last event is, in milliseconds.
 const MIXED_END: u64 = 10000;
+
+/// Four transmissions, after 1 s, 2 s and 4 s, and a last wait of 2 s.
+const SHORT: Timeouts = Timeouts {
+    initial: 1,
+    retransmits: 4,
+    last: 2,
+    max: 10,
+};
+
+const TRUNCATED: StunError = StunError::ParseError(StunParseError::Truncated);
+
+/// Requests among other calls. When request 1 gets other timeouts it was sent last at 500 ms, after one timeout, so the next two
+/// are 2 s and 4 s.
+const MIXED: Run = Run {
+    start: 0,
+    events: &[
+        (0, Event::Request(1)),
+        (200, Event::Request(2)),
+        (300, Event::Request(1)),
+        (400, Event::ValidatePeer(7, 1)),
+        (600, Event::Receive(SUCCESS, 2)),
+        (700, Event::Send(INDICATION, 9)),
+        (800, Event::Request(3)),
+        (900, Event::Cancel(3)),
+        (1000, Event::Configure(1, SHORT)),
+        (1100, Event::Receive(SUCCESS, 2)),
+        (1200, Event::ReceiveNothing),
+        (1300, Event::Send(REQUEST, 4)),
+        (MIXED_END, Event::ValidatePeer(2, 3478)),
+    ],
+    until: Some(MIXED_END),
+    steps: &[
+        (0, Step::Transmitted(1)),
+        (200, Step::Transmitted(2)),
+        (300, Step::Refused(StunError::AlreadyInProgress)),
+        (500, Step::Transmitted(1)),
+        (600, Step::Received(true)),
+        (700, Step::Sent(INDICATION, 9)),
+        (800, Step::Transmitted(3)),
+        (900, Step::Cancelled(3)),
+        (1100, Step::Received(false)),
+        (1200, Step::Refused(TRUNCATED)),
+        (1300, Step::Refused(StunError::ProtocolViolation)),
+        (2500, Step::Transmitted(1)),
+        (6500, Step::Transmitted(1)),
+        (8500, Step::TimedOut(1)),
+    ],
+    awaited: None,
+};
 
 /// No step of a run here comes after so many calls.
 const MOST_CALLS: u64 = 400;
@@ -40,38 +158,104 @@ fn agent_over<A: Allocator + Copy>(alloc: A, transport: TransportType) -> StunAg
         .build()
 }
 
-/// A request with this number as its id is sent.
-fn ask(alloc: Global, number: u8) -> Result<AgentEvent, Fail> {
-    Ok(AgentEvent::SendRequest {
-        bytes: Vec::from_slice(alloc, &message(REQUEST, number))?,
-        to: peer(),
-    })
+/// A moment of a run.
+fn moment_of(run: &Run, millis: u64) -> Instant {
+    Instant::from_nanos(run.start) + Duration::from_millis(millis)
 }
 
-/// A message of another type is sent.
-fn tell(alloc: Global, kind: [u8; 2], number: u8) -> Result<AgentEvent, Fail> {
-    Ok(AgentEvent::Send {
-        bytes: Vec::from_slice(alloc, &message(kind, number))?,
-        to: peer(),
-    })
+/// The last moment of a run.
+fn end_of(run: &Run) -> Instant {
+    match run.until {
+        Some(millis) => moment_of(run, millis),
+        None => Instant::MAX,
+    }
 }
 
-/// Bytes come from the peer.
-fn receive(alloc: Global, bytes: &[u8]) -> Result<AgentEvent, Fail> {
-    Ok(AgentEvent::Receive {
-        bytes: Vec::from_slice(alloc, bytes)?,
-        from: peer(),
-    })
+/// A message without attributes.
+fn bytes_of<A: Allocator>(alloc: A, kind: [u8; 2], number: u8) -> Result<Vec<u8, A>, AllocError> {
+    Vec::from_slice(alloc, &message(kind, number))
 }
 
-/// The step of a request that is sent.
-fn transmitted(alloc: Global, moment: Instant, number: u8) -> Result<AgentStep, Fail> {
-    Ok(AgentStep::Transmitted {
-        at: moment,
+/// The event that a request gets other timeouts.
+fn configured(number: u8, timeouts: Timeouts) -> Result<AgentEvent, Fail> {
+    Ok(AgentEvent::Configure {
         id: id(number)?,
-        to: peer(),
-        bytes: Vec::from_slice(alloc, &message(REQUEST, number))?,
+        initial: Duration::from_secs(timeouts.initial),
+        retransmits: timeouts.retransmits,
+        last: Duration::from_secs(timeouts.last),
+        max: Duration::from_secs(timeouts.max),
     })
+}
+
+/// The event that a row names.
+fn made(alloc: Global, event: Event) -> Result<AgentEvent, Fail> {
+    Ok(match event {
+        Event::Request(number) => AgentEvent::SendRequest {
+            bytes: bytes_of(alloc, REQUEST, number)?,
+            to: peer(),
+        },
+        Event::Send(kind, number) => AgentEvent::Send {
+            bytes: bytes_of(alloc, kind, number)?,
+            to: peer(),
+        },
+        Event::Receive(kind, number) => AgentEvent::Receive {
+            bytes: bytes_of(alloc, kind, number)?,
+            from: peer(),
+        },
+        Event::ReceiveNothing => AgentEvent::Receive {
+            bytes: Vec::new(alloc),
+            from: peer(),
+        },
+        Event::Cancel(number) => AgentEvent::Cancel(id(number)?),
+        Event::CancelRetransmissions(number) => AgentEvent::CancelRetransmissions(id(number)?),
+        Event::Configure(number, timeouts) => configured(number, timeouts)?,
+        Event::ValidatePeer(last, port) => AgentEvent::ValidatePeer(address(last, port)),
+    })
+}
+
+/// The events of a run.
+fn events_of(alloc: Global, run: &Run) -> Result<Vec<(Instant, AgentEvent)>, Fail> {
+    let mut events = Vec::new(alloc);
+    for (millis, event) in run.events {
+        events.push((moment_of(run, *millis), made(alloc, *event)?))?;
+    }
+    Ok(events)
+}
+
+/// The step that a row names.
+fn done(alloc: Global, at: Instant, step: Step) -> Result<AgentStep, Fail> {
+    Ok(match step {
+        Step::Transmitted(number) => AgentStep::Transmitted {
+            at,
+            id: id(number)?,
+            to: peer(),
+            bytes: bytes_of(alloc, REQUEST, number)?,
+        },
+        Step::Sent(kind, number) => AgentStep::Sent {
+            at,
+            to: peer(),
+            bytes: bytes_of(alloc, kind, number)?,
+        },
+        Step::Received(accepted) => AgentStep::Received { at, accepted },
+        Step::Refused(error) => AgentStep::Refused { at, error },
+        Step::TimedOut(number) => AgentStep::TimedOut {
+            at,
+            id: id(number)?,
+        },
+        Step::Cancelled(number) => AgentStep::Cancelled {
+            at,
+            id: id(number)?,
+        },
+    })
+}
+
+/// The steps of a run.
+fn steps_of(alloc: Global, run: &Run) -> Result<Vec<AgentStep>, Fail> {
+    let mut steps = Vec::new(alloc);
+    for (millis, step) in run.steps {
+        steps.push(done(alloc, moment_of(run, *millis), *step)?)?;
+    }
+    Ok(steps)
 }
 
 /// Whether the moments never go back, from this one on, and none is past `until`.
@@ -87,7 +271,7 @@ fn are_in_order(from: Instant, events: &[(Instant, AgentEvent)], until: Instant)
 }
 
 /// A run over events that are in order.
-fn run<A: Allocator + Copy>(
+fn run_over<A: Allocator + Copy>(
     alloc: A,
     agent: &mut StunAgent<A>,
     events: &[(Instant, AgentEvent)],
@@ -107,197 +291,148 @@ fn driven<A: Allocator + Copy>(
     until: Instant,
 ) -> Result<Vec<AgentStep<A>, A>, Fail> {
     Ok(
-        run(alloc, agent, events, until)?
+        run_over(alloc, agent, events, until)?
             .ok()
             .ok_or("ample memory")?,
     )
 }
 
+/// The steps are those of a run.
+fn expect_steps(
+    rt: &impl Abort,
+    alloc: Global,
+    steps: &[AgentStep],
+    run: &Run,
+) -> Result<(), Fail> {
+    let expected = steps_of(alloc, run)?;
+    assert_eq!(rt; steps, expected.as_slice());
+    Ok(())
+}
+
+/// An agent that is driven by these events does what the run says.
+fn expect_driven(
+    rt: &impl Abort,
+    alloc: Global,
+    agent: &mut StunAgent,
+    events: &[(Instant, AgentEvent)],
+    run: &Run,
+) -> Result<(), Fail> {
+    let steps = driven(alloc, agent, events, end_of(run))?;
+    let awaited = run.awaited.map(|millis| moment_of(run, millis));
+    assert_eq!(rt; agent.next_awaited(), awaited);
+    expect_steps(rt, alloc, steps.as_slice(), run)
+}
+
+/// An agent that is driven by the events of a run does what the run says.
+fn expect_run(
+    rt: &impl Abort,
+    alloc: Global,
+    agent: &mut StunAgent,
+    run: &Run,
+) -> Result<(), Fail> {
+    let events = events_of(alloc, run)?;
+    expect_driven(rt, alloc, agent, events.as_slice(), run)
+}
+
+/// The same of a new agent.
+fn expect_new(
+    rt: &impl Abort,
+    alloc: Global,
+    transport: TransportType,
+    run: &Run,
+) -> Result<(), Fail> {
+    let mut agent = agent_over(alloc, transport);
+    expect_run(rt, alloc, &mut agent, run)
+}
+
 #[test]
 fn a_request_that_is_never_answered(rt: HostRuntime) -> Result<(), Fail> {
-    let alloc = rt.alloc();
-    let mut agent = agent_over(alloc, TransportType::Udp);
-    let events = [(at(0), ask(alloc, 1)?)];
-    let steps = driven(alloc, &mut agent, &events, Instant::MAX)?;
-    let mut expected = Vec::new(alloc);
-    for millis in DEFAULT_MOMENTS {
-        expected.push(transmitted(alloc, at(millis), 1)?)?;
-    }
-    expected.push(AgentStep::TimedOut {
-        at: at(DEFAULT_END),
-        id: id(1)?,
-    })?;
-    assert_eq!(rt; steps, expected);
-    assert_eq!(rt; agent.next_awaited(), None);
-    Ok(())
+    expect_new(&rt, rt.alloc(), TransportType::Udp, &UNANSWERED)
 }
 
+/// A run of which only the first steps come.
+fn cut(until: u64, count: usize, awaited: Option<u64>) -> Result<Run, Fail> {
+    Ok(Run {
+        until: Some(until),
+        steps: UNANSWERED.steps.get(..count).ok_or("no more than all")?,
+        awaited,
+        ..UNANSWERED
+    })
+}
+
+/// What is awaited at the last moment has its turn, and what is awaited later has none.
 #[test]
 fn a_run_ends_at_its_last_moment(rt: HostRuntime) -> Result<(), Fail> {
-    let alloc = rt.alloc();
-    // What is awaited at the last moment has its turn, and what is awaited later has none.
-    for (until, count) in [(3499, 3), (3500, 4), (39499, 7), (39500, 8)] {
-        let mut agent = agent_over(alloc, TransportType::Udp);
-        let events = [(at(0), ask(alloc, 1)?)];
-        let steps = driven(alloc, &mut agent, &events, at(until))?;
-        assert_eq!(rt; steps.len(), count, "until {until}");
+    // The last moment, the number of steps, and the moment that is awaited then.
+    const ENDS: &[(u64, usize, Option<u64>)] = &[
+        (3499, 3, Some(3500)),
+        (3500, 4, Some(7500)),
+        (39499, 7, Some(39500)),
+        (39500, 8, None),
+    ];
+    for (until, count, awaited) in ENDS {
+        let run = cut(*until, *count, *awaited)?;
+        expect_new(&rt, rt.alloc(), TransportType::Udp, &run)?;
     }
     Ok(())
 }
 
+/// What would be after the last moment that there is comes at it.
 #[test]
 fn a_request_near_the_last_moment(rt: HostRuntime) -> Result<(), Fail> {
-    let alloc = rt.alloc();
-    let start = Instant::from_nanos(u64::MAX - 1_000_000_000);
-    let second = Instant::from_nanos(u64::MAX - 500_000_000);
-    let mut agent = agent_over(alloc, TransportType::Udp);
-    let events = [(start, ask(alloc, 1)?)];
-    let steps = driven(alloc, &mut agent, &events, Instant::MAX)?;
-    let mut expected = Vec::new(alloc);
-    expected.push(transmitted(alloc, start, 1)?)?;
-    expected.push(transmitted(alloc, second, 1)?)?;
-    for _ in 0..5 {
-        expected.push(transmitted(alloc, Instant::MAX, 1)?)?;
-    }
-    expected.push(AgentStep::TimedOut {
-        at: Instant::MAX,
-        id: id(1)?,
-    })?;
-    assert_eq!(rt; steps, expected);
-    Ok(())
+    const RUN: Run = Run {
+        start: u64::MAX - 1_000_000_000,
+        events: &[(0, Event::Request(1))],
+        until: None,
+        steps: &[
+            (0, Step::Transmitted(1)),
+            (500, Step::Transmitted(1)),
+            (1000, Step::Transmitted(1)),
+            (1000, Step::Transmitted(1)),
+            (1000, Step::Transmitted(1)),
+            (1000, Step::Transmitted(1)),
+            (1000, Step::Transmitted(1)),
+            (1000, Step::TimedOut(1)),
+        ],
+        awaited: None,
+    };
+    assert_eq!(rt; moment_of(&RUN, 1000), Instant::MAX);
+    expect_new(&rt, rt.alloc(), TransportType::Udp, &RUN)
 }
 
 #[test]
 fn a_request_that_is_sent_no_more(rt: HostRuntime) -> Result<(), Fail> {
-    let alloc = rt.alloc();
+    const RUN: Run = Run {
+        start: 0,
+        events: &[(0, Event::Request(1)), (0, Event::CancelRetransmissions(1))],
+        until: None,
+        steps: &[(0, Step::Transmitted(1)), (39500, Step::Cancelled(1))],
+        awaited: None,
+    };
     for transport in [TransportType::Udp, TransportType::Tcp] {
-        let mut agent = agent_over(alloc, transport);
-        let events = [
-            (at(0), ask(alloc, 1)?),
-            (at(0), AgentEvent::CancelRetransmissions(id(1)?)),
-        ];
-        let steps = driven(alloc, &mut agent, &events, Instant::MAX)?;
-        let end = AgentStep::Cancelled {
-            at: at(DEFAULT_END),
-            id: id(1)?,
-        };
-        let expected = [transmitted(alloc, at(0), 1)?, end];
-        assert_eq!(rt; steps.as_slice(), expected.as_slice(), "over {transport}");
+        expect_new(&rt, rt.alloc(), transport, &RUN)?;
     }
     Ok(())
 }
 
 #[test]
 fn nothing_happens_without_events(rt: HostRuntime) -> Result<(), Fail> {
-    let alloc = rt.alloc();
-    let mut agent = agent_over(alloc, TransportType::Udp);
+    const RUN: Run = Run {
+        start: 0,
+        events: &[],
+        until: None,
+        steps: &[],
+        awaited: Some(500),
+    };
+    let mut agent = agent_over(rt.alloc(), TransportType::Udp);
     let _sent = agent.send_request(message(REQUEST, 1), peer(), at(0))?;
-    let steps = driven(alloc, &mut agent, &[], Instant::MAX)?;
-    assert!(rt; steps.is_empty());
-    assert_eq!(rt; agent.next_awaited(), Some(at(500)));
-    Ok(())
-}
-
-/// An event of the mixed run, with its moment in milliseconds.
-fn event(alloc: Global, number: u8) -> Result<(u64, AgentEvent), Fail> {
-    Ok(match number {
-        0 => (0, ask(alloc, 1)?),
-        1 => (200, ask(alloc, 2)?),
-        2 => (300, ask(alloc, 1)?),
-        3 => (400, AgentEvent::ValidatePeer(address(7, 1))),
-        4 => (600, receive(alloc, &message(SUCCESS, 2))?),
-        5 => (700, tell(alloc, INDICATION, 9)?),
-        6 => (800, ask(alloc, 3)?),
-        7 => (900, AgentEvent::Cancel(id(3)?)),
-        8 => (1000, configure()?),
-        9 => (1100, receive(alloc, &message(SUCCESS, 2))?),
-        10 => (1200, receive(alloc, &[])?),
-        11 => (1300, tell(alloc, REQUEST, 4)?),
-        _ => (MIXED_END, AgentEvent::ValidatePeer(peer())),
-    })
-}
-
-/// Request 1 gets four transmissions, after 1 s, 2 s and 4 s, and a last wait of 2 s.
-fn configure() -> Result<AgentEvent, Fail> {
-    Ok(AgentEvent::Configure {
-        id: id(1)?,
-        initial: Duration::from_secs(1),
-        retransmits: 4,
-        last: Duration::from_secs(2),
-        max: Duration::from_secs(10),
-    })
-}
-
-fn mixed_events(alloc: Global) -> Result<Vec<(Instant, AgentEvent)>, Fail> {
-    let mut events = Vec::new(alloc);
-    for number in 0..EVENTS {
-        let (millis, event) = event(alloc, number)?;
-        events.push((at(millis), event))?;
-    }
-    Ok(events)
-}
-
-/// The steps of the mixed run over UDP up to the moment at which request 1 is configured.
-fn first_steps(alloc: Global) -> Result<[AgentStep; 8], Fail> {
-    Ok([
-        transmitted(alloc, at(0), 1)?,
-        transmitted(alloc, at(200), 2)?,
-        AgentStep::Refused {
-            at: at(300),
-            error: StunError::AlreadyInProgress,
-        },
-        transmitted(alloc, at(500), 1)?,
-        AgentStep::Received {
-            at: at(600),
-            accepted: true,
-        },
-        AgentStep::Sent {
-            at: at(700),
-            to: peer(),
-            bytes: Vec::from_slice(alloc, &message(INDICATION, 9))?,
-        },
-        transmitted(alloc, at(800), 3)?,
-        AgentStep::Cancelled {
-            at: at(900),
-            id: id(3)?,
-        },
-    ])
-}
-
-/// The steps from there on. Request 1 was sent last at 500 ms, after one timeout, so the next two are 2 s and 4 s.
-fn last_steps(alloc: Global) -> Result<[AgentStep; 6], Fail> {
-    Ok([
-        AgentStep::Received {
-            at: at(1100),
-            accepted: false,
-        },
-        AgentStep::Refused {
-            at: at(1200),
-            error: StunError::ParseError(StunParseError::Truncated),
-        },
-        AgentStep::Refused {
-            at: at(1300),
-            error: StunError::ProtocolViolation,
-        },
-        transmitted(alloc, at(2500), 1)?,
-        transmitted(alloc, at(6500), 1)?,
-        AgentStep::TimedOut {
-            at: at(8500),
-            id: id(1)?,
-        },
-    ])
+    expect_run(&rt, rt.alloc(), &mut agent, &RUN)
 }
 
 #[test]
 fn requests_among_other_calls(rt: HostRuntime) -> Result<(), Fail> {
-    let alloc = rt.alloc();
-    let mut agent = agent_over(alloc, TransportType::Udp);
-    let events = mixed_events(alloc)?;
-    let steps = driven(alloc, &mut agent, events.as_slice(), at(MIXED_END))?;
-    assert_eq!(rt; steps.len(), 14);
-    let (first, last) = steps.split_at(8);
-    assert_eq!(rt; first, first_steps(alloc)?.as_slice());
-    assert_eq!(rt; last, last_steps(alloc)?.as_slice());
+    let mut agent = agent_over(rt.alloc(), TransportType::Udp);
+    expect_run(&rt, rt.alloc(), &mut agent, &MIXED)?;
     assert!(rt; agent.is_validated_peer(address(7, 1)));
     Ok(())
 }
@@ -320,26 +455,8 @@ fn expect_rest<A: Allocator + Copy>(
     Ok(())
 }
 
-/// One run in which the nth allocation is refused, and what follows. The answer tells whether there was no such allocation.
-fn refuse_one<A: Allocator + Copy>(
-    rt: &impl Abort,
-    heap: &RefusingAllocator<A>,
-    nth: u64,
-    events: &[(Instant, AgentEvent)],
-) -> Result<bool, Fail> {
-    let mut agent = agent_over(heap, TransportType::Udp);
-    let mut other = agent_over(heap, TransportType::Udp);
-    let whole = driven(heap, &mut other, events, at(MIXED_END))?;
-    heap.refuse(nth);
-    let first = run(heap, &mut agent, events, at(MIXED_END))?;
-    let met_none = heap.met_none();
-    assert!(rt; first.is_ok() || !met_none);
-    expect_run(rt, heap, &mut agent, events, first, whole.as_slice())?;
-    assert_eq!(rt; agent.stats(), other.stats());
-    Ok(met_none)
-}
-
-fn expect_run<A: Allocator + Copy>(
+/// The steps are those of the whole run, or its rest is made.
+fn expect_end<A: Allocator + Copy>(
     rt: &impl Abort,
     alloc: A,
     agent: &mut StunAgent<A>,
@@ -348,15 +465,61 @@ fn expect_run<A: Allocator + Copy>(
     whole: &[AgentStep<A>],
 ) -> Result<(), Fail> {
     match first {
-        Ok(steps) => assert!(rt; steps.as_slice() == whole),
-        Err(stopped) => expect_rest(rt, alloc, agent, events, stopped, whole)?,
+        Ok(steps) => {
+            assert!(rt; steps.as_slice() == whole);
+            Ok(())
+        }
+        Err(stopped) => expect_rest(rt, alloc, agent, events, stopped, whole),
     }
-    Ok(())
+}
+
+/// A run in which the nth allocation is refused, and its rest. The answer tells whether there was no such allocation.
+fn expect_refusal<'a>(
+    rt: &impl Abort,
+    heap: &'a RefusingAllocator<Global>,
+    agent: &mut StunAgent<&'a RefusingAllocator<Global>>,
+    nth: u64,
+    events: &[(Instant, AgentEvent)],
+    whole: &[AgentStep<&'a RefusingAllocator<Global>>],
+) -> Result<bool, Fail> {
+    heap.refuse(nth);
+    let first = run_over(heap, agent, events, at(MIXED_END))?;
+    let met_none = heap.met_none();
+    assert!(rt; first.is_ok() || !met_none);
+    expect_end(rt, heap, agent, events, first, whole)?;
+    Ok(met_none)
+}
+
+/// Two agents do and count the same, one in ample memory and one where the nth allocation is refused.
+fn expect_both<'a>(
+    rt: &impl Abort,
+    heap: &'a RefusingAllocator<Global>,
+    agent: &mut StunAgent<&'a RefusingAllocator<Global>>,
+    other: &mut StunAgent<&'a RefusingAllocator<Global>>,
+    nth: u64,
+    events: &[(Instant, AgentEvent)],
+) -> Result<bool, Fail> {
+    let whole = driven(heap, other, events, at(MIXED_END))?;
+    let met_none = expect_refusal(rt, heap, agent, nth, events, whole.as_slice())?;
+    assert_eq!(rt; agent.stats(), other.stats());
+    Ok(met_none)
+}
+
+/// The same of new agents.
+fn meets_none(
+    rt: &impl Abort,
+    heap: &RefusingAllocator<Global>,
+    nth: u64,
+    events: &[(Instant, AgentEvent)],
+) -> Result<bool, Fail> {
+    let mut agent = agent_over(heap, TransportType::Udp);
+    let mut other = agent_over(heap, TransportType::Udp);
+    expect_both(rt, heap, &mut agent, &mut other, nth, events)
 }
 
 #[test]
 fn a_run_goes_on_after_a_failed_allocation(rt: HostRuntime) -> Result<(), Fail> {
-    let events = mixed_events(rt.alloc())?;
+    let events = events_of(rt.alloc(), &MIXED)?;
     let heap = RefusingAllocator::new(rt.alloc());
-    heap.each_refusal(|nth| refuse_one(&rt, &heap, nth, events.as_slice()))
+    heap.each_refusal(|nth| meets_none(&rt, &heap, nth, events.as_slice()))
 }

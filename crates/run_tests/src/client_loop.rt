@@ -5,6 +5,7 @@ use crate::dialogue::{
 };
 use std::alloc::Global;
 use std::net::SocketAddr;
+use std::process::Abort;
 use std::test::Fail;
 use stun_agent::agent::{StunAgent, StunAgentPollRet};
 use stun_auth::auth::{
@@ -150,67 +151,96 @@ const SERVER_ERROR: &str =
 const BAD_REQUEST: &str =
     "01110014 2112a442 000000040000000500000006 0009000f 00000400 426164205265717565737400";
 
+/// A client with the password `pass` asks over a socket, and learns this.
+fn expect_end(
+    rt: &impl Abort,
+    alloc: Global,
+    socket: &mut Socket<'_>,
+    end: End,
+) -> Result<(), Fail> {
+    let mut auth = client(alloc, "pass")?;
+    let found = ask(alloc, &mut auth, socket, peer(), &mut words())?;
+    assert_eq!(rt; found, end);
+    Ok(())
+}
+
+/// The same, and then the client has sent this, and all datagrams have come.
+fn expect_sent(
+    rt: &impl Abort,
+    alloc: Global,
+    socket: &mut Socket<'_>,
+    sent: &[(u64, &str)],
+    end: End,
+) -> Result<(), Fail> {
+    expect_end(rt, alloc, socket, end)?;
+    socket.expect_sent(rt, alloc, peer(), sent)
+}
+
+/// What a client sends and learns where these datagrams come.
+fn expect_dialogue(
+    rt: &impl Abort,
+    alloc: Global,
+    coming: &[(u64, &str)],
+    sent: &[(u64, &str)],
+    end: End,
+) -> Result<(), Fail> {
+    let coming = arrivals(alloc, peer(), coming)?;
+    let mut socket = Socket::new(alloc, coming.as_slice());
+    expect_sent(rt, alloc, &mut socket, sent, end)
+}
+
 #[test]
 fn a_client_is_answered(rt: HostRuntime) -> Result<(), Fail> {
-    let alloc = rt.alloc();
-    let coming = arrivals(
-        alloc,
-        peer(),
-        &[
-            (100, "8000 2112a442"),
-            (200, STRAY_CHALLENGE),
-            (600, CHALLENGE),
-            (700, STRAY_STALE_NONCE),
-            (710, FORGED_SUCCESS),
-            (720, SIGNED_REQUEST),
-            (800, STALE_NONCE),
-            (900, SUCCESS),
-        ],
-    )?;
-    let mut socket = Socket::new(alloc, coming.as_slice());
-    let mut auth = client(alloc, "pass")?;
-    let end = ask(alloc, &mut auth, &mut socket, peer(), &mut words())?;
-    assert_eq!(rt; end, End::Address(local()));
-    let expected = [
+    const COMING: &[(u64, &str)] = &[
+        (100, "8000 2112a442"),
+        (200, STRAY_CHALLENGE),
+        (600, CHALLENGE),
+        (700, STRAY_STALE_NONCE),
+        (710, FORGED_SUCCESS),
+        (720, SIGNED_REQUEST),
+        (800, STALE_NONCE),
+        (900, SUCCESS),
+    ];
+    const SENT: &[(u64, &str)] = &[
         (0, REQUEST),
         (500, REQUEST),
         (600, SIGNED_REQUEST),
         (800, RENEWED_REQUEST),
     ];
-    socket.expect_sent(&rt, alloc, peer(), &expected)
+    expect_dialogue(&rt, rt.alloc(), COMING, SENT, End::Address(local()))
 }
 
-/// What a client learns where these answers come.
-fn end_with(alloc: Global, password: &str, script: &[(u64, &str)]) -> Result<End, Fail> {
-    let coming = arrivals(alloc, peer(), script)?;
+/// What a client learns where this datagram comes after the challenge.
+fn expect_end_after(rt: &impl Abort, alloc: Global, second: &str, end: End) -> Result<(), Fail> {
+    let coming = arrivals(alloc, peer(), &[(100, CHALLENGE), (200, second)])?;
     let mut socket = Socket::new(alloc, coming.as_slice());
-    let mut auth = client(alloc, password)?;
-    ask(alloc, &mut auth, &mut socket, peer(), &mut words())
+    expect_end(rt, alloc, &mut socket, end)
 }
 
 #[test]
 fn other_ends(rt: HostRuntime) -> Result<(), Fail> {
-    let alloc = rt.alloc();
-    let refused = End::Refused(Reason::Unauthorized);
-    for (second, end) in [
-        (CHALLENGE_AGAIN, refused),
+    const ENDS: &[(&str, End)] = &[
+        (CHALLENGE_AGAIN, End::Refused(Reason::Unauthorized)),
         (SERVER_ERROR, End::ServerError),
         (FORGED_SUCCESS, End::NoAnswer),
         (BAD_REQUEST, End::NoAnswer),
-    ] {
-        let script = [(100, CHALLENGE), (200, second)];
-        assert_eq!(rt; end_with(alloc, "pass", &script)?, end);
+    ];
+    for (second, end) in ENDS {
+        expect_end_after(&rt, rt.alloc(), second, *end)?;
     }
     Ok(())
 }
 
 #[test]
 fn no_answer_comes(rt: HostRuntime) -> Result<(), Fail> {
-    let alloc = rt.alloc();
-    let mut socket = Socket::new(alloc, &[]);
-    let mut auth = client(alloc, "pass")?;
-    let end = ask(alloc, &mut auth, &mut socket, peer(), &mut words())?;
-    assert_eq!(rt; end, End::NoAnswer);
-    let expected = [0, 500, 1500, 3500, 7500, 15500, 31500].map(|millis| (millis, REQUEST));
-    socket.expect_sent(&rt, alloc, peer(), &expected)
+    const SENT: &[(u64, &str)] = &[
+        (0, REQUEST),
+        (500, REQUEST),
+        (1500, REQUEST),
+        (3500, REQUEST),
+        (7500, REQUEST),
+        (15500, REQUEST),
+        (31500, REQUEST),
+    ];
+    expect_dialogue(&rt, rt.alloc(), &[], SENT, End::NoAnswer)
 }

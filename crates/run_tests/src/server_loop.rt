@@ -5,6 +5,7 @@ use crate::dialogue::{
 };
 use std::alloc::{AllocError, Global};
 use std::net::SocketAddr;
+use std::process::Abort;
 use std::test::Fail;
 use stun_auth::auth::{
     LongTermServerAuth, LongTermServerAuthErrorReason as Reason, LongTermServerValidation,
@@ -102,33 +103,55 @@ const HALF_SIGNED: &str = "0001002c 2112a442 000000070000000700000007 00060004 7
 const BAD_REQUEST: &str =
     "01110014 2112a442 000000070000000700000007 0009000f 00000400 426164205265717565737400";
 
-/// A nonce is current for an hour, that moment included.
-#[test]
-fn a_server_answers(rt: HostRuntime) -> Result<(), Fail> {
-    let alloc = rt.alloc();
-    let coming = arrivals(
-        alloc,
-        local(),
-        &[
-            (0, "8000 2112a442"),
-            (1, INDICATION),
-            (2, SUCCESS),
-            (3, REQUEST),
-            (3_600_004, SIGNED_REQUEST),
-            (3_600_005, RENEWED_REQUEST),
-            (3_600_006, HALF_SIGNED),
-        ],
-    )?;
-    let mut socket = Socket::new(alloc, coming.as_slice());
+/// A server answers what comes over a socket.
+fn serve_all(alloc: Global, socket: &mut Socket<'_>) -> Result<(), Fail> {
     let mut auth = server(alloc)?;
     // Each word of 1 draws the letter `B`; the zeros after them draw the letter `A`.
     let mut rng = WordSource::new([1; 16]);
-    serve(alloc, &mut auth, &mut socket, &mut rng)?;
-    let expected = [
+    serve(alloc, &mut auth, socket, &mut rng)?;
+    Ok(())
+}
+
+/// The same, and then it has sent this, and all datagrams have come.
+fn expect_sent(
+    rt: &impl Abort,
+    alloc: Global,
+    socket: &mut Socket<'_>,
+    sent: &[(u64, &str)],
+) -> Result<(), Fail> {
+    serve_all(alloc, socket)?;
+    socket.expect_sent(rt, alloc, local(), sent)
+}
+
+/// What a server sends where these datagrams come.
+fn expect_dialogue(
+    rt: &impl Abort,
+    alloc: Global,
+    coming: &[(u64, &str)],
+    sent: &[(u64, &str)],
+) -> Result<(), Fail> {
+    let coming = arrivals(alloc, local(), coming)?;
+    let mut socket = Socket::new(alloc, coming.as_slice());
+    expect_sent(rt, alloc, &mut socket, sent)
+}
+
+/// A nonce is current for an hour, that moment included.
+#[test]
+fn a_server_answers(rt: HostRuntime) -> Result<(), Fail> {
+    const COMING: &[(u64, &str)] = &[
+        (0, "8000 2112a442"),
+        (1, INDICATION),
+        (2, SUCCESS),
+        (3, REQUEST),
+        (3_600_004, SIGNED_REQUEST),
+        (3_600_005, RENEWED_REQUEST),
+        (3_600_006, HALF_SIGNED),
+    ];
+    const SENT: &[(u64, &str)] = &[
         (3, CHALLENGE),
         (3_600_004, STALE_NONCE),
         (3_600_005, SUCCESS),
         (3_600_006, BAD_REQUEST),
     ];
-    socket.expect_sent(&rt, alloc, local(), &expected)
+    expect_dialogue(&rt, rt.alloc(), COMING, SENT)
 }

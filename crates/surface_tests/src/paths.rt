@@ -1,7 +1,8 @@
 //! Each public name is reached by its path in `stun_proto`, the door that users have.
 ghost use Rattle.std.specs.Prelude.{◌≡◌, []};
 
-use std::net::{IpAddr, Ipv4Addr, SocketAddr};
+use std::alloc::Global;
+use std::process::Abort;
 use std::test::Fail;
 use stun_proto::agent::{
     RequestRto, StunAgent, StunAgentBuilder, StunAgentPollRet, StunError, StunRequest,
@@ -34,6 +35,7 @@ use stun_proto::types::message::{
 };
 use stun_proto::types::prelude::*;
 use stun_proto::{Instant, laws};
+use test_support::datagrams::{id, local, peer};
 use test_support::parts::MD5_KEY;
 
 /// A Binding request with id 1 and USERNAME `a`.
@@ -42,30 +44,45 @@ const REQUEST: [u8; 28] = [
     0,
 ];
 
-#[test]
-fn reading(rt: HostRuntime) -> Result<(), Fail> {
-    let message: Message = Message::from_bytes(&REQUEST)?;
+/// The method and the class of the request.
+fn expect_message(rt: &impl Abort, message: &Message) {
     assert_eq!(rt; message.class(), MessageClass::Request);
     assert_eq!(rt; Some(message.method()), Method::new(1));
-    let header: MessageHeader = MessageHeader::from_bytes(&REQUEST)?;
+}
+
+/// The header of the request.
+fn expect_header(rt: &impl Abort, header: &MessageHeader) {
     assert_eq!(rt; header.data_length(), 8);
     let kind: MessageType = header.get_type();
     assert_eq!(rt; kind.method(), BINDING);
+}
+
+/// The one attribute of the request.
+fn expect_attribute(rt: &impl Abort, place: usize, attribute: RawAttribute) {
+    assert_eq!(rt; place, 20);
+    assert_eq!(rt; attribute.get_type(), AttributeType::USERNAME);
+    assert_eq!(rt; attribute.value(), b"a".as_slice());
+}
+
+/// The attributes of the request: one, and no more.
+fn expect_attributes(rt: &impl Abort, message: &Message) {
     let mut attributes: MessageAttributesIter = message.iter_attributes();
     match attributes.next() {
-        Some((place, attribute)) => {
-            let attribute: RawAttribute = attribute;
-            assert_eq!(rt; place, 20);
-            assert_eq!(rt; attribute.get_type(), AttributeType::USERNAME);
-            assert_eq!(rt; attribute.value(), b"a".as_slice());
-        }
+        Some((place, attribute)) => expect_attribute(rt, place, attribute),
         None => panic!(rt; "an attribute is found"),
     }
     assert!(rt; attributes.next().is_none());
-    assert_eq!(rt;
-        Message::from_bytes(&[]).err(),
-        Some(StunParseError::Truncated)
-    );
+}
+
+#[test]
+fn reading(rt: HostRuntime) -> Result<(), Fail> {
+    let message: Message = Message::from_bytes(&REQUEST)?;
+    expect_message(&rt, &message);
+    expect_attributes(&rt, &message);
+    let header: MessageHeader = MessageHeader::from_bytes(&REQUEST)?;
+    expect_header(&rt, &header);
+    let refused = Message::from_bytes(&[]).err();
+    assert_eq!(rt; refused, Some(StunParseError::Truncated));
     Ok(())
 }
 
@@ -74,8 +91,8 @@ fn type_of<'a, A: Attribute + AttributeStaticType + AttributeFromRaw<'a>>() -> u
     A::TYPE.value()
 }
 
-#[test]
-fn attributes(rt: HostRuntime) -> Result<(), Fail> {
+/// The types of the attributes (RFC 8489, section 18.3).
+fn expect_types(rt: &impl Abort) {
     let types = [
         type_of::<Username>(),
         type_of::<Realm>(),
@@ -92,30 +109,55 @@ fn attributes(rt: HostRuntime) -> Result<(), Fail> {
         0x0006, 0x0014, 0x0015, 0x001e, 0x0009, 0x001d, 0x8002, 0x0008, 0x001c, 0x0020,
     ];
     assert_eq!(rt; types, expected);
-    let builder: ErrorCodeBuilder = ErrorCode::builder(300);
-    assert_eq!(rt; builder.build()?.code(), 300);
-    let value: PasswordAlgorithmValue = PasswordAlgorithmValue::MD5;
-    assert_eq!(rt; value.as_integrity(), IntegrityAlgorithm::Sha1);
-    Ok(())
 }
 
 #[test]
-fn credentials(rt: HostRuntime) -> Result<(), Fail> {
-    let alloc = rt.alloc();
+fn attributes(rt: HostRuntime) -> Result<(), Fail> {
+    expect_types(&rt);
+    let value: PasswordAlgorithmValue = PasswordAlgorithmValue::MD5;
+    assert_eq!(rt; value.as_integrity(), IntegrityAlgorithm::Sha1);
+    let builder: ErrorCodeBuilder = ErrorCode::builder(300);
+    assert_eq!(rt; builder.build()?.code(), 300);
+    Ok(())
+}
+
+/// The key of a password alone.
+fn expect_short_term_key(rt: &impl Abort, alloc: Global) -> Result<(), Fail> {
     let password: ShortTermCredentials = ShortTermCredentials::new(String::from_str(
         alloc, "pass",
     )?);
     let key: IntegrityKey = password.make_key()?;
     assert_eq!(rt; key.as_bytes(), b"pass".as_slice());
-    let user: LongTermCredentials = LongTermCredentials::new(
-        String::from_str(alloc, "user")?,
-        String::from_str(alloc, "pass")?,
-    );
-    let user: LongTermKeyCredentials = user.to_key(String::from_str(alloc, "realm")?)?;
-    let credentials: MessageIntegrityCredentials = MessageIntegrityCredentials::from(user);
+    Ok(())
+}
+
+/// A user with a password.
+fn user(alloc: Global) -> Result<LongTermCredentials, Fail> {
+    let name = String::from_str(alloc, "user")?;
+    let password = String::from_str(alloc, "pass")?;
+    Ok(LongTermCredentials::new(name, password))
+}
+
+/// The credentials of a user in a realm.
+fn credentials_of(
+    alloc: Global,
+    user: LongTermCredentials,
+) -> Result<MessageIntegrityCredentials, Fail> {
+    let realm = String::from_str(alloc, "realm")?;
+    let user: LongTermKeyCredentials = user.to_key(realm)?;
+    Ok(MessageIntegrityCredentials::from(user))
+}
+
+/// The request has no MESSAGE-INTEGRITY that these credentials could validate.
+fn expect_missing(rt: &impl Abort, credentials: &MessageIntegrityCredentials) -> Result<(), Fail> {
     let message = Message::from_bytes(&REQUEST)?;
     let missing = ValidateError::Parse(StunParseError::MissingAttribute(AttributeType::new(8)));
-    assert_eq!(rt; message.validate_integrity(&credentials), Err(missing));
+    assert_eq!(rt; message.validate_integrity(credentials), Err(missing));
+    Ok(())
+}
+
+/// The key of a user in a realm, as it is and prepared.
+fn expect_long_term_key(rt: &impl Abort, alloc: Global) {
     let algorithm = IntegrityAlgorithm::Sha1;
     let key: IntegrityKey = long_term_key(alloc, algorithm, "user", "realm", "pass");
     assert_eq!(rt; key.as_bytes(), MD5_KEY.as_slice());
@@ -123,10 +165,22 @@ fn credentials(rt: HostRuntime) -> Result<(), Fail> {
     assert_eq!(rt; prepared.key().as_bytes(), MD5_KEY.as_slice());
     // An empty text under this key, by Python's module `hmac`.
     assert_eq!(rt; &prepared.hmac_sha1(&[])[..2], [0x87, 0xbf].as_slice());
-    // An empty text under an empty key.
+}
+
+/// An empty text under an empty key.
+fn expect_digests(rt: &impl Abort) {
     assert_eq!(rt; &hmac_sha1(&[], &[])[..2], [0xfb, 0xdb].as_slice());
     assert_eq!(rt; &hmac_sha256(&[], &[])[..2], [0xb6, 0x13].as_slice());
-    Ok(())
+}
+
+#[test]
+fn credentials(rt: HostRuntime) -> Result<(), Fail> {
+    expect_digests(&rt);
+    expect_long_term_key(&rt, rt.alloc());
+    expect_short_term_key(&rt, rt.alloc())?;
+    let user = user(rt.alloc())?;
+    let credentials = credentials_of(rt.alloc(), user)?;
+    expect_missing(&rt, &credentials)
 }
 
 // What a writer writes: a header of a Binding request.
@@ -137,108 +191,166 @@ fn write_with<W: MessageWrite + MessageWriteExt>(writer: W) -> Result<W::Output,
     Ok(Message::builder_request(BINDING, id, writer)?.finish())
 }
 
-#[test]
-fn writers(rt: HostRuntime) -> Result<(), Fail> {
-    let writer: MessageWriteVec = MessageWriteVec::new(rt.alloc());
-    let written: Vec<u8> = write_with(writer)?;
+/// A writer over a slice writes this too.
+fn expect_written(rt: &impl Abort, written: &[u8]) -> Result<(), Fail> {
     let mut room = [0; 20];
     let writer: MessageWriteMutSlice = MessageWriteMutSlice::new(&mut room);
-    assert_eq!(rt; written.as_slice(), write_with(writer)?);
-    let data: Data = Data::Borrowed(written.as_slice());
-    assert_eq!(rt; OwnedBytes::bytes(&data), written.as_slice());
+    assert_eq!(rt; written, write_with(writer)?);
+    let data: Data = Data::Borrowed(written);
+    assert_eq!(rt; OwnedBytes::bytes(&data), written);
     Ok(())
 }
 
 #[test]
-fn agents(rt: HostRuntime) -> Result<(), Fail> {
-    let here = SocketAddr::new(IpAddr::V4(Ipv4Addr::new(10, 0, 0, 1)), 12345);
-    let there = SocketAddr::new(IpAddr::V4(Ipv4Addr::new(10, 0, 0, 2)), 3478);
-    let builder: StunAgentBuilder = StunAgent::builder(rt.alloc(), TransportType::Udp, here);
-    let mut agent: StunAgent = builder.stats(true).build();
-    let statistics: Option<&StunAgentStats> = agent.stats();
-    assert!(rt; statistics.is_some());
-    let sent: Transmit<[u8; 2]> = agent.send_data([1, 2], there)?;
+fn writers(rt: HostRuntime) -> Result<(), Fail> {
+    let writer: MessageWriteVec = MessageWriteVec::new(rt.alloc());
+    let written: Vec<u8> = write_with(writer)?;
+    expect_written(&rt, written.as_slice())
+}
+
+/// What an agent sends that is no message.
+fn expect_sent(rt: &impl Abort, agent: &mut StunAgent) -> Result<(), Fail> {
+    let sent: Transmit<[u8; 2]> = agent.send_data([1, 2], peer())?;
     assert_eq!(rt;
         (sent.transport, sent.from, sent.to),
-        (TransportType::Udp, here, there)
+        (TransportType::Udp, local(), peer())
     );
-    let answer = agent.send([0; 4], there, Instant::ZERO).err();
+    let answer = agent.send([0; 4], peer(), Instant::ZERO).err();
     let refused = StunError::ParseError(StunParseError::Truncated);
     assert_eq!(rt; answer, Some(refused));
-    let id = TransactionId::from_u128(1).ok_or("96 bits")?;
+    Ok(())
+}
+
+/// An agent has no request of this id.
+fn expect_no_request(rt: &impl Abort, agent: &mut StunAgent, id: TransactionId) {
     let request: Option<StunRequest> = agent.request_transaction(id);
     assert!(rt; request.is_none());
     let request: Option<StunRequestMut> = agent.mut_request_transaction(id);
     assert!(rt; request.is_none());
     let found: StunAgentPollRet = agent.poll(Instant::ZERO);
     assert_ne!(rt; found, StunAgentPollRet::TransactionTimedOut(id));
-    let settings: RequestRto = RequestRto::default();
-    assert_eq!(rt; settings.slots(TransportType::Tcp), 0);
-    Ok(())
 }
 
 #[test]
-fn authenticators(rt: HostRuntime) -> Result<(), Fail> {
-    let alloc = rt.alloc();
-    let message = Message::from_bytes(&REQUEST)?;
+fn agents(rt: HostRuntime) -> Result<(), Fail> {
+    let settings: RequestRto = RequestRto::default();
+    assert_eq!(rt; settings.slots(TransportType::Tcp), 0);
+    let id = id(1)?;
+    let builder: StunAgentBuilder = StunAgent::builder(rt.alloc(), TransportType::Udp, local());
+    let mut agent: StunAgent = builder.stats(true).build();
+    let statistics: Option<&StunAgentStats> = agent.stats();
+    assert!(rt; statistics.is_some());
+    expect_sent(&rt, &mut agent)?;
+    expect_no_request(&rt, &mut agent, id);
+    Ok(())
+}
+
+/// A client refuses what it cannot check.
+fn expect_client_refuses(rt: &impl Abort, alloc: Global, message: &Message) {
     let mut client: LongTermClientAuth = LongTermClientAuth::new(alloc);
     let told: Result<LongTermClientValidation, LongTermClientAuthError> =
-        client.validate_incoming_message(&message);
+        client.validate_incoming_message(message);
     let reason: Option<LongTermClientAuthErrorReason> = told.err().map(|error| error.reason());
     assert_eq!(rt;
         reason,
         Some(LongTermClientAuthErrorReason::IntegrityFailed)
     );
-    let mut server: LongTermServerAuth = LongTermServerAuth::new(
-        alloc,
-        String::from_str(alloc, "realm")?,
-    );
-    server.set_nonce_expiry_duration(minimum_nonce_expiry_duration());
-    let here = SocketAddr::new(IpAddr::V4(Ipv4Addr::new(10, 0, 0, 1)), 12345);
+}
+
+/// A server of the realm `realm`.
+fn server(alloc: Global) -> Result<LongTermServerAuth, Fail> {
+    let realm = String::from_str(alloc, "realm")?;
+    let server: LongTermServerAuth = LongTermServerAuth::new(alloc, realm);
+    Ok(server)
+}
+
+/// A server refuses a request of one whom it does not know.
+fn expect_server_refuses(rt: &impl Abort, server: &mut LongTermServerAuth, message: &Message) {
     let mut rng = WordSource::new([0; 16]);
     let judged: Result<LongTermServerValidation, LongTermServerAuthError> =
-        server.validate_incoming_message(&message, here, Instant::ZERO, &mut rng);
+        server.validate_incoming_message(message, local(), Instant::ZERO, &mut rng);
     let reason: Option<LongTermServerAuthErrorReason> = judged.err().map(|error| error.reason());
     assert_eq!(rt; reason, Some(LongTermServerAuthErrorReason::Unauthorized));
-    let nonce = server.nonce_for_client(here).ok_or("a nonce was made")?;
+    assert_eq!(rt; server.anonymous_username(), Feature::Auto);
+}
+
+/// The nonce that it made says that names may be hashed.
+fn expect_nonce(rt: &impl Abort, server: &LongTermServerAuth) -> Result<(), Fail> {
+    let nonce = server.nonce_for_client(local()).ok_or("a nonce was made")?;
     assert!(rt; nonce.starts_with(LONG_TERM_RFC8489_NONCE_COOKIE));
     let bits: NonceSecurityBits = NonceSecurityBits::from_nonce(nonce).ok_or("it has bits")?;
     assert!(rt; bits.username_anonymity());
-    assert_eq!(rt; server.anonymous_username(), Feature::Auto);
-    let mut short: ShortTermAuth = ShortTermAuth::new(alloc);
-    assert_eq!(rt; short.validate_incoming_message(&message), Ok(None));
     Ok(())
+}
+
+/// Without a password nothing is checked.
+fn expect_unchecked(rt: &impl Abort, alloc: Global, message: &Message) {
+    let mut short: ShortTermAuth = ShortTermAuth::new(alloc);
+    assert_eq!(rt; short.validate_incoming_message(message), Ok(None));
+}
+
+#[test]
+fn authenticators(rt: HostRuntime) -> Result<(), Fail> {
+    let message = Message::from_bytes(&REQUEST)?;
+    expect_client_refuses(&rt, rt.alloc(), &message);
+    expect_unchecked(&rt, rt.alloc(), &message);
+    let mut server = server(rt.alloc())?;
+    server.set_nonce_expiry_duration(minimum_nonce_expiry_duration());
+    expect_server_refuses(&rt, &mut server, &message);
+    expect_nonce(&rt, &server)
+}
+
+/// An agent that nothing happens to does nothing.
+fn expect_no_steps(rt: &impl Abort, alloc: Global) -> Result<(), Fail> {
+    let events: [(Instant, AgentEvent); 0] = [];
+    let mut agent = StunAgent::builder(alloc, TransportType::Udp, local()).build();
+    let steps: Result<Vec<AgentStep>, Stopped> = drive(alloc, &mut agent, &events, Instant::MAX);
+    assert!(rt; steps.ok().ok_or("no memory is wanted")?.is_empty());
+    Ok(())
+}
+
+/// A server without calls replies nothing.
+fn expect_no_replies(
+    rt: &impl Abort,
+    alloc: Global,
+    server: &mut LongTermServerAuth,
+) -> Result<(), Fail> {
+    let calls: [ServerCall; 0] = [];
+    let replies: Result<Vec<ServerReply>, Stopped> = serve(alloc, server, &calls);
+    assert!(rt; replies.ok().ok_or("no memory is wanted")?.is_empty());
+    Ok(())
+}
+
+/// A client without credentials refuses the challenge of this server.
+fn expect_refusal(
+    rt: &impl Abort,
+    alloc: Global,
+    server: &mut LongTermServerAuth,
+    ids: [TransactionId; 2],
+) {
+    let calls: [ServerCall; 0] = [];
+    let mut client = LongTermClientAuth::new(alloc);
+    let met: Result<Outcome, NegotiateError> = negotiate(
+        alloc,
+        &mut client,
+        server,
+        local(),
+        ids,
+        [Instant::ZERO, Instant::MAX],
+        [[0; 16], [0; 16]],
+        [&calls, &calls],
+    );
+    let refused = Outcome::ClientRefused(LongTermClientAuthErrorReason::Unauthorized);
+    assert!(rt; met == Ok(refused));
 }
 
 #[test]
 fn runs(rt: HostRuntime) -> Result<(), Fail> {
-    let alloc = rt.alloc();
-    let here = SocketAddr::new(IpAddr::V4(Ipv4Addr::new(10, 0, 0, 1)), 12345);
-    let events: [(Instant, AgentEvent); 0] = [];
-    let mut agent = StunAgent::builder(alloc, TransportType::Udp, here).build();
-    let steps: Result<Vec<AgentStep>, Stopped> = drive(alloc, &mut agent, &events, Instant::MAX);
-    assert!(rt; steps.ok().ok_or("no memory is wanted")?.is_empty());
-    let calls: [ServerCall; 0] = [];
-    let mut server = LongTermServerAuth::new(alloc, String::from_str(alloc, "realm")?);
-    let replies: Result<Vec<ServerReply>, Stopped> = serve(alloc, &mut server, &calls);
-    assert!(rt; replies.ok().ok_or("no memory is wanted")?.is_empty());
-    let mut client = LongTermClientAuth::new(alloc);
-    let first = TransactionId::from_u128(1).ok_or("96 bits")?;
-    let second = TransactionId::from_u128(2).ok_or("96 bits")?;
-    let moments = [Instant::ZERO, Instant::MAX];
-    let met: Result<Outcome, NegotiateError> = negotiate(
-        alloc,
-        &mut client,
-        &mut server,
-        here,
-        [first, second],
-        moments,
-        [[0; 16], [0; 16]],
-        [&calls, &calls],
-    );
-    // A client without credentials.
-    let refused = Outcome::ClientRefused(LongTermClientAuthErrorReason::Unauthorized);
-    assert!(rt; met == Ok(refused));
+    expect_no_steps(&rt, rt.alloc())?;
+    let ids = [id(1)?, id(2)?];
+    let mut server = server(rt.alloc())?;
+    expect_no_replies(&rt, rt.alloc(), &mut server)?;
+    expect_refusal(&rt, rt.alloc(), &mut server, ids);
     Ok(())
 }
 

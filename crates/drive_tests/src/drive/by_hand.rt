@@ -1,6 +1,8 @@
 //! The mixed run again, by an application's own loop around a second agent.
-use super::{MIXED_END, MOST_CALLS, agent_over, driven, mixed_events};
+use super::{MIXED, MIXED_END, MOST_CALLS, agent_over, driven, events_of};
 use std::alloc::{AllocError, Global};
+use std::net::SocketAddr;
+use std::process::Abort;
 use std::test::Fail;
 use stun_agent::agent::{StunAgent, StunAgentPollRet, StunError};
 use stun_base::header::MessageHeader;
@@ -9,6 +11,21 @@ use stun_base::transport::TransportType;
 use stun_proto::replay::{AgentEvent, AgentStep};
 use stun_types::message::Message;
 use test_support::datagrams::at;
+
+/// The step of a request that is sent.
+fn transmitted(
+    alloc: Global,
+    now: Instant,
+    bytes: &[u8],
+    to: SocketAddr,
+) -> Result<AgentStep, Fail> {
+    Ok(AgentStep::Transmitted {
+        at: now,
+        id: MessageHeader::from_bytes(bytes)?.transaction_id(),
+        to,
+        bytes: Vec::from_slice(alloc, bytes)?,
+    })
+}
 
 /// What is due at a moment is sent, by calls of the agent.
 fn send_by_hand(
@@ -21,13 +38,7 @@ fn send_by_hand(
         let Some(transmit) = agent.poll_transmit(now) else {
             return Ok(());
         };
-        let step = AgentStep::Transmitted {
-            at: now,
-            id: MessageHeader::from_bytes(transmit.data)?.transaction_id(),
-            to: transmit.to,
-            bytes: Vec::from_slice(alloc, transmit.data)?,
-        };
-        steps.push(step)?;
+        steps.push(transmitted(alloc, now, transmit.data, transmit.to)?)?;
     }
     Err(Fail::from("what is due is sent by fewer calls"))
 }
@@ -72,48 +83,78 @@ fn wait_by_hand(
     Err(Fail::from("the wait is over after fewer turns"))
 }
 
-/// Sends or receives, by one call of the agent.
+/// Sends a request, by a call of the agent.
+fn ask_by_hand(
+    alloc: Global,
+    agent: &mut StunAgent,
+    now: Instant,
+    bytes: &[u8],
+    to: SocketAddr,
+) -> Result<AgentStep, Fail> {
+    match agent.send_request(bytes, to, now) {
+        Ok(transmit) => transmitted(alloc, now, bytes, transmit.to),
+        Err(error) => Ok(AgentStep::Refused { at: now, error }),
+    }
+}
+
+/// Sends another message, by a call of the agent.
+fn tell_by_hand(
+    alloc: Global,
+    agent: &mut StunAgent,
+    now: Instant,
+    bytes: &[u8],
+    to: SocketAddr,
+) -> Result<AgentStep, Fail> {
+    match agent.send(bytes, to, now) {
+        Ok(transmit) => Ok(AgentStep::Sent {
+            at: now,
+            to: transmit.to,
+            bytes: Vec::from_slice(alloc, bytes)?,
+        }),
+        Err(error) => Ok(AgentStep::Refused { at: now, error }),
+    }
+}
+
+/// Reads bytes, and hands the message in by a call of the agent.
+fn take_by_hand(
+    agent: &mut StunAgent,
+    now: Instant,
+    bytes: &[u8],
+    from: SocketAddr,
+) -> Result<AgentStep, Fail> {
+    match Message::from_bytes(bytes) {
+        Ok(message) => Ok(AgentStep::Received {
+            at: now,
+            accepted: agent.handle_stun_message_with_time(&message, from, now)?,
+        }),
+        Err(error) => Ok(AgentStep::Refused {
+            at: now,
+            error: StunError::ParseError(error),
+        }),
+    }
+}
+
+/// Makes the one call of the agent that an event stands for, and keeps what it did.
 fn call_by_hand(
     alloc: Global,
     agent: &mut StunAgent,
     now: Instant,
     event: &AgentEvent,
-) -> Result<Option<AgentStep>, Fail> {
-    Ok(match event {
+    steps: &mut Vec<AgentStep>,
+) -> Result<(), Fail> {
+    match event {
         AgentEvent::SendRequest { bytes, to } => {
-            match agent.send_request(bytes.as_slice(), *to, now) {
-                Ok(transmit) => Some(AgentStep::Transmitted {
-                    at: now,
-                    id: MessageHeader::from_bytes(bytes.as_slice())?.transaction_id(),
-                    to: transmit.to,
-                    bytes: Vec::from_slice(alloc, bytes.as_slice())?,
-                }),
-                Err(error) => Some(AgentStep::Refused { at: now, error }),
-            }
+            steps.push(ask_by_hand(alloc, agent, now, bytes.as_slice(), *to)?)?;
         }
-        AgentEvent::Send { bytes, to } => match agent.send(bytes.as_slice(), *to, now) {
-            Ok(transmit) => Some(AgentStep::Sent {
-                at: now,
-                to: transmit.to,
-                bytes: Vec::from_slice(alloc, bytes.as_slice())?,
-            }),
-            Err(error) => Some(AgentStep::Refused { at: now, error }),
-        },
-        AgentEvent::Receive { bytes, from } => match Message::from_bytes(bytes.as_slice()) {
-            Ok(message) => Some(AgentStep::Received {
-                at: now,
-                accepted: agent.handle_stun_message_with_time(&message, *from, now)?,
-            }),
-            Err(error) => Some(AgentStep::Refused {
-                at: now,
-                error: StunError::ParseError(error),
-            }),
-        },
-        _ => {
-            change_by_hand(agent, event)?;
-            None
+        AgentEvent::Send { bytes, to } => {
+            steps.push(tell_by_hand(alloc, agent, now, bytes.as_slice(), *to)?)?;
         }
-    })
+        AgentEvent::Receive { bytes, from } => {
+            steps.push(take_by_hand(agent, now, bytes.as_slice(), *from)?)?;
+        }
+        _ => change_by_hand(agent, event)?,
+    }
+    Ok(())
 }
 
 /// Changes a request or validates a peer, by one call of the agent.
@@ -141,39 +182,77 @@ fn change_by_hand(agent: &mut StunAgent, event: &AgentEvent) -> Result<(), Alloc
     Ok(())
 }
 
-/// The steps of an application's own loop over the mixed run.
-fn steps_by_hand(
+/// An application's own loop over events.
+fn run_by_hand(
     alloc: Global,
     agent: &mut StunAgent,
     events: &[(Instant, AgentEvent)],
-) -> Result<Vec<AgentStep>, Fail> {
-    let mut steps = Vec::new(alloc);
+    steps: &mut Vec<AgentStep>,
+) -> Result<(), Fail> {
     let mut now = Instant::ZERO;
     for (moment, event) in events {
-        wait_by_hand(alloc, agent, now, *moment, &mut steps)?;
+        wait_by_hand(alloc, agent, now, *moment, steps)?;
         now = *moment;
-        if let Some(step) = call_by_hand(alloc, agent, now, event)? {
-            steps.push(step)?;
-        }
+        call_by_hand(alloc, agent, now, event, steps)?;
     }
     // Then the turn at the last event.
-    wait_by_hand(alloc, agent, now, now, &mut steps)?;
-    Ok(steps)
+    wait_by_hand(alloc, agent, now, now, steps)
+}
+
+/// An agent by hand takes the same steps.
+fn expect_by_hand(
+    rt: &impl Abort,
+    alloc: Global,
+    transport: TransportType,
+    agent: &mut StunAgent,
+    events: &[(Instant, AgentEvent)],
+    steps: &[AgentStep],
+) -> Result<(), Fail> {
+    let mut by_hand = Vec::new(alloc);
+    run_by_hand(alloc, agent, events, &mut by_hand)?;
+    assert_eq!(rt; steps, by_hand.as_slice(), "over {transport}");
+    Ok(())
+}
+
+/// Two agents do and count the same, one driven and one by hand.
+fn expect_both(
+    rt: &impl Abort,
+    alloc: Global,
+    transport: TransportType,
+    (agent, other): (&mut StunAgent, &mut StunAgent),
+    events: &[(Instant, AgentEvent)],
+) -> Result<(), Fail> {
+    let steps = driven(alloc, agent, events, at(MIXED_END))?;
+    expect_by_hand(rt, alloc, transport, other, events, steps.as_slice())?;
+    expect_equal(rt, agent, other);
+    Ok(())
+}
+
+/// The same of new agents.
+fn expect_same(
+    rt: &impl Abort,
+    alloc: Global,
+    transport: TransportType,
+    events: &[(Instant, AgentEvent)],
+) -> Result<(), Fail> {
+    let mut agent = agent_over(alloc, transport);
+    let mut other = agent_over(alloc, transport);
+    expect_both(rt, alloc, transport, (&mut agent, &mut other), events)
+}
+
+/// What two agents have counted is the same, and neither awaits a moment.
+fn expect_equal(rt: &impl Abort, agent: &StunAgent, other: &StunAgent) {
+    assert_eq!(rt; agent.stats(), other.stats());
+    assert_eq!(rt; agent.next_awaited(), None);
+    assert_eq!(rt; other.next_awaited(), None);
 }
 
 #[test]
 fn the_same_calls_by_hand(rt: HostRuntime) -> Result<(), Fail> {
     let alloc = rt.alloc();
-    let events = mixed_events(alloc)?;
+    let events = events_of(alloc, &MIXED)?;
     for transport in [TransportType::Udp, TransportType::Tcp] {
-        let mut agent = agent_over(alloc, transport);
-        let mut other = agent_over(alloc, transport);
-        let steps = driven(alloc, &mut agent, events.as_slice(), at(MIXED_END))?;
-        let by_hand = steps_by_hand(alloc, &mut other, events.as_slice())?;
-        assert_eq!(rt; steps, by_hand, "over {transport}");
-        assert_eq!(rt; agent.stats(), other.stats(), "over {transport}");
-        assert_eq!(rt; agent.next_awaited(), None);
-        assert_eq!(rt; other.next_awaited(), None);
+        expect_same(&rt, alloc, transport, events.as_slice())?;
     }
     Ok(())
 }

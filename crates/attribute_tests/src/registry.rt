@@ -191,8 +191,9 @@ fn expect_number(
     let mut writer = Message::builder_request(BINDING, id, writer)?;
     writer.add_attribute(&PasswordAlgorithm::new(algorithm))?;
     let written = writer.finish();
-    assert_eq!(rt; written.get(20..24), Some([0, 0x1d, 0, 4].as_slice()));
-    assert_eq!(rt; written.get(24..), Some(value));
+    assert!(rt; written.len() == 28);
+    assert_eq!(rt; &written[20..24], [0, 0x1d, 0, 4].as_slice());
+    assert_eq!(rt; &written[24..], value);
     Ok(())
 }
 

@@ -34,13 +34,13 @@ fn letters(alloc: Global, letter: char, count: usize) -> Result<String, Fail> {
 }
 
 /// Checks the answer to an error with a code, a nonce and a realm.
-fn expect_resend(
+fn expect_resend<'a>(
     rt: &impl Abort,
     alloc: Global,
     number: usize,
     client: &mut LongTermClientAuth,
     code: u16,
-    (nonce, realm): (&str, &str),
+    (nonce, realm): (&'a str, &'a str),
 ) -> Result<(), Fail> {
     let parts = [Part::Code(code), Part::Nonce(nonce), Part::Realm(realm)];
     expect_answer(

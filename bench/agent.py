@@ -44,6 +44,8 @@ SERVER_ROWS = [
     ("validates_sha1", "validated request, SHA-1"),
     ("validates_sha256", "the same, SHA-256 and USERHASH"),
 ]
+# The instructions of a call with 1,000 users and addresses, at most.
+BARS = {"validates_sha1": 12000, "validates_sha256": 21500}
 # Calls that take their time in one go, so they are made once and not at all.
 ONCE_ROWS = [
     ("forgets_all", "`forget_expired`, all records are forgotten"),
@@ -83,11 +85,13 @@ def shown(row):
     return f"{instructions:,.0f} ({taken})"
 
 
-def table(title, rows, sizes, **how):
-    print(f"\n| {title}, instructions (allocations) | " + " | ".join(f"{size:,}" for size in sizes) + " |")
-    print("|---|" + "---|" * len(sizes))
+def table(title, rows, sizes, bars=None, **how):
+    columns = [f"{size:,}" for size in sizes] + ["bar at 1,000"] * bool(bars)
+    print(f"\n| {title}, instructions (allocations) | " + " | ".join(columns) + " |")
+    print("|---|" + "---|" * len(columns))
     for call, name in rows:
-        print(f"| {name} | " + " | ".join(shown(cost(call, size, **how)) for size in sizes) + " |", flush=True)
+        cells = [shown(cost(call, size, **how)) for size in sizes] + ([f"{bars[call]:,}"] if bars else [])
+        print(f"| {name} | " + " | ".join(cells) + " |", flush=True)
 
 
 def run(call, size, times):
@@ -105,7 +109,7 @@ def main(words):
         sys.exit("bench: the program is not built")
     sizes = [100, 1000, 10000] + [100000] * ("--quick" not in words)
     table("Outstanding requests", AGENT_ROWS, sizes)
-    table("Users and addresses", SERVER_ROWS, [10, 1000, 10000])
+    table("Users and addresses", SERVER_ROWS, [10, 1000, 10000], BARS)
     table("Records", ONCE_ROWS, [1000, 10000] + [100000] * ("--quick" not in words), few=0, many=1)
     print()
     for size in (1000, 10000):

@@ -151,13 +151,13 @@ static const struct work {
     double ratio_bar;
     long instructions_bar;
 } works[] = {
-    {"parse", "parse", "stun_parse", parse, 0, NULL, 0, 500},
-    {"verify", "parse and verify, SHA-1, RFC 5769 2.1", "stun_verify", verify, STUN_SHA1, digest_short, 1.6, 9500},
-    {"verify_long_term", "parse and verify, SHA-1, RFC 5769 2.4", "stun_verify", verify_long_term, STUN_SHA1, digest_long, 1.6, 0},
-    {"verify_sha256", "parse and verify, SHA-256", "stun_verify", verify_sha256, STUN_SHA256, digest_sha256, 1.5, 17000},
-    {"build", "build and sign, SHA-1", "stun_build_signed", build, 60, digest_built, 1.6, 7700},
-    {"md5_key", "long-term key, MD5", "stun_long_term_key", md5_key, 16, digest_md5, 1.4, 950},
-    {"sha256_key", "long-term key, SHA-256", "stun_long_term_key", sha256_key, 32, digest_key_sha256, 0, 0},
+    {"parse", "parse (RFC 5769 section 2.1)", "stun_parse", parse, 0, NULL, 0, 200},
+    {"verify", "parse and verify (2.1), HMAC-SHA1", "stun_verify", verify, STUN_SHA1, digest_short, 1.6, 9400},
+    {"verify_long_term", "parse and verify (2.4), HMAC-SHA1", "stun_verify", verify_long_term, STUN_SHA1, digest_long, 0, 0},
+    {"verify_sha256", "parse and verify (2.1 signed anew), HMAC-SHA256", "stun_verify", verify_sha256, STUN_SHA256, digest_sha256, 1.55, 16750},
+    {"build", "build and sign, HMAC-SHA1", "stun_build_signed", build, 60, digest_built, 1.6, 7450},
+    {"md5_key", "long-term key by MD5", "stun_long_term_key", md5_key, 16, digest_md5, 0, 1150},
+    {"sha256_key", "long-term key by SHA-256", "stun_long_term_key", sha256_key, 32, digest_key_sha256, 0, 0},
 };
 
 static void fail(const char *what) {
@@ -245,7 +245,7 @@ static void print_table(const char *file) {
         printf("| %s | %.0f | ", work->title, nanoseconds);
         if (work->reference != NULL) printf("%.2f", ratio);
         printf(" | ");
-        if (work->ratio_bar > 0) printf("%.1f", work->ratio_bar);
+        if (work->ratio_bar > 0) printf("%.3g", work->ratio_bar);
         long count = counted(file, work->name);
         if (count < 0) printf(" | not counted | ");
         else printf(" | %ld | ", count);

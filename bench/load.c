@@ -2,7 +2,8 @@
  *
  * Sends COUNT datagrams from SOCKETS ports, of the kinds of MIX in turn: u an unsigned Binding request, s one that answers the
  * challenge that each port drew before the clock starts, g 20 to 99 random bytes, which nobody answers. At most WINDOW requests
- * are unanswered at a time. An answer that does not come within 300 ms after all others is lost.
+ * are unanswered at a time; or, where WINDOW is a number and `/s`, so many datagrams are sent a second, answered or not. An answer
+ * that does not come within 300 ms after all others is lost.
  *
  * Prints one line: how many were sent, how many drew a success, a 401, another error or nothing, and the seconds.
  * Build: cc -O2 -I../include load.c ../crates/stun_c/out/libstun_c.a */
@@ -121,6 +122,33 @@ static void count_answer(const uint8_t *answer, size_t length) {
     else counts.errors++;
 }
 
+/* Sends so many datagrams a second, and reads what comes. Where this program had to wait for longer than 10 ms it does not send all
+ * that it is behind with at once. */
+static void run_at(int epoll, unsigned long count, size_t number, double rate) {
+    struct epoll_event events[64];
+    uint8_t answer[2048];
+    unsigned long answered = 0;
+    double begun = now(), last = begun;
+    for (size_t next = 0; counts.sent < count || (answered < counts.requests && now() - last < 0.3);) {
+        double late = now() - begun - (double)counts.sent / rate - 0.01;
+        if (late > 0) begun += late;
+        while (counts.sent < count && (double)counts.sent < (now() - begun) * rate) {
+            send_next(&senders[next], counts.sent + 1);
+            next = (next + 1) % number;
+        }
+        int ready = epoll_wait(epoll, events, 64, counts.sent < count ? 0 : 1);
+        for (int i = 0; i < ready; i++) {
+            struct sender *sender = events[i].data.ptr;
+            ssize_t length = recv(sender->fd, answer, sizeof answer, MSG_DONTWAIT);
+            if (length < 0) continue;
+            last = now();
+            answered++;
+            count_answer(answer, (size_t)length);
+        }
+    }
+    counts.lost = counts.requests - answered;
+}
+
 static void run(int epoll, unsigned long count, size_t number, size_t window) {
     struct epoll_event events[64];
     uint8_t answer[2048];
@@ -172,7 +200,8 @@ int main(int words_count, char **words) {
         senders[i].turn = i;
     }
     double start = now();
-    run(epoll, count, number, window);
+    if (strstr(words[4], "/s") != NULL) run_at(epoll, count, number, (double)window);
+    else run(epoll, count, number, window);
     printf("sent %lu requests %lu successes %lu challenges %lu errors %lu lost %lu seconds %.3f\n", counts.sent, counts.requests,
            counts.successes, counts.challenges, counts.errors, counts.lost, now() - start);
     return 0;

@@ -5,13 +5,16 @@
 
 Each row starts a server, opens 1,000 ports that send the kinds of datagrams in turn (load.c), and tells how many requests a
 second were answered, the processor time of the server for each datagram, the resident bytes of all its processes before and
-after, how many requests were not answered, and how many datagrams the kernel dropped at the server's sockets. It ends only
-what it started.
+after, how many requests were not answered, and how many datagrams the kernel dropped at the server's sockets. Then four times as
+many addresses as COUNT flood a server, 60,000 a second (flood.c), while new clients ask. It ends only what it started.
+
+    load.py --flood [COUNT] [PROGRAM]    the flood alone, of udp_server or of a program with the same words
 """
 import os
 import pathlib
 import re
 import shutil
+import statistics
 import subprocess
 import sys
 import tempfile
@@ -19,8 +22,10 @@ import time
 
 HERE = pathlib.Path(__file__).resolve().parent
 sys.path.insert(0, str(HERE.parent / "examples/udp"))
+import alone
 import check
 import interop
+import stun
 
 REALM, NAME, PASSWORD = check.USER
 CORES = len(os.sched_getaffinity(0))
@@ -58,7 +63,8 @@ def dropped(port):
 def row(load, what, server, count, mix, window, loaders=1):
     """Loads a running server by so many programs at once."""
     pid, port = server.process.pid, server.port
-    words = [load, port, count // loaders, 1000 // loaders, window // loaders, mix, *((NAME, PASSWORD) if "s" in mix else ())]
+    share = window if loaders == 1 else window // loaders
+    words = [load, port, count // loaders, 1000 // loaders, share, mix, *((NAME, PASSWORD) if "s" in mix else ())]
     memory, spent = resident(pid), processor_seconds(pid)
     started = [subprocess.Popen([str(word) for word in words], stdout=subprocess.PIPE, text=True) for _ in range(loaders)]
     lines = [one.communicate(timeout=120)[0].split() for one in started]
@@ -72,10 +78,53 @@ def row(load, what, server, count, mix, window, loaders=1):
           f"{memory:,} → {resident(pid):,} | {total['lost']:,.0f} of {total['requests']:,.0f} | {lost:,} |", flush=True)
 
 
+def patient(peer, request):
+    """Asks as RFC 8489, section 6.2.1, has it: again after 0.5 s, 1.5 s and 3.5 s."""
+    for wait in (0.5, 1, 2, 4):
+        peer.socket.settimeout(wait)
+        try:
+            return peer.ask(request)
+        except TimeoutError:
+            pass
+    return None
+
+
+def is_served(peer):
+    challenge = patient(peer, stun.message(stun.REQUEST))
+    answer = challenge and patient(peer, alone.answering(challenge))
+    return answer is not None and stun.code_of(answer) == 200
+
+
+def flood(program, count):
+    """Clients that are new while addresses flood, and one that was validated before, which signs by one nonce throughout."""
+    with tempfile.TemporaryDirectory() as folder, check.Server(program, *check.USER) as server:
+        flooder = pathlib.Path(folder) / "flood"
+        subprocess.run(["cc", "-O2", HERE / "flood.c", "-o", flooder], check=True)
+        pid, asked, times, kept = server.process.pid, 0, [], 0
+        with check.harness.Peer(server.port, here="127.0.0.2") as old:
+            challenge = old.ask(stun.message(stun.REQUEST))
+            signed = lambda: stun.code_of(patient(old, alone.answering(challenge)))
+            assert signed() == 200
+            memory = resident(pid)
+            words = [flooder, str(server.port), str(count), "60000"]
+            started = subprocess.Popen(words, stdout=subprocess.PIPE, text=True)
+            while started.poll() is None:
+                begun = time.monotonic()
+                with check.harness.Peer(server.port, here=f"127.1.{asked // 200}.{asked % 200 + 1}") as new:
+                    times += [time.monotonic() - begun] if is_served(new) else []
+                asked, kept = asked + 1, kept + (signed() == 200)
+        told = started.communicate()[0].split()
+        print(f"{count:,} addresses in {told[3]} s, {dropped(server.port):,} datagrams dropped by the kernel: {len(times)} of {asked} new clients "
+              f"served, after {1e3 * statistics.median(times):.1f} ms (median), {1e3 * max(times):.0f} ms (most); {kept} of {asked} times who was "
+              f"validated before kept its nonce; KiB {memory:,} → {resident(pid):,}; load average {os.getloadavg()[0]:.1f}", flush=True)
+
+
 def main():
+    if sys.argv[1:2] == ["--flood"]:
+        return flood(sys.argv[3] if len(sys.argv) > 3 else interop.SERVER, int(sys.argv[2]) if len(sys.argv) > 2 else 400000)
     count = int(sys.argv[1]) if len(sys.argv) > 1 else 100000
-    subprocess.run(["make", "-s", "-C", check.TOP / "examples/c", "udp", f"STATE={check.STATE}"], check=True)
-    print("| Server | Datagrams in turn | Unanswered at most | Answered a second | Processor µs a datagram | KiB before → after "
+    subprocess.run(["make", "-s", "-C", check.TOP / "examples/c", "udp", f"STATE={check.STATE}", f"LIBRARY={check.STATELESS}"], check=True)
+    print("| Server | Datagrams in turn | Unanswered at most, or sent a second | Answered a second | Processor µs a datagram | KiB before → after "
           "| Lost | Dropped by the kernel |\n|---|---|---|---|---|---|---|---|")
     with tempfile.TemporaryDirectory() as folder:
         load = pathlib.Path(folder) / "load"
@@ -87,16 +136,19 @@ def main():
                 what = "udp_server" + (" with users" if users else "") + f", {workers} worker{'s' * (workers > 1)}"
                 with check.Server(interop.SERVER, *users, "--workers", str(workers)) as server:
                     row(load, what, server, count, mix, window, 1 if workers == 1 else 2)
+        with check.Server(interop.SERVER, *check.USER) as server:
+            row(load, "udp_server with users, 1 worker", server, 3 * count, "usg", "60000/s")
         with check.Server(interop.SERVER, *check.USER, "--sha256") as server:
             row(load, "udp_server with users, --sha256, 1 worker", server, count, "usg", 64)
         if shutil.which("turnserver"):
             secure = ("--lt-cred-mech", "--secure-stun", "-r", REALM, "-u", f"{NAME}:{PASSWORD}")
             for threads in ((), ("-m", "1")):
-                for mix, words in (("u", ("--stun-only",)), ("usg", secure)):
+                for mix, words in (("u", ("--stun-only",)), ("usg", secure), ("s", secure)):
                     what = "turnserver " + " ".join(word for word in (*words[:2], *threads) if word[0] == "-" or word == "1")
                     with interop.turnserver(*words, *threads) as server:
                         row(load, what, server, count, mix, 64)
-    print(f"\n{CORES} cores, load average before the last row {os.getloadavg()[0]:.1f}")
+    print(f"\n{CORES} cores, load average before the last row {os.getloadavg()[0]:.1f}\n")
+    flood(interop.SERVER, 4 * count)
 
 
 if __name__ == "__main__":

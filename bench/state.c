@@ -1,21 +1,29 @@
 /* Makes a call through C many times: `state CALL SIZE TIMES`, with the names and the states of crates/bench_agent, so that
- * state.py can count both. Prints how many of the calls did what they were to do. */
+ * state.py can count both. Prints how many of the calls did what they were to do, and how many allocations they asked for.
+ *
+ * `state pauses SIZE AT_ONCE` prints how long a server of so many records stands still where it forgets, in microseconds of
+ * processor: by one call, and by the longest of the calls that look at so many at once; where all records are kept, and where all
+ * are forgotten. Each is the least of several rounds. */
+#define _DEFAULT_SOURCE
 #include "stun_state.h"
 #include <stdbool.h>
 #include <stdio.h>
 #include <stdlib.h>
 #include <string.h>
+#include <time.h>
 
 enum { MOST_TIMES = 100, ID = STUN_ID_LENGTH };
 
 /* The calls, each named once before the first is made. */
 enum call {
     POLL, POLL_TRANSMIT, TRANSMITS_ONE, ENDS_ONE, SENDS_LAST, RESPONDS, CANCELS, FINDS,
-    VALIDATES_SHA1, VALIDATES_SHA256, PARSES_SHA1, PARSES_SHA256, VERIFIES, CALLS
+    VALIDATES_SHA1, VALIDATES_SHA256, PARSES_SHA1, PARSES_SHA256, ANSWERS_SHA1, ANSWERS_SHA256, ASKS_SHA1, ASKS_SHA256,
+    VERIFIES, CALLS
 };
 static const char *const names[CALLS] = {
     "poll", "poll_transmit", "transmits_one", "ends_one", "sends_last", "responds", "cancels", "finds",
-    "validates_sha1", "validates_sha256", "parses_sha1", "parses_sha256", "verifies",
+    "validates_sha1", "validates_sha256", "parses_sha1", "parses_sha256", "answers_sha1", "answers_sha256", "asks_sha1",
+    "asks_sha256", "verifies",
 };
 
 static const uint64_t SECOND = 1000000000;
@@ -52,7 +60,12 @@ static struct message message_of(uint32_t class, uint32_t number) {
 
 /* ---- The memory of the archive: malloc alone, as a program of Rattle has it. */
 
-static rattle_allocation allocation(void *at) { return (rattle_allocation){at != NULL, at}; }
+static unsigned asked;
+
+static rattle_allocation allocation(void *at) {
+    asked++;
+    return (rattle_allocation){at != NULL, at};
+}
 
 rattle_allocation rattle_alloc(size_t length, size_t alignment) {
     (void)alignment;
@@ -102,6 +115,7 @@ static bool agent_does(enum call call, uint32_t size, uint32_t turn) {
 /* ---- Calls of a server that knows so many users and addresses. */
 
 static stun_server server;
+static stun_client client;
 static struct message signed_request;
 
 static void challenge(uint32_t number, struct message *error) {
@@ -121,7 +135,6 @@ static bool is_validated(uint32_t number) {
 }
 
 static void prepare_server(uint32_t size, bool is_strong) {
-    stun_client client = {0};
     const uint8_t *password = (const uint8_t *)"pass";
     uint32_t algorithms = is_strong ? STUN_SHA1 | STUN_SHA256 : STUN_SHA1;
     stun_server_new(&server, (const uint8_t *)"realm", 5);
@@ -141,11 +154,22 @@ static void prepare_server(uint32_t size, bool is_strong) {
     int64_t length = stun_client_sign(&client, signed_request.bytes, sizeof signed_request.bytes, signed_request.length);
     if (length < 0) fail("not signed");
     signed_request.length = (size_t)length;
-    stun_client_free(&client);
     for (uint32_t number = 0; number < size; number++) {
         challenge(number, &error);
         if (!is_validated(number)) fail("not validated");
     }
+}
+
+/* A success of 20 bytes to the first address, and a request of the client. */
+static bool answers(void) {
+    struct message success = message_of(STUN_SUCCESS, 2);
+    stun_address to = address_of(0);
+    return stun_server_sign(&server, success.bytes, sizeof success.bytes, success.length, &to) > STUN_HEADER_LENGTH;
+}
+
+static bool asks(void) {
+    struct message request = message_of(STUN_REQUEST, 2);
+    return stun_client_sign(&client, request.bytes, sizeof request.bytes, request.length) > STUN_HEADER_LENGTH;
 }
 
 /* ---- A message of 44 bytes under a key of four. */
@@ -156,6 +180,59 @@ static bool verifies(void) {
 
 static bool parses(void) { return stun_parse(signed_request.bytes, signed_request.length) == 0; }
 
+/* ---- Pauses of a server that forgets. */
+
+enum { ROUNDS = 5 };
+static const uint64_t FOREVER = UINT64_MAX;
+
+static double microseconds(void) {
+    struct timespec time;
+    clock_gettime(CLOCK_PROCESS_CPUTIME_ID, &time);
+    return (double)time.tv_sec * 1e6 + (double)time.tv_nsec / 1e3;
+}
+
+/* An unsigned request of each address makes its record, where it has none. */
+static void ask_of_all(uint32_t size) {
+    struct message request = message_of(STUN_REQUEST, 1);
+    for (uint32_t number = 0; number < size; number++) {
+        stun_address from = address_of(number);
+        if (stun_server_validate(&server, request.bytes, request.length, &from, 0, words) != STUN_UNAUTHORIZED) fail("no record");
+    }
+}
+
+/* The longest pause until all records were looked at once: by so many at once, or by one call where it is 0. */
+static double longest_pause(uint64_t now, size_t at_once) {
+    stun_address next = {{0}, 0, 0};
+    double longest = 0;
+    int64_t more = 1;
+    while (more == 1) {
+        double begun = microseconds();
+        more = at_once == 0 ? stun_server_forget_expired(&server, now) : stun_server_forget_expired_within(&server, now, &next, at_once);
+        double took = microseconds() - begun;
+        if (took > longest) longest = took;
+    }
+    if (more != 0) fail("not forgotten");
+    return longest;
+}
+
+static double least_pause(uint32_t size, uint64_t now, size_t at_once) {
+    double least = 0;
+    for (int round = 0; round < ROUNDS; round++) {
+        ask_of_all(size);
+        double longest = longest_pause(now, at_once);
+        if (round == 0 || longest < least) least = longest;
+    }
+    return least;
+}
+
+static void print_pauses(uint32_t size, size_t at_once) {
+    stun_server_new(&server, (const uint8_t *)"realm", 5);
+    const uint64_t moments[] = {0, FOREVER}; /* all are kept, all are forgotten */
+    for (int i = 0; i < 2; i++)
+        printf("%.0f %.0f\n", least_pause(size, moments[i], 0), least_pause(size, moments[i], at_once));
+    stun_server_free(&server);
+}
+
 static enum call named(const char *name) {
     for (int i = 0; i < CALLS; i++)
         if (strcmp(name, names[i]) == 0) return (enum call)i;
@@ -165,8 +242,8 @@ static enum call named(const char *name) {
 
 static void prepare(enum call call, uint32_t size) {
     switch (call) {
-    case VALIDATES_SHA1: case PARSES_SHA1: prepare_server(size, false); break;
-    case VALIDATES_SHA256: case PARSES_SHA256: prepare_server(size, true); break;
+    case VALIDATES_SHA1: case PARSES_SHA1: case ANSWERS_SHA1: case ASKS_SHA1: prepare_server(size, false); break;
+    case VALIDATES_SHA256: case PARSES_SHA256: case ANSWERS_SHA256: case ASKS_SHA256: prepare_server(size, true); break;
     case VERIFIES:
         signed_request = message_of(STUN_REQUEST, 2);
         signed_request.length = (size_t)stun_sign(signed_request.bytes, 512, 20, STUN_SHA1, (const uint8_t *)"pass", 4);
@@ -180,20 +257,28 @@ static bool is_done(enum call call, uint32_t size, uint32_t turn) {
     switch (call) {
     case PARSES_SHA1: case PARSES_SHA256: return parses();
     case VALIDATES_SHA1: case VALIDATES_SHA256: return is_validated(0);
+    case ANSWERS_SHA1: case ANSWERS_SHA256: return answers();
+    case ASKS_SHA1: case ASKS_SHA256: return asks();
     case VERIFIES: return verifies();
     default: return agent_does(call, size, turn);
     }
 }
 
 int main(int count, char **arguments) {
-    if (count != 4) fail("usage: state CALL SIZE TIMES");
-    enum call call = named(arguments[1]);
+    if (count != 4) fail("usage: state CALL SIZE TIMES | state pauses SIZE AT_ONCE");
     uint32_t size = (uint32_t)strtoul(arguments[2], NULL, 10), times = (uint32_t)strtoul(arguments[3], NULL, 10), done = 0;
+    if (strcmp(arguments[1], "pauses") == 0) {
+        print_pauses(size, times);
+        return 0;
+    }
+    enum call call = named(arguments[1]);
     if (times > MOST_TIMES) fail("too many times");
     prepare(call, size);
+    unsigned before = asked;
     for (uint32_t turn = 0; turn < times; turn++) done += is_done(call, size, turn);
-    printf("%u\n", done);
+    printf("%u\n%u allocations\n", done, asked - before);
     stun_agent_free(&agent);
     stun_server_free(&server);
+    stun_client_free(&client);
     return 0;
 }

@@ -1,15 +1,18 @@
 #!/usr/bin/env python3
 """Counts what calls cost through C beside the calls of the library that they wrap.
 
-    bench/state.py [--size N]
+    bench/state.py [--size N] [--exported]
 
 A row makes its call 10 and 50 times, once in crates/bench_agent and once in bench/state.c, which does the same over the archives, and
 the difference of the two runs, through 40, is one call: instructions by callgrind. Both figures hold some 20 to 50 instructions of
 their loops. A call through C parses its message; where the library's call is handed a parsed one, the cost of stun_parse is added to
-it. N is the number of outstanding requests, or of users and addresses: 1000 unless said. It needs a C compiler and valgrind; the
-first run proves what has changed.
+it. N is the number of outstanding requests, or of users and addresses: 1000 unless said. A signing is counted through C alone, with
+its allocations. Last come the pauses of a server of 100,000 records that forgets: microseconds of processor, by one call and by the
+longest of calls that look at 256 records. It needs a C compiler and valgrind; the first run proves what has changed. With --exported it
+takes the archive of the exported crate (tools/rust_c.sh), proves nothing, and leaves out what is beside the library.
 """
 
+import argparse
 import os
 import subprocess
 import sys
@@ -29,15 +32,27 @@ ROWS = [
     ("verifies", "verify, 44 bytes, HMAC-SHA1", None),
     ("validates_sha1", "validated request, SHA-1", "parses_sha1"),
     ("validates_sha256", "validated request, SHA-256 and USERHASH", "parses_sha256"),
-    ("poll", "poll, nothing due", None),
-    ("poll_transmit", "poll_transmit, nothing due", None),
-    ("transmits_one", "poll_transmit, one due", None),
-    ("ends_one", "poll, one ends", None),
-    ("sends_last", "send_request", None),
+    ("poll", "`poll`, nothing due", None),
+    ("poll_transmit", "`poll_transmit`, nothing due", None),
+    ("transmits_one", "`poll_transmit`, one due", None),
+    ("ends_one", "`poll`, one ends", None),
+    ("sends_last", "`send_request`", None),
     ("responds", "response, taken", None),
-    ("cancels", "cancel", None),
-    ("finds", "is outstanding", None),
+    ("cancels", "`cancel`", None),
+    ("finds", "whether a request is outstanding", None),
 ]
+
+# The rows of bench/state.c alone.
+ALONE = [
+    ("answers_sha1", "success of 20 bytes signed, SHA-1"),
+    ("answers_sha256", "success of 20 bytes signed, SHA-256"),
+    ("asks_sha1", "request of 20 bytes signed, SHA-1"),
+    ("asks_sha256", "request of 20 bytes signed, SHA-256 and USERHASH"),
+]
+
+# Pauses of a server of so many records, which looks at so many at once; and their rows.
+RECORDS, AT_ONCE = 100000, 256
+PAUSES = ["all records are kept", "all records are forgotten"]
 
 
 def done(words, **how):
@@ -64,34 +79,65 @@ def cost(program, call, size):
     return (instructions(program, call, size, MANY) - instructions(program, call, size, FEW)) / (MANY - FEW)
 
 
-def build(room):
-    """The program over the archives."""
-    archives = []
+def allocations(program, call, size):
+    printed, _ = done([program, call, str(size), str(MANY)])
+    return int(printed.split()[1]) / MANY
+
+
+def archives():
+    """The archives, proved and built, and the program of the library."""
     for name in ("stun_state", "stun_c"):
         folder = os.path.join(TOP, "crates", name)
         _, seconds = done(["rt", "lib"], cwd=folder)
         print(f"rt lib in crates/{name}: {seconds:.0f} s", file=sys.stderr)
-        archives.append(os.path.join(folder, "out", f"lib{name}.a"))
+        yield os.path.join(folder, "out", f"lib{name}.a")
+    _, seconds = done(["rt", "run", "--", "poll", "1", "1"], cwd=os.path.dirname(os.path.dirname(LIBRARY)))
+    print(f"rt run in crates/bench_agent: {seconds:.0f} s", file=sys.stderr)
+
+
+def build(room, is_exported):
+    """The program over the archives."""
+    over = [os.path.join(TOP, "target", "c", "libstun-program.a")] if is_exported else list(archives())
     source = os.path.join(HERE, "state.c")
     program = os.path.join(room, "state")
     compiler = os.environ.get("CC", "cc")
-    done([compiler, "-std=c99", "-O2", "-Wall", "-Wextra", "-Werror", "-I" + os.path.join(TOP, "include"), source] + archives + ["-o", program])
-    _, seconds = done(["rt", "run", "--", "poll", "1", "1"], cwd=os.path.dirname(os.path.dirname(LIBRARY)))
-    print(f"rt run in crates/bench_agent: {seconds:.0f} s", file=sys.stderr)
+    done([compiler, "-std=c99", "-O2", "-Wall", "-Wextra", "-Werror", "-I" + os.path.join(TOP, "include"), source] + over + ["-o", program])
     return program
 
 
+def beside_the_library(program, size):
+    print(f"| Call, of {size:,} | the library | through C | more | at most |\n|---|---|---|---|---|")
+    for call, title, parsing in ROWS:
+        library = cost(LIBRARY, call, size) + (cost(program, parsing, size) if parsing else 0)
+        through = cost(program, call, size)
+        print(f"| {title} | {library:,.0f} | {through:,.0f} | {through - library:,.0f} | {BAR} |", flush=True)
+    print()
+
+
+def alone(program, size):
+    print("| Call, through C | instructions | allocations |\n|---|---|---|")
+    for call, title in ALONE:
+        print(f"| {title} | {cost(program, call, size):,.0f} | {allocations(program, call, size):g} |", flush=True)
+
+
+def pauses(program):
+    printed, _ = done([program, "pauses", str(RECORDS), str(AT_ONCE)], env=ENVIRONMENT)
+    print(f"\n| Longest pause at {RECORDS:,} records, µs | `forget_expired` | `forget_expired_within`, {AT_ONCE} at once |\n|---|---|---|")
+    for title, line in zip(PAUSES, printed.splitlines()):
+        print(f"| {title} | " + " | ".join(f"{int(time):,}" for time in line.split()) + " |")
+
+
 def main(words):
-    size = int(words[1]) if len(words) == 2 and words[0] == "--size" else 1000
-    if words and len(words) != 2:
-        sys.exit("usage: state.py [--size N]")
+    read = argparse.ArgumentParser(usage="state.py [--size N] [--exported]")
+    read.add_argument("--size", type=int, default=1000)
+    read.add_argument("--exported", action="store_true")
+    chosen = read.parse_args(words)
     with tempfile.TemporaryDirectory() as room:
-        program = build(room)
-        print(f"| Call, of {size:,} | the library | through C | more | at most |\n|---|---|---|---|---|")
-        for call, title, parsing in ROWS:
-            library = cost(LIBRARY, call, size) + (cost(program, parsing, size) if parsing else 0)
-            through = cost(program, call, size)
-            print(f"| {title} | {library:,.0f} | {through:,.0f} | {through - library:,.0f} | {BAR} |", flush=True)
+        program = build(room, chosen.exported)
+        if not chosen.exported:
+            beside_the_library(program, chosen.size)
+        alone(program, chosen.size)
+        pauses(program)
 
 
 main(sys.argv[1:])

@@ -1,23 +1,27 @@
 #!/bin/sh
-# Builds the archives and the examples against them, and compares what they print.
-# Without a C compiler and make it checks nothing. The last line says what was checked.
+# Builds the archives and the examples against them, and compares what they print; and installs the archives into a scratch folder
+# and builds over that (tests/install.sh). What the archives answer tests/check.sh tests.
+# Where STUN_C and STUN_STATE name other archives, as libstun.a and libstun-program.a of tools/rust_c.sh, nothing is proved. Without a C
+# compiler and make it checks nothing. The last line says what was checked.
 set -eu
 cd "$(dirname "$0")"
+python3 ../bench/bars.py >/dev/null # the tables of bench/README.md have the bars of the programs
 if ! "${CC:-cc}" --version >/dev/null 2>&1 || ! command -v make >/dev/null; then
     echo "examples: no C compiler and make"
     exit 0
 fi
 scratch=$(mktemp -d)
 trap 'rm -rf "$scratch"' EXIT
-# The calls with state are tried where their crate is.
-has_state=''
-[ -d ../crates/stun_state ] && has_state=yes
-for crate in stun_c ${has_state:+stun_state}; do
-    if ! (cd "../crates/$crate" && rt lib) >"$scratch/lib" 2>&1; then
-        cat "$scratch/lib" >&2
-        exit 1
-    fi
-done
+if [ -z "${STUN_C-}" ] || [ -z "${STUN_STATE-}" ]; then
+    for crate in stun_c stun_state; do
+        if ! (cd "../crates/$crate" && rt lib) >"$scratch/lib" 2>&1; then
+            cat "$scratch/lib" >&2
+            exit 1
+        fi
+    done
+    STUN_C=$PWD/../crates/stun_c/out/libstun_c.a STUN_STATE=$PWD/../crates/stun_state/out/libstun_state.a
+fi
+export STUN_C STUN_STATE
 
 # expect WANTED COMMAND..: the command prints this, whatever its status.
 expect() {
@@ -30,90 +34,8 @@ expect() {
     fi
 }
 
-# The headers declare what the archives export, and so do the crate and the example for Rust.
-if [ -n "$has_state" ] && ! (cd .. && python3 tools/exports.py) >"$scratch/exports" 2>&1; then
-    cat "$scratch/exports" >&2
-    exit 1
-fi
-
 rm -rf c/out
-make -s -C c CC="${CC:-cc}"
-
-# The headers are C99 and C++17, with all warnings.
-strict='-Wall -Wextra -Wpedantic -Werror -I../include'
-has_plus=''
-if "${CXX:-c++}" --version >/dev/null 2>&1; then has_plus=yes; fi
-for header in stun stun_state; do
-    alone="$strict -Wconversion -fsyntax-only -include ../include/$header.h"
-    "${CC:-cc}" -std=c99 $alone -x c /dev/null
-    if [ -n "$has_plus" ]; then "${CXX:-c++}" -std=c++17 $alone -x c++ /dev/null; fi
-done
-
-# Each call on messages, as C99 and C++17, and what strangers may send, with sanitizers where the compiler has them.
-expect 'messages: passed' c/out/messages
-sanitized='-fsanitize=address,undefined -fno-sanitize-recover=all'
-echo 'int main(void) { return 0; }' >"$scratch/empty.c"
-"${CC:-cc}" $sanitized "$scratch/empty.c" -o "$scratch/empty" 2>/dev/null || sanitized=''
-plus_sanitized=$sanitized
-[ -z "$has_plus" ] || "${CXX:-c++}" $sanitized -x c++ "$scratch/empty.c" -o "$scratch/empty" 2>/dev/null || plus_sanitized=''
-"${CC:-cc}" -std=c99 $strict -Wconversion $sanitized c/messages.c ../crates/stun_c/out/libstun_c.a -o "$scratch/messages"
-expect 'messages: passed' "$scratch/messages"
-if [ -n "$has_plus" ]; then
-    "${CXX:-c++}" -std=c++17 $strict -Wconversion $plus_sanitized -x c++ c/messages.c -x none ../crates/stun_c/out/libstun_c.a \
-        -o "$scratch/messages"
-    expect 'messages: passed' "$scratch/messages"
-fi
-"${CC:-cc}" -O1 -g $strict -D_DEFAULT_SOURCE -std=c99 $sanitized c/hostile_messages.c ../crates/stun_c/out/libstun_c.a -o "$scratch/hostile"
-expect 'hostile_messages: passed' "$scratch/hostile"
-
-# The calls with state: each, with each allocation refused, with many addresses, and on what strangers may send.
-archives='../crates/stun_state/out/libstun_state.a ../crates/stun_c/out/libstun_c.a'
-if [ -n "$has_state" ]; then
-    for name in state refused many hostile_state; do
-        "${CC:-cc}" -O1 -g $strict -D_DEFAULT_SOURCE -std=c99 $sanitized "c/$name.c" c/heap.c $archives -o "$scratch/$name"
-        expect "$name: passed" "$scratch/$name"
-    done
-    # The worked examples of both headers, without the comment round them.
-    sed -n 's/^ \*     //p; /\*\/$/q' ../include/stun.h >"$scratch/answer.h"
-    sed -n 's/^ \*     //p; /\*\/$/q' ../include/stun_state.h >"$scratch/ask.h"
-    worked="$strict -Wconversion -I$scratch"
-    "${CC:-cc}" -std=c99 $worked $sanitized c/worked.c c/heap.c $archives -o "$scratch/worked"
-    expect 'worked: passed' "$scratch/worked"
-    if [ -n "$has_plus" ]; then
-        "${CXX:-c++}" -std=c++17 $worked $plus_sanitized -x c++ c/worked.c -x none $archives -o "$scratch/worked"
-        expect 'worked: passed' "$scratch/worked"
-    fi
-fi
-
-# asks_for NAMES CRATE: its archive asks for nothing but these. So no call of the one without state takes memory.
-asks_for() {
-    needed=$(nm -u "../crates/$2/out/lib$2.a" | sed -n 's/^ *U //p' | grep -vxE "$1" || true)
-    if [ -n "$needed" ]; then
-        echo "examples: the archive of $2 needs" $needed >&2
-        exit 1
-    fi
-}
-bytes='memcpy|memmove|memset'
-asks_for "$bytes" stun_c
-[ -z "$has_state" ] || asks_for "$bytes|__udivti3|__umodti3|rattle_alloc|rattle_realloc|rattle_dealloc" stun_state
-
-# What is installed is enough to build with.
-make -s -C ../include install PREFIX="$scratch/installed"
-# installed NAME ELSE: what pkg-config says of a library, or what stands for it without pkg-config.
-installed() {
-    if command -v pkg-config >/dev/null; then
-        PKG_CONFIG_PATH="$scratch/installed/lib/pkgconfig" pkg-config --cflags --libs "$1"
-    else
-        echo "-I$scratch/installed/include -L$scratch/installed/lib $2"
-    fi
-}
-"${CC:-cc}" c/messages.c $(installed stun -lstun_c) -o "$scratch/messages"
-expect 'messages: passed' "$scratch/messages"
-if [ -n "$has_state" ]; then
-    "${CC:-cc}" c/state.c "$scratch/installed/share/stun/heap.c" $(installed stun_state '-lstun_state -lstun_c') \
-        -o "$scratch/state"
-    expect 'state: passed' "$scratch/state"
-fi
+make -s -C c CC="${CC:-cc}" LIBRARY="$STUN_C" STATE="$STUN_STATE"
 
 password='VOkJxbRl1RmTxUk/WvJxBt'
 
@@ -129,27 +51,43 @@ c/out/build 2 evtj:h6vY "$password" >"$scratch/sha256"
 expect 'valid MESSAGE-INTEGRITY-SHA256' c/out/verify "$password" <"$scratch/sha256"
 checked='C'
 
+# The wrapper for C++17, under sanitizers where the compiler has them.
+if "${CXX:-c++}" --version >/dev/null 2>&1; then
+    sanitized='-fsanitize=address,undefined -fno-sanitize-recover=all'
+    echo 'int main() {}' | "${CXX:-c++}" $sanitized -x c++ - -o "$scratch/empty" 2>/dev/null || sanitized=''
+    "${CC:-cc}" -O1 -I../include -c c/heap.c -o "$scratch/heap.o"
+    "${CXX:-c++}" -std=c++17 -Wall -Wextra -Wpedantic -Werror $sanitized -I../include cpp/check.cpp "$scratch/heap.o" \
+        "$STUN_STATE" "$STUN_C" -o "$scratch/wrapped"
+    "$scratch/wrapped" >"$scratch/said"
+    cmp "$scratch/said" cpp/check.txt
+    checked='C, C++'
+fi
+
 # The example for Rust is of edition 2024.
 if echo 'fn main() {}' | rustc --edition 2024 --emit metadata -o "$scratch/probe" - >/dev/null 2>&1; then
-    rustc --edition 2024 -O rust/main.rs -L ../crates/stun_c/out -o "$scratch/main"
+    mkdir "$scratch/libraries"
+    cp "$STUN_C" "$scratch/libraries/libstun_c.a"
+    rustc --edition 2024 -O rust/main.rs -L "$scratch/libraries" -o "$scratch/main"
     expect 'Ok(1)
 Ok(2)' "$scratch/main"
-    checked='C and Rust'
+    checked="$checked, Rust"
 fi
-if [ -n "$has_state" ] && cargo --version >/dev/null 2>&1; then
-    if ! (cd ../bindings/rust && CARGO_TARGET_DIR="$scratch/target" cargo test --offline) >"$scratch/cargo" 2>&1; then
-        cat "$scratch/cargo" >&2
-        exit 1
-    fi
-    checked="$checked, and the crate of bindings/rust"
+
+if ! ../tests/install.sh >"$scratch/install" 2>&1; then
+    cat "$scratch/install" >&2
+    exit 1
 fi
-# The programs on UDP sockets against each other, and those of bindings/rust where they were built, where a datagram can be sent.
+checked="$checked; $(tail -n 1 "$scratch/install")"
+
+# The programs on UDP sockets against each other, and those of the exported crate where `make rust` built them, where a datagram can be
+# sent.
 loopback='import socket; s = socket.socket(socket.AF_INET, socket.SOCK_DGRAM); s.bind(("127.0.0.1", 0)); s.settimeout(5)
 s.sendto(b"x", s.getsockname()); s.recv(1)'
-if [ -n "$has_state" ] && python3 -c "$loopback" >/dev/null 2>&1; then
+if python3 -c "$loopback" >/dev/null 2>&1; then
     set --
     for one in server client; do
-        if [ -x "$scratch/target/debug/examples/udp_$one" ]; then set -- "$@" "--$one" "$scratch/target/debug/examples/udp_$one"; fi
+        built="../target/export/target/debug/examples/udp_$one"
+        if [ -x "$built" ]; then set -- "$@" "--$one" "$built"; fi
     done
     # Once more where a case failed: a machine that is very busy may hold a datagram for longer than a case waits.
     if ! python3 udp/check.py "$@" >"$scratch/udp" 2>&1 && ! { cat "$scratch/udp" >&2 && python3 udp/check.py "$@" >"$scratch/udp" 2>&1; }; then
@@ -157,9 +95,15 @@ if [ -n "$has_state" ] && python3 -c "$loopback" >/dev/null 2>&1; then
         exit 1
     fi
     checked="$checked; $(tail -n 1 "$scratch/udp")"
-    # Three servers behind one address, where network namespaces can be made; once more for the same reason.
-    shards() { python3 udp/shards.py >"$scratch/shards" 2>&1 || { cat "$scratch/shards" >&2 && false; }; }
-    shards || shards
-    checked="$checked; $(tail -n 1 "$scratch/shards")"
+    # Three servers behind one address, and a server with several networks, where network namespaces can be made; once more for
+    # the same reason.
+    twice() { python3 "$@" >"$scratch/twice" 2>&1 || { cat "$scratch/twice" >&2 && python3 "$@" >"$scratch/twice" 2>&1; } || { cat "$scratch/twice" >&2 && exit 1; }; }
+    twice udp/shards.py
+    checked="$checked; $(tail -n 1 "$scratch/twice")"
+    twice udp/ways.py "$@"
+    checked="$checked; $(tail -n 1 "$scratch/twice")"
+    # ICE between two of the programs, and with libnice, aioice and coturn where they are installed.
+    twice udp/ice_turn.py
+    checked="$checked; $(tail -n 1 "$scratch/twice")"
 fi
 echo "examples: passed in $checked"

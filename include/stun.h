@@ -1,4 +1,4 @@
-/* STUN (RFC 8489) for programs in C, C++ and Rust: messages read, checked, written and signed, and the keys of users.
+/* STUN (RFC 8489) for programs in C, C++ and Rust: messages read, checked, written and signed, the keys of users, and streams.
  *
  * Link crates/stun_c/out/libstun_c.a, which `rt lib` in crates/stun_c proves and builds. This archive and that of
  * stun_state.h hold ELF objects for Linux on x86-64-v2 processors. They are position independent, so they may be linked
@@ -12,32 +12,19 @@
  *
  *     size_t answer(const uint8_t *request, size_t length, const uint8_t *from, size_t from_length, uint16_t port,
  *                   uint8_t *out, size_t room) {
- *         uint8_t id[STUN_ID_LENGTH], unknown[2 * 64];
- *         if (stun_class(request, length) != STUN_REQUEST) return 0;
- *         int64_t method = stun_method(request, length);
- *         if (method != STUN_BINDING || stun_id(request, length, id, sizeof id) < 0) return 0;
- *         uint16_t type;
- *         size_t value_length, unknown_length = 0;
- *         int seen = 0;
- *         for (int64_t at = 0; (at = stun_next(request, length, (size_t)at, &type, &value_length)) > 0;) {
- *             if (++seen > 64) return 0;                                          // no honest request has as many
- *             if (type >= 0x8000 || type == STUN_USERNAME || type == STUN_USERHASH || type == STUN_REALM || type == STUN_NONCE
- *                 || type == STUN_PASSWORD_ALGORITHM || type == STUN_MESSAGE_INTEGRITY
- *                 || type == STUN_MESSAGE_INTEGRITY_SHA256) continue;             // the value: request + at + 4
- *             unknown[unknown_length++] = (uint8_t)(type >> 8);
- *             unknown[unknown_length++] = (uint8_t)type;
- *         }
- *         int64_t written;
- *         if (unknown_length == 0) {
- *             written = stun_begin(STUN_SUCCESS, STUN_BINDING, id, sizeof id, out, room);
+ *         static const uint16_t known[] = {STUN_USERNAME, STUN_USERHASH, STUN_REALM, STUN_NONCE, STUN_PASSWORD_ALGORITHM,
+ *                                          STUN_MESSAGE_INTEGRITY, STUN_MESSAGE_INTEGRITY_SHA256};
+ *         stun_header header;
+ *         if (stun_read_header(request, length, &header) < 0 || header.message_class != STUN_REQUEST
+ *             || header.method != STUN_BINDING) return 0;
+ *         int64_t fingerprint = stun_check_fingerprint(request, length);
+ *         if (fingerprint < 0 || fingerprint > STUN_RIGHT_FINGERPRINT) return 0;  // no message, or a damaged one
+ *         int64_t written = stun_refuse_unknown(request, length, known, sizeof known / sizeof *known, out, room);
+ *         if (written == 0) {                                                     // each type that must be is known
+ *             written = stun_begin(STUN_SUCCESS, STUN_BINDING, header.id, STUN_ID_LENGTH, out, room);
  *             if (written > 0) written = stun_add_xor_mapped_address(out, room, (size_t)written, from, from_length, port);
- *         } else {
- *             written = stun_begin(STUN_ERROR, STUN_BINDING, id, sizeof id, out, room);
- *             if (written > 0)
- *                 written = stun_add_error(out, room, (size_t)written, 420, (const uint8_t *)"Unknown Attribute", 17);
- *             if (written > 0)
- *                 written = stun_add(out, room, (size_t)written, STUN_UNKNOWN_ATTRIBUTES, unknown, unknown_length);
  *         }
+ *         if (written > 0 && fingerprint == STUN_RIGHT_FINGERPRINT) written = stun_add_fingerprint(out, room, (size_t)written);
  *         if (written < 0) fprintf(stderr, "%s\n", stun_strerror(written));
  *         return written < 0 ? 0 : (size_t)written;
  *     }
@@ -74,12 +61,20 @@ enum {
     STUN_ERROR = 3,   /* a response */
 };
 
-/* The method of section 18.2. A method is a number below 4096. */
-enum { STUN_BINDING = 1 };
-
-/* Types of attributes (sections 14 and 18.3). A type is a number below 65536; one below 32768 must be understood. No call
- * writes or checks FINGERPRINT (section 14.7): examples/c/request.c does both, over stun_next. */
+/* The method of section 18.2, and those of TURN (RFC 8656, section 17). A method is a number below 4096. */
 enum {
+    STUN_BINDING = 1,
+    STUN_ALLOCATE = 3,
+    STUN_REFRESH = 4,
+    STUN_SEND = 6,        /* an indication */
+    STUN_DATA_METHOD = 7, /* an indication */
+    STUN_CREATE_PERMISSION = 8,
+    STUN_CHANNEL_BIND = 9,
+};
+
+/* Types of attributes (sections 14 and 18.3). A type is a number below 65536; one below 32768 must be understood. */
+enum {
+    STUN_MAPPED_ADDRESS = 0x0001,
     STUN_USERNAME = 0x0006,
     STUN_MESSAGE_INTEGRITY = 0x0008,
     STUN_ERROR_CODE = 0x0009,
@@ -91,14 +86,42 @@ enum {
     STUN_USERHASH = 0x001e,
     STUN_XOR_MAPPED_ADDRESS = 0x0020,
     STUN_PASSWORD_ALGORITHMS = 0x8002,
+    STUN_ALTERNATE_DOMAIN = 0x8003,
     STUN_SOFTWARE = 0x8022,
+    STUN_ALTERNATE_SERVER = 0x8023,
     STUN_FINGERPRINT = 0x8028,
+};
+
+/* Those of TURN (RFC 8656, section 18) and of ICE (RFC 8445, section 16.1). */
+enum {
+    STUN_CHANNEL_NUMBER = 0x000c,
+    STUN_LIFETIME = 0x000d,
+    STUN_XOR_PEER_ADDRESS = 0x0012,
+    STUN_DATA = 0x0013,
+    STUN_XOR_RELAYED_ADDRESS = 0x0016,
+    STUN_REQUESTED_ADDRESS_FAMILY = 0x0017,
+    STUN_EVEN_PORT = 0x0018,
+    STUN_REQUESTED_TRANSPORT = 0x0019,
+    STUN_DONT_FRAGMENT = 0x001a,
+    STUN_RESERVATION_TOKEN = 0x0022,
+    STUN_PRIORITY = 0x0024,
+    STUN_USE_CANDIDATE = 0x0025,
+    STUN_ICE_CONTROLLED = 0x8029,
+    STUN_ICE_CONTROLLING = 0x802a,
 };
 
 /* The algorithms of message integrity. */
 enum {
     STUN_SHA1 = 1,   /* HMAC-SHA1 in MESSAGE-INTEGRITY (section 14.5) */
     STUN_SHA256 = 2, /* HMAC-SHA256 in MESSAGE-INTEGRITY-SHA256 (section 14.6) */
+};
+
+/* What the FINGERPRINT of a message is (section 14.7). */
+enum {
+    STUN_NO_FINGERPRINT = 0,        /* there is none */
+    STUN_RIGHT_FINGERPRINT = 1,     /* that of the message before it */
+    STUN_WRONG_FINGERPRINT = 2,     /* another number: the message is damaged, or is none of STUN */
+    STUN_MISPLACED_FINGERPRINT = 3, /* not the last attribute, or not of four bytes */
 };
 
 /* Why a call refuses. */
@@ -130,6 +153,7 @@ enum {
     STUN_BAD_REQUEST = -23,         /* the request is not well-formed (400) */
     STUN_STALE_NONCE = -24,         /* the nonce is not the current one (438) */
     STUN_UNSUPPORTED_FEATURE = -25, /* the server lacks an algorithm or a feature that is required */
+    STUN_NO_WAIT = -26,             /* the time-outs would send a request again without a wait */
 };
 
 /* What an answer says, in English: of 0 or more "no error", of a refusal why, of a number below those above "unknown refusal".
@@ -162,9 +186,10 @@ static inline const char *stun_strerror(int64_t answer) {
         "the request is not well-formed",
         "the nonce is not the current one",
         "a required feature is not supported",
+        "a request would be sent again without a wait",
     };
     if (answer >= 0) return texts[0];
-    return answer >= STUN_UNSUPPORTED_FEATURE ? texts[-answer] : "unknown refusal";
+    return answer >= STUN_NO_WAIT ? texts[-answer] : "unknown refusal";
 }
 
 /* Numbers of bytes. */
@@ -177,7 +202,25 @@ enum {
     STUN_SHA1_KEY_LENGTH = 16,       /* the bytes of a long-term key for STUN_SHA1 */
     STUN_SHA256_KEY_LENGTH = 32,     /* the bytes of a long-term key for STUN_SHA256 */
     STUN_USERHASH_LENGTH = 32,       /* the bytes of a USERHASH */
+    STUN_FINGERPRINT_LENGTH = 8,     /* the bytes of a FINGERPRINT with its type and its length */
 };
+
+/* As many types a call takes that its caller knows. */
+enum { STUN_MOST_KNOWN = 256 };
+
+/* What a header says (section 5). */
+typedef struct {
+    uint32_t message_class; /* STUN_REQUEST to STUN_ERROR */
+    uint32_t method;        /* below 4096 */
+    size_t length;          /* the bytes of the whole message, those of the header included */
+    uint8_t id[12];         /* the transaction id */
+} stun_header;
+
+/* How far a walk has come in a message. The caller begins it as zeros, and stun_walk alone changes it. */
+typedef struct {
+    size_t place;    /* where the next attribute begins; 0 before the first */
+    uint32_t hidden; /* how much the attributes hide that were passed */
+} stun_cursor;
 
 /* Whether the bytes are one whole message (section 5).
  *
@@ -196,6 +239,13 @@ int64_t stun_verify(const uint8_t *message, size_t length, const uint8_t *key, s
 /* The version of the archive, which is STUN_VERSION where header and archive are of one release. */
 int64_t stun_version(void);
 
+/* The header that bytes begin with, all its fields by one call. What follows the first 20 bytes is neither looked at nor
+ * needed: so a stream tells by its first 20 bytes how many to wait for, and stun_parse or stun_walk says of the whole message
+ * whether it stands.
+ *
+ * Answers 0 and writes the header, or refuses: fewer than 20 bytes STUN_TRUNCATED, a wrong header STUN_NOT_STUN. */
+int64_t stun_read_header(const uint8_t *bytes, size_t length, stun_header *header);
+
 /* The class and the method of a message, and its transaction id, 12 bytes, which are copied to the front of `out`.
  *
  * They answer STUN_REQUEST to STUN_ERROR, a number below 4096, and 12, or refuse as stun_parse does; stun_id then refuses
@@ -204,14 +254,30 @@ int64_t stun_class(const uint8_t *message, size_t length);
 int64_t stun_method(const uint8_t *message, size_t length);
 int64_t stun_id(const uint8_t *message, size_t length, uint8_t *out, size_t out_length);
 
-/* The first visible attribute that comes after a place in a message: call it with 0, and then with the answer before.
- * After MESSAGE-INTEGRITY only MESSAGE-INTEGRITY-SHA256 and FINGERPRINT are visible, after MESSAGE-INTEGRITY-SHA256 only
- * FINGERPRINT, and after FINGERPRINT nothing (sections 14.5 to 14.7).
+/* The next visible attribute of a message, from a cursor: with one of zeros the first, and then with what the call before
+ * left. After MESSAGE-INTEGRITY only MESSAGE-INTEGRITY-SHA256 and FINGERPRINT are visible, after MESSAGE-INTEGRITY-SHA256 only
+ * FINGERPRINT, and after FINGERPRINT nothing (sections 14.5 to 14.7). So a loop over the calls comes to each visible attribute
+ * once, in order. It takes time that grows by the number of attributes, since only the first call looks at the whole message.
+ *
+ * Answers the place of the attribute, 20 or more, writes its type and the length of its value, which begins at
+ * `message + place + 4`, and puts the cursor after it; or answers 0 where there is none, leaves both numbers, and does so again
+ * with the cursor that it leaves; or refuses, and leaves numbers and cursor: with a place of 0 as stun_parse does, with another
+ * STUN_BAD_ARGUMENT where it is below 20 or above the length. Any cursor may be passed, and no byte outside the message is
+ * read. At a place that no walk of this message left, the bytes there are read as attributes. */
+int64_t stun_walk(const uint8_t *message, size_t length, stun_cursor *cursor, uint16_t *type, size_t *value_length);
+
+/* The first visible attribute of a type.
+ *
+ * Answers its place, 20 or more, and writes the length of its value, which begins at `message + place + 4`, or refuses:
+ * STUN_BAD_ARGUMENT where the type is not below 65536; as stun_parse does; STUN_MISSING_ATTRIBUTE. */
+int64_t stun_find(const uint8_t *message, size_t length, uint32_t type, size_t *value_length);
+
+/* The first visible attribute that comes after a place in a message: call it with 0, and then with the answer before. A walk
+ * by stun_walk comes to the same attributes, and is the linear way: each call of stun_next reads the message from its start,
+ * so a loop over its calls takes time that grows by the square of the number of attributes, of which a message can have 16383.
  *
  * Answers its place, 20 or more, and writes its type and the length of its value, which begins at `message + place + 4`;
- * or answers 0 where there is none, or refuses as stun_parse does, and leaves both. Each call reads the message from its
- * start, so a walk takes time that grows by the square of the number of attributes, of which a message can have 16383:
- * whoever takes messages from strangers bounds either. */
+ * or answers 0 where there is none, or refuses as stun_parse does, and leaves both. */
 int64_t stun_next(const uint8_t *message, size_t length, size_t place, uint16_t *type, size_t *value_length);
 
 /* The code of the error that a message reports in its first visible ERROR-CODE (section 14.8). The reason is that
@@ -222,13 +288,48 @@ int64_t stun_next(const uint8_t *message, size_t length, size_t place, uint16_t 
 int64_t stun_error_code(const uint8_t *message, size_t length);
 
 /* The address that a message reports in its first visible XOR-MAPPED-ADDRESS (section 14.2), 4 bytes (IPv4) or 16 (IPv6)
- * in network order, at the front of `out`, and its port. 16 bytes have room for either. To read such a value of another
- * type (XOR-PEER-ADDRESS, XOR-RELAYED-ADDRESS), write it by stun_add as STUN_XOR_MAPPED_ADDRESS to a message of the same
- * id, and ask that.
+ * in network order, at the front of `out`, and its port. 16 bytes have room for either.
  *
  * Answers 4 or 16, or refuses as stun_parse does, and then: STUN_MISSING_ATTRIBUTE, STUN_MALFORMED_ATTRIBUTE,
  * STUN_BUFFER_TOO_SMALL. */
 int64_t stun_xor_mapped_address(const uint8_t *message, size_t length, uint8_t *out, size_t out_length, uint16_t *port);
+
+/* The address in an attribute of any type with such a value, as XOR-PEER-ADDRESS and XOR-RELAYED-ADDRESS (RFC 8656, sections
+ * 18.3 and 18.5), at a place that stun_walk, stun_find or stun_next answers of this message, and its port.
+ *
+ * Answers 4 or 16, or refuses: STUN_BAD_ARGUMENT where the place is below 20 or no whole attribute is there;
+ * STUN_MALFORMED_ATTRIBUTE; STUN_BUFFER_TOO_SMALL. Any place may be passed, and no byte outside the message is read. At another
+ * place than of an attribute the bytes there are read as one. */
+int64_t stun_read_xor_address(const uint8_t *message, size_t length, size_t place, uint8_t *out, size_t out_length,
+                              uint16_t *port);
+
+/* The same of an address that is not hidden, as in MAPPED-ADDRESS and ALTERNATE-SERVER (sections 14.1 and 14.15). */
+int64_t stun_read_address(const uint8_t *message, size_t length, size_t place, uint8_t *out, size_t out_length,
+                          uint16_t *port);
+
+/* The number in an attribute of 1, 2, 4 or 8 bytes, which are in network order, as PRIORITY and LIFETIME have 4 and
+ * ICE-CONTROLLING has 8, at a place that stun_walk, stun_find or stun_next answers of this message.
+ *
+ * Answers how many bytes it has, and writes the number, or refuses: STUN_BAD_ARGUMENT where the place is below 20 or no whole
+ * attribute is there; STUN_MALFORMED_ATTRIBUTE where the value has another length. Any place may be passed, as to
+ * stun_read_xor_address. */
+int64_t stun_read_number(const uint8_t *message, size_t length, size_t place, uint64_t *number);
+
+/* Whether the FINGERPRINT of a message is right (section 14.7).
+ *
+ * Answers STUN_NO_FINGERPRINT, STUN_RIGHT_FINGERPRINT, STUN_WRONG_FINGERPRINT or STUN_MISPLACED_FINGERPRINT, or refuses as
+ * stun_parse does. */
+int64_t stun_check_fingerprint(const uint8_t *message, size_t length);
+
+/* The types of a message's visible attributes that must be understood, those below 32768, and that are not among `known`, in their
+ * order, each once. `known` and `types` are arrays of numbers, and their lengths are numbers of types: of `known` at most 256, of
+ * `types` any. A server answers a request that has one 420, which stun_refuse_unknown writes; an agent drops an indication that
+ * has one, and a response that has one ends its request as failed (sections 6.3.1 to 6.3.4).
+ *
+ * Answers how many there are, also where they are more than have room, and writes the first of them, as many as have room, to the
+ * front of `types`; or refuses: STUN_BAD_ARGUMENT where `known` has more than 256; as stun_parse does. */
+int64_t stun_unknown_types(const uint8_t *message, size_t length, const uint16_t *known, size_t known_length,
+                           uint16_t *types, size_t types_length);
 
 /* Writes a message without attributes, 20 bytes (section 5): of a class, of a method, and of a transaction id, which is to
  * be random in a request and that of the request in a response.
@@ -240,7 +341,8 @@ int64_t stun_begin(uint32_t message_class, uint32_t method, const uint8_t *id, s
 
 /* The calls that follow add an attribute to the message in the first `length` bytes of a buffer of `room` bytes. The
  * message is one of stun_begin, or any other without an integrity attribute and FINGERPRINT. They raise its length field,
- * write the attribute after it with zeros as padding, and leave the rest of the buffer.
+ * write the attribute after it with zeros as padding, and leave the rest of the buffer. Each reads the message from its start,
+ * so to build one takes time that grows by the square of the number of attributes: 0.1 ms for 100.
  *
  * Each answers the new length of the message. Each refuses, after what its own comment names first: STUN_BAD_ARGUMENT
  * where `length` is above `room`; as stun_parse does; STUN_CLOSED; and where an attribute of the type is visible
@@ -252,13 +354,30 @@ int64_t stun_begin(uint32_t message_class, uint32_t method, const uint8_t *id, s
 int64_t stun_add(uint8_t *buffer, size_t room, size_t length, uint32_t type, const uint8_t *value, size_t value_length);
 
 /* XOR-MAPPED-ADDRESS, of an address of 4 bytes (IPv4) or 16 (IPv6), in network order, and a port, hidden under the id of
- * the message (section 14.2). An attribute of another type with such a value (XOR-PEER-ADDRESS, XOR-RELAYED-ADDRESS) is
- * had by writing this one first to a message of the same id in another buffer, as stun_begin makes it, and passing its
- * value, the 8 or 20 bytes from byte 24 on, to stun_add.
+ * the message (section 14.2).
  *
  * Refuses first STUN_BAD_ARGUMENT where the port is not below 65536 or the address of another length. */
 int64_t stun_add_xor_mapped_address(uint8_t *buffer, size_t room, size_t length, const uint8_t *address,
                                     size_t address_length, uint32_t port);
+
+/* An attribute of any type that stun_add takes with such a value, as XOR-PEER-ADDRESS and XOR-RELAYED-ADDRESS (RFC 8656,
+ * sections 18.3 and 18.5).
+ *
+ * Refuses first STUN_BAD_ARGUMENT where the type or the port is not below 65536 or the address of another length; and
+ * STUN_NOT_ALLOWED after STUN_CLOSED. */
+int64_t stun_add_xor_address(uint8_t *buffer, size_t room, size_t length, uint32_t type, const uint8_t *address,
+                             size_t address_length, uint32_t port);
+
+/* The same of an address that is not hidden, as in MAPPED-ADDRESS and ALTERNATE-SERVER (sections 14.1 and 14.15). */
+int64_t stun_add_address(uint8_t *buffer, size_t room, size_t length, uint32_t type, const uint8_t *address,
+                         size_t address_length, uint32_t port);
+
+/* An attribute of any type that stun_add takes whose value is a number of `size` bytes, 1, 2, 4 or 8, in network order, as
+ * PRIORITY and LIFETIME have 4 and ICE-CONTROLLING has 8.
+ *
+ * Refuses first STUN_BAD_ARGUMENT where the type is not below 65536, the size is another, or the number has more bytes; and
+ * STUN_NOT_ALLOWED after STUN_CLOSED. */
+int64_t stun_add_number(uint8_t *buffer, size_t room, size_t length, uint32_t type, uint64_t number, size_t size);
 
 /* ERROR-CODE, of a code from 300 to 699 and a reason of at most 763 bytes (section 14.8).
  *
@@ -272,6 +391,21 @@ int64_t stun_add_error(uint8_t *buffer, size_t room, size_t length, uint32_t cod
  * Refuses first STUN_BAD_ARGUMENT for another algorithm, and never STUN_ATTRIBUTE_EXISTS. */
 int64_t stun_sign(uint8_t *buffer, size_t room, size_t length, uint32_t algorithm, const uint8_t *key,
                   size_t key_length);
+
+/* FINGERPRINT, 8 bytes, with which a message ends, signed or not (section 14.7): its integrity attribute verifies as before.
+ *
+ * Refuses never STUN_CLOSED, and STUN_ATTRIBUTE_EXISTS where the message has a FINGERPRINT. */
+int64_t stun_add_fingerprint(uint8_t *buffer, size_t room, size_t length);
+
+/* Writes the answer to a request with types that must be understood and are not among `known` (sections 6.3.1 and 14.13): an
+ * error response of its method and its id, with ERROR-CODE 420 `Unknown Attribute` and with UNKNOWN-ATTRIBUTES, which names the
+ * types as stun_unknown_types tells them. It may be signed, and FINGERPRINT added, like any other message.
+ *
+ * Answers how many bytes were written, at the front of `out`, 56 or more; or 0 where each such type is known, and writes nothing;
+ * or refuses: STUN_BAD_ARGUMENT where `known` has more than 256 types; as stun_parse does; STUN_BAD_ARGUMENT where the message is
+ * no request; STUN_BUFFER_TOO_SMALL. */
+int64_t stun_refuse_unknown(const uint8_t *request, size_t length, const uint16_t *known, size_t known_length, uint8_t *out,
+                            size_t out_length);
 
 /* Writes a Binding request with this transaction id, a USERNAME and the integrity attribute of the algorithm under a key
  * of any length. Its bytes are 28 and the user name's, rounded up to a multiple of 4, and 20 or 32.
@@ -295,6 +429,34 @@ int64_t stun_long_term_key(uint32_t algorithm, const uint8_t *username, size_t u
  * Answers how many bytes were written, 32, or refuses: STUN_NOT_TEXT, STUN_BUFFER_TOO_SMALL. */
 int64_t stun_userhash(const uint8_t *username, size_t username_length, const uint8_t *realm, size_t realm_length,
                       uint8_t *out, size_t out_length);
+
+/* Whether a packet is to be given to STUN, where other protocols share its port: it begins with a header of STUN, whose first byte
+ * is 0 to 3 (section 8; RFC 7983, section 7).
+ *
+ * Answers 1 or 0. */
+int64_t stun_is_stun(const uint8_t *packet, size_t length);
+
+/* Messages in a stream of bytes, as over TCP (section 6.2.2). Each call takes the bytes of the stream that are there, from where a
+ * message is to begin, however many they are, and answers a number of bytes: where so many are there, they are the first message;
+ * where they are not, so many must be there before more can be told, and are wanted at the front. So a reader goes like this:
+ *
+ *     while ((wanted = stun_next_frame(bytes, length)) > 0 && (size_t)wanted <= length) ..    // take the first `wanted` bytes
+ *     if (wanted < 0) ..                                                                      // close: it is not STUN
+ *                                                                                             // or else read on, to `wanted`
+ *
+ * A message is as long as its header says; whether its attributes are whole, stun_parse or stun_walk tells.
+ *
+ * stun_next_frame answers 20 or more, or refuses: STUN_NOT_STUN where no message begins there, whatever follows.
+ *
+ * stun_next_packet_frame is for packets behind their length in 2 bytes, as ICE sends them over TCP (RFC 4571, section 2). It
+ * counts these 2 bytes, answers 2 or more, 2 also of an empty packet, and never refuses.
+ *
+ * stun_next_turn_frame is for messages and ChannelData, as TURN sends them over TCP (RFC 8656, sections 12.4 and 12.5): it is
+ * ChannelData where the first byte is 0x40 to 0x4F, counted with its header of 4 bytes and its padding up to a multiple of 4. It
+ * answers 4 or more, or refuses as stun_next_frame does. */
+int64_t stun_next_frame(const uint8_t *bytes, size_t length);
+int64_t stun_next_packet_frame(const uint8_t *bytes, size_t length);
+int64_t stun_next_turn_frame(const uint8_t *bytes, size_t length);
 
 #ifdef __cplusplus
 }

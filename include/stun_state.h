@@ -31,9 +31,12 @@
  *                 is_to_ask = 0;
  *             }
  *             uint64_t now = moment();
- *             while ((length = stun_agent_poll_transmit(agent, now, bytes, sizeof bytes, &to)) > 0)
- *                 send_to(&to, bytes, (size_t)length);             // the request again
- *             if (length < 0) return length;
+ *             for (int sent = 0; sent < 16; sent++) {              // the request again; some, and then read
+ *                 length = stun_agent_poll_transmit(agent, now, bytes, sizeof bytes, &to);
+ *                 if (length < 0) return length;
+ *                 if (length == 0) break;
+ *                 send_to(&to, bytes, (size_t)length);
+ *             }
  *             answer = stun_agent_poll(agent, now, &until, id, sizeof id);
  *             if (answer != 0) return answer;
  *             size_t received = receive(&from, bytes, sizeof bytes, until);
@@ -54,6 +57,62 @@
  *             return stun_xor_mapped_address(bytes, received, octets, 16, port);
  *         }
  *     }
+ *
+ * stun_agent_poll_transmit comes before stun_agent_poll. In a loop that asks the latter alone nothing
+ * is sent again and nothing times out, and from the moment on at which something is due it does not
+ * wait either: the answer is 0 each time, with `*until` not after `now`. Where many requests are due at
+ * one moment, send some, read what has come, and go on.
+ *
+ * A server tells the users of a realm at which address it sees them: send what `serve` writes, if
+ * anything. It judges, asks who it was, signs each answer but a 400, and forgets who it was. Each
+ * request has its own credentials, so nobody need be kept; and where somebody is, a client that starts
+ * anew at that address is told no algorithms, and gives up.
+ *
+ *     // what a request draws: 200 for a success, 0 for no answer
+ *     int judge(stun_server *server, const uint8_t *bytes, size_t received, const stun_address *from) {
+ *         uint32_t words[16];
+ *         uint8_t nonce[64];
+ *         int had_nonce = stun_server_nonce(server, from, nonce, sizeof nonce) > 0;
+ *         fill_randomly((uint8_t *)words, sizeof words);
+ *         int64_t verdict = stun_server_validate(server, bytes, received, from, moment(), words);
+ *         if (verdict > 0) return 200;
+ *         if (verdict == STUN_UNAUTHORIZED) return 401;
+ *         if (verdict == STUN_STALE_NONCE) return 438;
+ *         if (verdict != STUN_BAD_REQUEST) return 0;
+ *         // It repeats an offer of before a restart, or of before the address was forgotten or was
+ *         // another. With a fresh nonce it can go on. A 400, which nobody signs, a client takes for a
+ *         // forgery, so that it would ask for ever.
+ *         return !had_nonce && stun_server_nonce(server, from, nonce, sizeof nonce) > 0 ? 438 : 400;
+ *     }
+ *
+ *     // the length of the answer to a datagram, or 0
+ *     size_t serve(stun_server *server, const uint8_t *bytes, size_t received, const stun_address *from,
+ *                  uint8_t *out, size_t room) {
+ *         uint8_t id[STUN_ID_LENGTH], name[513];
+ *         size_t name_length;
+ *         if (stun_class(bytes, received) != STUN_REQUEST) return 0; // wants no answer
+ *         if (stun_method(bytes, received) != STUN_BINDING) return 0;
+ *         int code = judge(server, bytes, received, from);
+ *         if (code == 0 || stun_id(bytes, received, id, sizeof id) < 0) return 0;
+ *         uint32_t type = code == 200 ? STUN_SUCCESS : STUN_ERROR;
+ *         int64_t length = stun_begin(type, STUN_BINDING, id, sizeof id, out, room);
+ *         // `name` is who is served, whatever USERNAME the message has.
+ *         if (code == 200 && stun_server_client(server, from, name, sizeof name, &name_length) <= 0)
+ *             length = 0;
+ *         if (length > 0 && code == 200)
+ *             length = stun_add_xor_mapped_address(out, room, (size_t)length, from->octets, from->length,
+ *                                                  from->port);
+ *         else if (length > 0)
+ *             length = stun_add_error(out, room, (size_t)length, (uint32_t)code, (const uint8_t *)"", 0);
+ *         if (length > 0 && code != 400)
+ *             length = stun_server_sign(server, out, room, (size_t)length, from);
+ *         stun_server_remove_client(server, from);
+ *         return length > 0 ? (size_t)length : 0;
+ *     }
+ *
+ * Call stun_server_forget_expired every few seconds with the moment less the time that a nonce lasts,
+ * once that much has passed: who comes within twice that time draws a 438 at the same address. And
+ * bound the number of addresses, as examples/c/udp_server.c does.
  *
  * Handles. A handle is the caller's: a variable, a field, an element of an array. All zero is empty: `stun_agent agent = {0};`
  * in C, `stun_agent agent{};` in C++. A `_new` call wants an empty handle and fills it; a `_free` call empties it, and on an
@@ -144,7 +203,11 @@ static inline bool stun_is_resend(int64_t answer) { return answer >= STUN_RESEND
 /* When a request is sent again (section 6.2.1): the wait after the first transmission, the longest wait between two, the
  * wait after the last, in nanoseconds, and how many transmissions there are over UDP. Each wait between two is twice the one
  * before, up to the longest, and UINT64_MAX there is no bound; 0 transmissions count as 1. Over TCP a request is sent once, and
- * waited for as long in all. */
+ * waited for as long in all.
+ *
+ * With more than one transmission and an `initial` or a `longest` of 0, all transmissions would be due at one moment, up to
+ * UINT32_MAX of them: a call that takes such time-outs refuses STUN_NO_WAIT, over TCP too. With a wait, one moment has one
+ * transmission of a request. */
 typedef struct {
     uint64_t initial;
     uint64_t longest;
@@ -182,7 +245,7 @@ int64_t stun_agent_new(stun_agent *agent, uint32_t transport, const stun_address
 /* The same with time-outs of the caller's, and with a remote address, to which alone the agent then sends; a remote
  * address of length 0 is none.
  *
- * Answers 0, or refuses: STUN_FULL_HANDLE, STUN_BAD_ARGUMENT (transport or an address), STUN_OUT_OF_MEMORY. */
+ * Answers 0, or refuses: STUN_FULL_HANDLE, STUN_BAD_ARGUMENT (transport or an address), STUN_NO_WAIT, STUN_OUT_OF_MEMORY. */
 int64_t stun_agent_new_with(stun_agent *agent, uint32_t transport, const stun_address *local, const stun_address *remote,
                             const stun_timeouts *timeouts);
 
@@ -244,7 +307,7 @@ int64_t stun_agent_is_outstanding(stun_agent *agent, const uint8_t *id, size_t i
 /* Cancels the request of an id: stun_agent_poll then answers STUN_CANCELLED for it, one call for each request that is over. Or
  * only ends its retransmissions: a response is waited for as long as before, and without one it ends as STUN_CANCELLED. Or gives
  * it time-outs of its own: it goes on from its last transmission as if it had had them from the first. Each answers 1, or 0
- * where none is outstanding, or refuses STUN_EMPTY_HANDLE and STUN_BAD_ARGUMENT. */
+ * where none is outstanding, or refuses STUN_EMPTY_HANDLE and STUN_BAD_ARGUMENT, and stun_agent_configure then STUN_NO_WAIT. */
 int64_t stun_agent_cancel(stun_agent *agent, const uint8_t *id, size_t id_length);
 int64_t stun_agent_cancel_retransmissions(stun_agent *agent, const uint8_t *id, size_t id_length);
 int64_t stun_agent_configure(stun_agent *agent, const uint8_t *id, size_t id_length, const stun_timeouts *timeouts);
@@ -293,9 +356,23 @@ int64_t stun_server_remove_user(stun_server *server, const uint8_t *name, size_t
 /* Forgets who was validated at an address. Its nonce stays. Answers 0, or refuses: STUN_EMPTY_HANDLE, STUN_BAD_ARGUMENT. */
 int64_t stun_server_remove_client(stun_server *server, const stun_address *at);
 
+/* Forgets all that is kept of an address: its nonce, the algorithms that were offered to it, and who was validated there. It is
+ * then met as a new one. No other address is looked at. Does not allocate.
+ *
+ * Answers 0, also where nothing was kept, or refuses: STUN_EMPTY_HANDLE, STUN_BAD_ARGUMENT. */
+int64_t stun_server_forget(stun_server *server, const stun_address *at);
+
 /* Forgets each address without a client whose nonce expired before a moment, and frees what was kept for it. Takes time that
  * grows with the number of addresses. Answers 0, or refuses STUN_EMPTY_HANDLE. */
 int64_t stun_server_forget_expired(stun_server *server, uint64_t now);
+
+/* Forgets so at no more than `most` addresses, in a fixed order, from `*from` on: a server of many has no long pause then. A
+ * `*from` of length 0 is the first of all. Answers 1, and `*from` is where the next call goes on, or 0 at the end, and `*from` has
+ * length 0. So a variable that begins as `stun_address next = {0};` is passed each time. Calls up to a 0 forget together what
+ * stun_server_forget_expired does, where no other call is made between them. Does not allocate.
+ *
+ * Refuses STUN_EMPTY_HANDLE, and STUN_BAD_ARGUMENT where the length of `*from` is neither 0 nor that of an address. */
+int64_t stun_server_forget_expired_within(stun_server *server, uint64_t now, stun_address *from, size_t most);
 
 /* Who was validated last at an address: answers STUN_SHA1 or STUN_SHA256, and writes the user's name to the front of `name` and
  * its length; or answers 0 where nobody was. 513 bytes have room for each name that a USERNAME can hold; one that was hidden by
@@ -303,6 +380,13 @@ int64_t stun_server_forget_expired(stun_server *server, uint64_t now);
  *
  * Refuses STUN_EMPTY_HANDLE, STUN_BAD_ARGUMENT, STUN_BUFFER_TOO_SMALL. */
 int64_t stun_server_client(stun_server *server, const stun_address *at, uint8_t *name, size_t room, size_t *name_length);
+
+/* The last nonce that was made for an address, whether it has expired or not: answers its length, and writes it to the front of
+ * `nonce`; or answers 0 where there is none. So a server's loop knows an address that it has not challenged. No nonce is longer
+ * than 29 bytes. Does not allocate.
+ *
+ * Refuses STUN_EMPTY_HANDLE, STUN_BAD_ARGUMENT, STUN_BUFFER_TOO_SMALL. */
+int64_t stun_server_nonce(stun_server *server, const stun_address *at, uint8_t *nonce, size_t room);
 
 /* Who signed a message that came from an address. `words` are 16 random numbers of a source that nobody can foretell (getrandom),
  * new for each call; they are read where a nonce is made.
@@ -330,17 +414,20 @@ int64_t stun_server_validate(stun_server *server, const uint8_t *message, size_t
 
 /* Signs the message in the first `length` bytes of a buffer of `room` bytes, which goes to an address: NONCE and REALM in a
  * response, and, for an address without a client, the offered algorithms; for a client of SHA-256 PASSWORD-ALGORITHM, and for
- * each client the integrity attribute. At most 848 bytes are added. Sign successes, 401 and 438; a 400 goes out as it is
+ * each client the integrity attribute. At most 848 bytes are added. Sign each answer but a 400, which goes out as it is
  * (section 9.2.4). Before any nonce was made for the address the message stays as it is.
  *
  * The algorithms that a response offers are those that requests from the address must repeat from then on: send what you sign.
+ *
+ * Does not allocate: the message is signed on the stack, of which the call takes 4 KiB, and 68 KiB where the signed message has
+ * more than 2048 bytes.
  *
  * Answers the message's new length, or refuses: STUN_EMPTY_HANDLE, STUN_BAD_ARGUMENT (address, or `length` above `room`),
  * STUN_TRUNCATED, STUN_NOT_STUN, STUN_TOO_LARGE; STUN_CLOSED where it has an integrity attribute or FINGERPRINT, also where
  * nothing would be added; STUN_BUFFER_TOO_SMALL; then, attribute by attribute, STUN_TEXT_TOO_LONG (STUN_MESSAGE_TOO_LONG where
  * the message would be too long with all that is added), STUN_ATTRIBUTE_EXISTS where the message has one that signing adds,
  * STUN_MESSAGE_TOO_LONG; and STUN_INTEGRITY_FAILED where the client's user was removed, or the client's algorithm is supported
- * no more: call stun_server_remove_client. STUN_OUT_OF_MEMORY may come in place of each of these after STUN_BUFFER_TOO_SMALL. */
+ * no more: call stun_server_remove_client. */
 int64_t stun_server_sign(stun_server *server, uint8_t *buffer, size_t room, size_t length, const stun_address *to);
 
 void stun_server_free(stun_server *server);
@@ -379,11 +466,21 @@ int64_t stun_client_set_anonymous_username(stun_client *client, uint32_t feature
  * algorithms, and the integrity attribute. At most 2104 bytes are added, and 4 for each algorithm that the server listed. Before
  * a challenge was taken up the message stays as it is, but the refusals up to STUN_CLOSED hold.
  *
+ * Does not allocate, and takes as much of the stack as stun_server_sign: 68 KiB where the message would have more than 2048
+ * bytes with all that a request is given.
+ *
  * Answers the message's new length, or refuses: STUN_EMPTY_HANDLE, STUN_BAD_ARGUMENT (`length` above `room`), STUN_TRUNCATED,
  * STUN_NOT_STUN, STUN_TOO_LARGE, STUN_CLOSED; then, attribute by attribute, STUN_TEXT_TOO_LONG (STUN_MESSAGE_TOO_LONG where the
  * message would be too long with all that a request is given), STUN_ATTRIBUTE_EXISTS, STUN_MESSAGE_TOO_LONG; and last
- * STUN_BUFFER_TOO_SMALL. STUN_OUT_OF_MEMORY may come in place of each of these after STUN_CLOSED. */
+ * STUN_BUFFER_TOO_SMALL. */
 int64_t stun_client_sign(stun_client *client, uint8_t *buffer, size_t room, size_t length);
+
+/* The algorithm of the digest that stun_client_sign would add now: STUN_SHA1 or STUN_SHA256, or 0 where it would add none, since
+ * no challenge was taken up. A client of STUN_SHA256 alone may come to sign by STUN_SHA1 (stun_client_set_algorithms), also by a
+ * challenge that was forged: where that is not wanted, ask after each answer for which stun_is_resend holds, and give up.
+ *
+ * Refuses STUN_EMPTY_HANDLE. Does not allocate. */
+int64_t stun_client_signing_algorithm(stun_client *client);
 
 /* What a response says. Show it only responses to an outstanding request, from the address that was asked.
  *

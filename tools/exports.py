@@ -1,8 +1,9 @@
 #!/usr/bin/env python3
-"""Compares include/stun.h and include/stun_state.h with the exports of stun_c and stun_state and with what Rust declares.
+"""Compares include/stun.h and include/stun_state.h with the exports of stun_c and stun_state and with what examples/rust declares.
 
-Functions by name, result, and the types of parameters in their order; addresses, time-outs and statistics by their fields; refusals
-by number, and those of bindings/rust by text. Not the handles' fields, nor the numbers of other answers. Run at the top of the repository. Prints each difference, then a count; the status is 1 where one is.
+Functions by name, result, and the types of parameters in their order; the structs but the handles by their fields; refusals by
+number. Not the handles' fields, nor the numbers of other answers. Run at the top of the repository. Prints each difference, then a
+count; the status is 1 where one is.
 """
 import re
 import sys
@@ -11,9 +12,10 @@ import sys
 PASSED = {
     "": "void", "Global": "", "&[u8]": "const uint8_t *, size_t", "&mut [u8]": "uint8_t *, size_t",
     "u8": "uint8_t", "u16": "uint16_t", "u32": "uint32_t", "u64": "uint64_t", "usize": "size_t", "i64": "int64_t",
-    "&[u32; 16]": "const uint32_t *", "c_void": "void", "Allocation": "rattle_allocation",
+    "&[u32; 16]": "const uint32_t *", "&[u16]": "const uint16_t *, size_t", "&mut [u16]": "uint16_t *, size_t",
     "AgentHandle": "stun_agent", "ServerHandle": "stun_server", "ClientHandle": "stun_client",
-    "Address": "stun_address", "Timeouts": "stun_timeouts", "Statistics": "stun_statistics", "Counts": "stun_statistics",
+    "Address": "stun_address", "Timeouts": "stun_timeouts", "Statistics": "stun_statistics",
+    "Header": "stun_header", "Cursor": "stun_cursor",
 }
 wrong, compared = [], 0
 
@@ -47,33 +49,29 @@ def functions_of_header(text):
 def structs_of_rust(text):
     return {PASSED[name]: [(PASSED[kind], field + size) for field, kind, size in
                            re.findall(r"(\w+): \[?(\w+)((?:; \d+\])?)", body)]
-            for name, body in re.findall(r"struct (Address|Timeouts|Statistics|Counts) \{(.*?)\}", text, re.DOTALL)}
+            for name, body in re.findall(r"struct (Address|Cursor|Header|Timeouts|Statistics) \{(.*?)\}", text, re.DOTALL)}
 
 def structs_of_header(text):
     return {name: [(kind, field.replace("[", "; ")) for kind, fields in re.findall(r"(\w+) ([^;]+);", body)
                    for field in re.split(r",\s*", fields)]
-            for body, name in re.findall(r"typedef struct \{([^}]*)\} (stun_address|stun_timeouts|stun_statistics);", text)}
+            for body, name in re.findall(r"typedef struct \{([^}]*)\} (stun_(?:address|cursor|header|timeouts|statistics));", text)}
 
 def main():
-    header, archive = read("include/stun.h", "include/stun_state.h"), read("bindings/rust/src/archive.rs")
-    crates = read("crates/stun_c/src/lib.rt", *(f"crates/stun_state/src/{name}.rt" for name in ("lib", "address", "agent")))
-    declared = functions_of_header(header)
-    defined = functions_of_rust(crates + archive, r'#\[(?:unsafe\(no_mangle\)|no_mangle)\]\s*(?:pub |unsafe )?extern "C" ')
+    header = read("include/stun.h", "include/stun_state.h")
+    crates = read(*(f"crates/stun_c/src/{name}.rt" for name in ("lib", "header", "walk")),
+                  *(f"crates/stun_state/src/{name}.rt" for name in ("lib", "address", "agent")))
+    # The functions that give memory are the program's.
+    declared = {name: kinds for name, kinds in functions_of_header(header).items() if name.startswith("stun_")}
+    defined = functions_of_rust(crates, r'#\[(?:unsafe\(no_mangle\)|no_mangle)\]\s*(?:pub |unsafe )?extern "C" ')
     compare("declaration", declared, defined)
     compare("definition", defined, declared)
-    for where, text in ("bindings/rust", archive), ("examples/rust", read("examples/rust/main.rs")):
-        imported = "".join(re.findall(r'extern "C" \{(.*?)\n\}', text, re.DOTALL))
-        compare("extern of " + where, functions_of_rust(imported, r"(?=fn stun_)"), declared)
-    for where, text in ("stun_state", crates), ("bindings/rust", archive):
-        compare("struct of " + where, structs_of_header(header), structs_of_rust(text))
+    imported = "".join(re.findall(r'extern "C" \{(.*?)\n\}', read("examples/rust/main.rs"), re.DOTALL))
+    compare("extern of examples/rust", functions_of_rust(imported, r"(?=fn stun_)"), declared)
+    compare("struct", structs_of_header(header), structs_of_rust(crates))
     numbers = {name.replace("_", ""): int(number) for name, number in re.findall(r"STUN_(\w+) = (-\d+)", header)}
     for crate in ("stun_c", "stun_state"):
         found = re.findall(r"Refusal::(\w+) => (-\d+)", read(f"crates/{crate}/src/codes.rt"))
         compare("number of " + crate, {name.upper(): int(number) for name, number in found}, numbers)
-    errors, texts = read("bindings/rust/src/error.rs"), re.findall(r'"([^"]*)",', header[header.index("texts[] ="):])
-    listed = re.findall(r"Refusal::(\w+),", errors)
-    compare("number of bindings/rust", numbers, {name.upper(): -1 - place for place, name in enumerate(listed)})
-    compare("text of bindings/rust", dict(zip(listed, texts[1:])), dict(re.findall(r'Refusal::(\w+) => "([^"]*)"', errors)))
     print("\n".join(wrong + [f"exports: {compared} compared, {len(wrong)} differ"]))
     return bool(wrong)
 sys.exit(main())

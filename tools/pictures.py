@@ -109,7 +109,7 @@ def negotiation():
     steps = [
         (True, "Binding request", "sign_outgoing_message adds nothing yet", "Unauthorized; a nonce is made"),
         (False, "401: ERROR-CODE, NONCE, REALM, PASSWORD-ALGORITHMS", "ResendRequest", "the algorithms are offered to this address"),
-        (True, "request: NONCE, REALM, USERNAME, both PASSWORD-.., MESSAGE-INTEGRITY-SHA256", "", "Validated(Sha256); the client is kept"),
+        (True, "request: NONCE, REALM, USERHASH, both PASSWORD-.., MESSAGE-INTEGRITY-SHA256", "", "Validated(Sha256); the client is kept"),
         (False, "success: NONCE, REALM, PASSWORD-ALGORITHM, MESSAGE-INTEGRITY-SHA256", "Validated(Sha256)", ""),
         (True, "request under an expired nonce", "", "StaleNonce; a new nonce is made"),
         (False, "438: NONCE, REALM, .., signed", "ResendRequest; the next request carries the new nonce", ""),

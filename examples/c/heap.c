@@ -1,18 +1,27 @@
-/* The memory of libstun_state.a over malloc. Each block has its length before it, so that the bytes can be counted.
+/* The memory of libstun_state.a over malloc. Each block has its length before it, so that the bytes
+ * can be counted, and overwritten before they are given back: they may be those of a password or a
+ * key.
  *
- * The counts are changed in one step each, so handles may be used in several threads, each handle in its own. */
+ * The counts are changed in one step each, so handles may be used in several threads, each handle
+ * in its own. */
 #include "heap.h"
 #include <stdint.h>
 #include <stdlib.h>
+#include <string.h>
 
 /* What is before a block: as long as the widest alignment of malloc, so that the block keeps it. */
-typedef union { size_t length; long double number; void *pointer; } head;
+typedef union {
+    size_t length;
+    long double number;
+    void *pointer;
+} head;
 
 static size_t bound = SIZE_MAX, blocks, bytes, asked, refused;
 
 static const rattle_allocation none = {false, NULL};
 
-/* Counts so many bytes more, or answers false above the bound or at the allocation that is to be refused. */
+/* Counts so many bytes more, or answers false above the bound or at the allocation that is to be
+ * refused. */
 static bool take(size_t length) {
     size_t number = __atomic_add_fetch(&asked, 1, __ATOMIC_SEQ_CST);
     if (number == __atomic_load_n(&refused, __ATOMIC_SEQ_CST)) return false;
@@ -20,13 +29,15 @@ static bool take(size_t length) {
     size_t held = __atomic_load_n(&bytes, __ATOMIC_SEQ_CST);
     do {
         if (held > most || length > most - held) return false;
-    } while (!__atomic_compare_exchange_n(&bytes, &held, held + length, false, __ATOMIC_SEQ_CST, __ATOMIC_SEQ_CST));
+    } while (!__atomic_compare_exchange_n(&bytes, &held, held + length, false, __ATOMIC_SEQ_CST,
+                                          __ATOMIC_SEQ_CST));
     return true;
 }
 
 static void give_back(size_t length) { __atomic_sub_fetch(&bytes, length, __ATOMIC_SEQ_CST); }
 
-/* Whether a block of this length and alignment can be had with its head. The archive asks for none of no length. */
+/* Whether a block of this length and alignment can be had with its head. The archive asks for none
+ * of no length. */
 static bool is_plain(size_t length, size_t alignment) {
     return alignment <= sizeof(head) && length > 0 && length <= SIZE_MAX / 2;
 }
@@ -43,18 +54,29 @@ rattle_allocation rattle_alloc(size_t length, size_t alignment) {
     return (rattle_allocation){true, block + 1};
 }
 
-/* A refusal leaves the block as it was. */
+/* A compiler may leave out a memset of what nobody reads, but no call by a pointer that it must
+ * read. */
+static void *(*const volatile overwrite)(void *, int, size_t) = memset;
+
+static void wipe_and_free(head *block) {
+    overwrite(block + 1, 0, block->length);
+    free(block);
+}
+
+/* Not by realloc, which leaves what was there where it moves a block. A refusal leaves the block as
+ * it was. */
 rattle_allocation rattle_realloc(void *at, size_t kept, size_t length, size_t alignment) {
-    (void)kept;
-    head *block = (head *)at - 1;
-    size_t before = block->length, more = length > before ? length - before : 0;
+    head *old = (head *)at - 1;
+    size_t before = old->length, more = length > before ? length - before : 0;
     if (!is_plain(length, alignment) || !take(more)) return none;
-    block = realloc(block, sizeof(head) + length);
+    head *block = malloc(sizeof(head) + length);
     if (block == NULL) {
         give_back(more);
         return none;
     }
     block->length = length;
+    memcpy(block + 1, at, kept);
+    wipe_and_free(old);
     if (length < before) give_back(before - length);
     return (rattle_allocation){true, block + 1};
 }
@@ -63,11 +85,13 @@ void rattle_dealloc(void *at) {
     head *block = (head *)at - 1;
     give_back(block->length);
     __atomic_sub_fetch(&blocks, 1, __ATOMIC_SEQ_CST);
-    free(block);
+    wipe_and_free(block);
 }
 
 void heap_bound(size_t most) { __atomic_store_n(&bound, most, __ATOMIC_SEQ_CST); }
 size_t heap_blocks(void) { return __atomic_load_n(&blocks, __ATOMIC_SEQ_CST); }
 size_t heap_bytes(void) { return __atomic_load_n(&bytes, __ATOMIC_SEQ_CST); }
 size_t heap_asked(void) { return __atomic_load_n(&asked, __ATOMIC_SEQ_CST); }
-void heap_refuse(size_t n) { __atomic_store_n(&refused, n == 0 ? 0 : heap_asked() + n, __ATOMIC_SEQ_CST); }
+void heap_refuse(size_t n) {
+    __atomic_store_n(&refused, n == 0 ? 0 : heap_asked() + n, __ATOMIC_SEQ_CST);
+}

@@ -3,27 +3,44 @@
 #include "net.h"
 #include <arpa/inet.h>
 #include <errno.h>
+#include <linux/errqueue.h>
 #include <netdb.h>
 #include <poll.h>
 #include <stdio.h>
 #include <stdlib.h>
 #include <string.h>
-#include <sys/prctl.h>
 #include <sys/random.h>
-#include <sys/wait.h>
 #include <time.h>
 #include <unistd.h>
 
+enum { RECEIVE_BUFFER = 4 << 20, WORDS_AT_ONCE = 64, REST = 10000000 /* nanoseconds */ };
+
 uint64_t moment(void) {
     struct timespec now;
-    clock_gettime(CLOCK_MONOTONIC, &now);
+    if (clock_gettime(CLOCK_BOOTTIME, &now) != 0) clock_gettime(CLOCK_MONOTONIC, &now);
     return (uint64_t)now.tv_sec * SECOND + (uint64_t)now.tv_nsec;
 }
 
 void fill_randomly(void *out, size_t length) {
-    if (getrandom(out, length, 0) == (ssize_t)length) return;
-    perror("getrandom");
-    exit(1);
+    for (size_t filled = 0; filled < length;) {
+        ssize_t more = getrandom((uint8_t *)out + filled, length - filled, 0);
+        if (more < 0 && errno != EINTR) {
+            perror("getrandom");
+            exit(1);
+        }
+        if (more > 0) filled += (size_t)more;
+    }
+}
+
+void draw_words(uint32_t words[16]) {
+    static uint32_t pool[WORDS_AT_ONCE][16];
+    static size_t left;
+    if (left == 0) {
+        fill_randomly(pool, sizeof pool);
+        left = WORDS_AT_ONCE;
+    }
+    memcpy(words, pool[--left], sizeof pool[left]);
+    explicit_bzero(pool[left], sizeof pool[left]);
 }
 
 /* ---- Addresses */
@@ -48,8 +65,37 @@ const char *text_of(const stun_address *address) {
     static char text[INET6_ADDRSTRLEN + 9];
     char octets[INET6_ADDRSTRLEN] = "?";
     inet_ntop(address->length == 4 ? AF_INET : AF_INET6, address->octets, octets, sizeof octets);
-    snprintf(text, sizeof text, address->length == 4 ? "%s:%u" : "[%s]:%u", octets, (unsigned)address->port);
+    snprintf(text, sizeof text, address->length == 4 ? "%s:%u" : "[%s]:%u", octets,
+             (unsigned)address->port);
     return text;
+}
+
+static bool is_link_local_4(const uint8_t octets[4]) {
+    return octets[0] == 169 && octets[1] == 254;
+}
+
+static bool is_link_local_6(const struct in6_addr *at) {
+    return IN6_IS_ADDR_LINKLOCAL(at)
+           || (IN6_IS_ADDR_V4MAPPED(at) && is_link_local_4(at->s6_addr + 12));
+}
+
+/* An answer leaves by whatever way leads to the client, which may be another interface than its
+ * request came by. Only a link-local address means nothing without its interface. */
+static void forget_interface(struct msghdr *message) {
+    for (struct cmsghdr *one = CMSG_FIRSTHDR(message); one != NULL;
+         one = CMSG_NXTHDR(message, one)) {
+        struct in6_pktinfo six;
+        struct in_pktinfo four;
+        if (one->cmsg_level == IPPROTO_IPV6 && one->cmsg_type == IPV6_PKTINFO) {
+            memcpy(&six, CMSG_DATA(one), sizeof six);
+            if (!is_link_local_6(&six.ipi6_addr)) six.ipi6_ifindex = 0;
+            memcpy(CMSG_DATA(one), &six, sizeof six);
+        } else if (one->cmsg_level == IPPROTO_IP && one->cmsg_type == IP_PKTINFO) {
+            memcpy(&four, CMSG_DATA(one), sizeof four);
+            if (!is_link_local_4((const uint8_t *)&four.ipi_spec_dst)) four.ipi_ifindex = 0;
+            memcpy(CMSG_DATA(one), &four, sizeof four);
+        }
+    }
 }
 
 /* ---- Sockets */
@@ -61,22 +107,32 @@ static int fails(int fd) {
     return -1;
 }
 
+static void set(int fd, int level, int name, int value) {
+    setsockopt(fd, level, name, &value, sizeof value);
+}
+
 int open_server(unsigned long *port, bool is_shared) {
-    const int yes = 1, no = 0;
     struct timeval second = {1, 0};
-    struct sockaddr_in6 any = {.sin6_family = AF_INET6, .sin6_port = htons((uint16_t)*port)}; /* where sin_port is */
+    /* The port of an IPv6 address is where that of an IPv4 address is. */
+    struct sockaddr_in6 any = {.sin6_family = AF_INET6, .sin6_port = htons((uint16_t)*port)};
     socklen_t length = sizeof any;
     int fd = socket(AF_INET6, SOCK_DGRAM, 0);
     if (fd >= 0) {
-        setsockopt(fd, IPPROTO_IPV6, IPV6_V6ONLY, &no, sizeof no);
-        setsockopt(fd, IPPROTO_IPV6, IPV6_RECVPKTINFO, &yes, sizeof yes);
+        set(fd, IPPROTO_IPV6, IPV6_V6ONLY, 0);
+        set(fd, IPPROTO_IPV6, IPV6_RECVPKTINFO, 1);
     } else {
         any.sin6_family = AF_INET;
         if ((fd = socket(AF_INET, SOCK_DGRAM, 0)) < 0) return fails(fd);
+        set(fd, IPPROTO_IP, IP_PKTINFO, 1);
     }
     setsockopt(fd, SOL_SOCKET, SO_RCVTIMEO, &second, sizeof second);
-    if (is_shared) setsockopt(fd, SOL_SOCKET, SO_REUSEPORT, &yes, sizeof yes);
-    if (bind(fd, (struct sockaddr *)&any, length) < 0 || getsockname(fd, (struct sockaddr *)&any, &length) < 0) return fails(fd);
+    /* A burst waits here. Who is not root gets no more of it than net.core.rmem_max. */
+    set(fd, SOL_SOCKET, SO_RCVBUF, RECEIVE_BUFFER);
+    set(fd, SOL_SOCKET, SO_RCVBUFFORCE, RECEIVE_BUFFER);
+    if (is_shared) set(fd, SOL_SOCKET, SO_REUSEPORT, 1);
+    if (bind(fd, (struct sockaddr *)&any, length) < 0
+        || getsockname(fd, (struct sockaddr *)&any, &length) < 0)
+        return fails(fd);
     *port = ntohs(any.sin6_port);
     return fd;
 }
@@ -91,26 +147,68 @@ int open_client(const char *host, const char *port, struct peer *server, stun_ad
     *server = (struct peer){.name_length = found->ai_addrlen};
     memcpy(&server->name, found->ai_addr, found->ai_addrlen);
     freeaddrinfo(found);
-    struct peer any = {.name.ss_family = server->name.ss_family, .name_length = server->name_length};
+    struct peer any = {.name.ss_family = server->name.ss_family,
+                       .name_length = server->name_length};
     int fd = socket(any.name.ss_family, SOCK_DGRAM, 0);
     if (fd < 0 || bind(fd, (struct sockaddr *)&any.name, any.name_length) < 0
-        || getsockname(fd, (struct sockaddr *)&any.name, &any.name_length) < 0) return fails(fd);
+        || getsockname(fd, (struct sockaddr *)&any.name, &any.name_length) < 0)
+        return fails(fd);
+    if (any.name.ss_family == AF_INET6) set(fd, IPPROTO_IPV6, IPV6_RECVERR, 1);
+    else set(fd, IPPROTO_IP, IP_RECVERR, 1);
     *own = address_of(&any);
     return fd;
 }
 
-bool is_readable(int socket, uint64_t nanoseconds) {
-    struct pollfd readable = {socket, POLLIN, 0};
+enum arrival wait_for(int socket, uint64_t nanoseconds) {
+    struct pollfd one = {socket, POLLIN, 0};
     struct timespec most = {(time_t)(nanoseconds / SECOND), (long)(nanoseconds % SECOND)};
-    return ppoll(&readable, 1, &most, NULL) > 0;
+    if (ppoll(&one, 1, &most, NULL) <= 0) return NOTHING;
+    return (one.revents & POLLERR) != 0 ? ERROR_REPORT : DATAGRAM;
+}
+
+int hard_error(int socket) {
+    size_t control[64];
+    int hard = 0;
+    for (;;) {
+        struct msghdr message = {.msg_control = control, .msg_controllen = sizeof control};
+        if (recvmsg(socket, &message, MSG_ERRQUEUE | MSG_DONTWAIT) < 0) return hard;
+        for (struct cmsghdr *one = CMSG_FIRSTHDR(&message); one != NULL;
+             one = CMSG_NXTHDR(&message, one)) {
+            struct sock_extended_err error;
+            memcpy(&error, CMSG_DATA(one), sizeof error);
+            bool is_icmp =
+                error.ee_origin == SO_EE_ORIGIN_ICMP || error.ee_origin == SO_EE_ORIGIN_ICMP6;
+            /* No such port, no such protocol. That a network or host is not reached may pass. */
+            if (is_icmp && (error.ee_errno == ECONNREFUSED || error.ee_errno == ENOPROTOOPT))
+                hard = (int)error.ee_errno;
+        }
+    }
+}
+
+/* Tells of a failure no more than every ten seconds, and lets some time pass, since the next call
+ * may fail at once too. */
+static void rest_after(const char *what) {
+    static uint64_t next;
+    const struct timespec rest = {0, REST};
+    if (moment() >= next) perror(what);
+    if (moment() >= next) next = moment() + 10 * SECOND;
+    nanosleep(&rest, NULL);
 }
 
 ssize_t receive_from(int socket, uint8_t *bytes, size_t room, struct peer *peer) {
     struct iovec data = {bytes, room};
-    struct msghdr message = {.msg_name = &peer->name, .msg_namelen = sizeof peer->name, .msg_iov = &data, .msg_iovlen = 1,
-                             .msg_control = peer->here, .msg_controllen = sizeof peer->here};
+    struct msghdr message = {.msg_name = &peer->name,
+                             .msg_namelen = sizeof peer->name,
+                             .msg_iov = &data,
+                             .msg_iovlen = 1,
+                             .msg_control = peer->here,
+                             .msg_controllen = sizeof peer->here};
     ssize_t length = recvmsg(socket, &message, 0);
-    if (length < 0 && errno != EINTR && errno != EAGAIN) perror("recvmsg");
+    if (length < 0) {
+        if (errno != EINTR && errno != EAGAIN) rest_after("recvmsg");
+        return -1;
+    }
+    forget_interface(&message);
     peer->name_length = message.msg_namelen;
     peer->here_length = message.msg_controllen;
     return (message.msg_flags & MSG_TRUNC) != 0 ? -1 : length;
@@ -119,91 +217,11 @@ ssize_t receive_from(int socket, uint8_t *bytes, size_t room, struct peer *peer)
 void send_to(int socket, const uint8_t *bytes, size_t length, const struct peer *peer) {
     struct peer to = *peer;
     struct iovec data = {(uint8_t *)bytes, length};
-    struct msghdr message = {.msg_name = &to.name, .msg_namelen = to.name_length, .msg_iov = &data, .msg_iovlen = 1,
-                             .msg_control = to.here, .msg_controllen = to.here_length};
+    struct msghdr message = {.msg_name = &to.name,
+                             .msg_namelen = to.name_length,
+                             .msg_iov = &data,
+                             .msg_iovlen = 1,
+                             .msg_control = to.here,
+                             .msg_controllen = to.here_length};
     sendmsg(socket, &message, 0);
-}
-
-/* ---- Processes */
-
-volatile sig_atomic_t is_ending;
-
-static void end(int number) {
-    (void)number;
-    is_ending = 1;
-}
-
-void end_at_signals(void) {
-    struct sigaction action = {.sa_handler = end};
-    sigaction(SIGTERM, &action, NULL);
-    sigaction(SIGINT, &action, NULL);
-}
-
-static int serve_alone(unsigned long port, void (*serve)(int socket)) {
-    int fd = open_server(&port, false);
-    if (fd < 0) return 1;
-    printf("port %lu\n", port);
-    serve(fd);
-    close(fd);
-    return 0;
-}
-
-int serve_in_processes(unsigned long processes, unsigned long port, void (*serve)(int socket)) {
-    pid_t workers[MOST_PROCESSES], parent = getpid(), reaped;
-    siginfo_t ended = {0};
-    int status = 0, one;
-    if (processes == 1) return serve_alone(port, serve);
-    for (unsigned long i = 0; i < processes; i++) {
-        int fd = open_server(&port, true);
-        if (fd < 0) return 1;
-        if ((workers[i] = fork()) == 0) {
-            prctl(PR_SET_PDEATHSIG, SIGTERM);
-            if (getppid() != parent) exit(1);
-            serve(fd);
-            exit(0);
-        }
-        close(fd);
-        if (workers[i] < 0) return 1;
-    }
-    printf("port %lu\n", port);
-    /* A worker that ended is not waited for here, so that its number is nobody else's when the others are told. */
-    while (!is_ending && ended.si_pid == 0) {
-        usleep(100000);
-        waitid(P_ALL, 0, &ended, WEXITED | WNOHANG | WNOWAIT);
-    }
-    for (unsigned long i = 0; i < processes; i++) kill(workers[i], SIGTERM);
-    while ((reaped = waitpid(-1, &one, 0)) > 0 || errno == EINTR) status |= reaped > 0 ? one : 0;
-    return status != 0 || !is_ending;
-}
-
-/* ---- Words */
-
-bool read_number(const char *word, unsigned long least, unsigned long most, unsigned long *number) {
-    char *end;
-    if (word == NULL || *word < '0' || *word > '9') return false;
-    *number = strtoul(word, &end, 10);
-    return *end == 0 && *number >= least && *number <= most;
-}
-
-static bool read_seconds(const char *word, unsigned long least, unsigned long most, uint64_t *nanoseconds) {
-    char *end;
-    if (word == NULL || *word < '0' || *word > '9') return false;
-    double seconds = strtod(word, &end);
-    if (*end != 0 || !(seconds >= (double)least && seconds <= (double)most)) return false;
-    *nanoseconds = (uint64_t)(seconds * (double)SECOND);
-    return true;
-}
-
-int read_options(int count, char **words, const struct option *options) {
-    int left = 0;
-    for (int i = 1; i < count; i++) {
-        const struct option *one = options;
-        while (one->name != NULL && strcmp(words[i], one->name) != 0) one++;
-        if (one->name == NULL && words[i][0] == '-') return -1;
-        if (one->name == NULL) words[left++] = words[i];
-        else if (one->flag != NULL) *one->flag = true;
-        else if (one->number != NULL ? !read_number(words[++i], one->least, one->most, one->number)
-                                     : !read_seconds(words[++i], one->least, one->most, one->nanoseconds)) return -1;
-    }
-    return left;
 }

@@ -1,16 +1,24 @@
-/* A bound on the addresses for which a server keeps a nonce: each has a place in a table, or is not served. */
+/* A bound on the addresses that a server keeps, and on those of one network. Who comes to a full
+ * table has the place of the address that was silent for longest, so nobody is shut out. */
 #ifndef STUN_PLACES_H
 #define STUN_PLACES_H
 
 #include "stun_state.h"
 
-/* Places are in groups, and a hash of an address, with a secret of each process, finds its group. */
-enum { PLACES_IN_GROUP = 16 };
+/* A network is an IPv4 address, or a /64 of IPv6. It has one of so many shares of the places, at
+ * most: where it has them all, who comes from it has the place of an address of its own. */
+enum { SHARES = 16 };
 
-/* Makes room for so many addresses, a multiple of PLACES_IN_GROUP. False without memory. */
+/* Makes room for so many addresses, SHARES at least. False without memory. */
 bool make_places(size_t number);
 
-/* Whether an address has a place now, or finds a free one: it is then its own until a moment. */
-bool has_place(const stun_address *from, uint64_t now, uint64_t until);
+/* Gives an address a place, unless it has one. True where another address lost its own for it,
+ * which is written: one that was never validated, where there is one, and of these the one that was
+ * silent for longest. */
+bool take_place(const stun_address *from, stun_address *gone);
+
+/* Tells that an address was validated. Of all places, and of a network's, three quarters are kept
+ * so for who was: beyond it, who of these was silent for longest counts as if it never was. */
+void keep_place(const stun_address *at);
 
 #endif

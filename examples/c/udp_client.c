@@ -1,23 +1,36 @@
 /* Asks a STUN server over UDP (RFC 8489) at which address it sees this client, and prints it.
  *
- *     udp_client HOST PORT [NAME PASSWORD] [--sha256] [--within SECONDS]
+ *     udp_client HOST PORT [NAME PASSWORD] [OPTION]..
  *
+ * --user FILE         takes them of a file with a line `NAME PASSWORD`; `-` is standard input
  * --sha256            supports HMAC-SHA256 beside HMAC-SHA1
  * --within SECONDS    gives up after so long; the library does after 39.5 s
  *
- * Without a name it takes an answer that nobody signed; with one, only an answer that the server signed. Status 0; or 1, and
- * why on standard error: `no answer`, `refused CODE`, `unsupported ..` or `failed ..`; or 2 for wrong words. */
+ * Without a name it takes an answer that nobody signed; with one, only an answer that the server
+ * signed. Status 0; or 1, and why on standard error: `no answer`, `refused CODE`, `unsupported ..`
+ * or `failed ..`; or 2 for wrong words. */
 #define _GNU_SOURCE
 #include "heap.h"
 #include "net.h"
+#include "request.h"
+#include "words.h"
 #include <stdio.h>
 #include <string.h>
 #include <unistd.h>
 
-enum { MOST_ASKS = 4, MOST_MEMORY = 1 << 20 };
+enum { MOST_ASKS = 4, MOST_AT_ONCE = 16, MOST_MEMORY = 1 << 20 };
 
 /* How asking ends. */
-enum end { ASKING, ANSWERED, NO_ANSWER, REFUSED, ASKED_TOO_OFTEN, UNSUPPORTED, FAILED };
+enum end {
+    ASKING,
+    ANSWERED,
+    NO_ANSWER,
+    REFUSED,
+    ASKED_TOO_OFTEN,
+    UNSUPPORTED,
+    NOT_UNDERSTOOD,
+    FAILED
+};
 
 struct asker {
     int socket;
@@ -27,7 +40,8 @@ struct asker {
     bool has_credentials;
     uint64_t give_up; /* at this moment */
     int asks;
-    int64_t number;   /* an error code, or a refusal of the library */
+    int unreachable; /* what ICMP told of the server, or 0 */
+    int64_t number;  /* an error code, or a refusal of the library */
     stun_address seen;
 };
 
@@ -48,38 +62,48 @@ static enum end ask(struct asker *asker) {
     if (length < 0) return fails(asker, length);
     int64_t kept = stun_agent_send_request(&asker->agent, request, (size_t)length, &to, moment());
     if (kept < 0) return fails(asker, kept);
-    send_to(asker->socket, request, (size_t)length, &asker->server); /* what is lost the agent has sent again */
+    send_to(asker->socket, request, (size_t)length,
+            &asker->server); /* what is lost the agent has sent again */
     return ASKING;
 }
 
 static enum end is_refused(struct asker *asker, const uint8_t *bytes, size_t length) {
-    asker->number = stun_error_code(bytes, length);
+    int64_t code = stun_error_code(bytes, length);
+    if (code < 0) return fails(asker, code);
+    asker->number = code;
     return REFUSED;
 }
 
 /* What a response tells that is to be believed. */
 static enum end read_response(struct asker *asker, const uint8_t *bytes, size_t length) {
     if (stun_class(bytes, length) == STUN_ERROR) return is_refused(asker, bytes, length);
-    int64_t octets = stun_xor_mapped_address(bytes, length, asker->seen.octets, sizeof asker->seen.octets, &asker->seen.port);
+    int64_t octets = stun_xor_mapped_address(bytes, length, asker->seen.octets,
+                                             sizeof asker->seen.octets, &asker->seen.port);
     if (octets < 0) return fails(asker, octets);
     asker->seen.length = (uint16_t)octets;
     return ANSWERED;
 }
 
-/* Whether a datagram is a response to an outstanding request, from the address that was asked. */
-static bool is_an_answer(struct asker *asker, const uint8_t *bytes, size_t length, const stun_address *from) {
-    uint8_t id[STUN_ID_LENGTH];
+/* Whether a message is a response to an outstanding request, from the address that was asked. */
+static bool is_an_answer(struct asker *asker, const struct message *message,
+                         const stun_address *from) {
     stun_address asked;
-    int64_t class = stun_class(bytes, length);
-    return (class == STUN_SUCCESS || class == STUN_ERROR) && stun_id(bytes, length, id, sizeof id) > 0
-        && stun_agent_is_outstanding(&asker->agent, id, sizeof id, &asked) == 1 && asked.length == from->length
-        && asked.port == from->port && memcmp(asked.octets, from->octets, asked.length) == 0;
+    return (message->kind == STUN_SUCCESS || message->kind == STUN_ERROR)
+           && message->method == STUN_BINDING
+           && stun_agent_is_outstanding(&asker->agent, message->id, sizeof message->id, &asked) == 1
+           && asked.length == from->length && asked.port == from->port
+           && memcmp(asked.octets, from->octets, asked.length) == 0;
 }
 
-/* Judges a datagram: asks the authenticator before the agent, and drops what is no answer and what is forged. */
-static enum end judge(struct asker *asker, const uint8_t *bytes, size_t length, const stun_address *from) {
+/* Judges a datagram: asks the authenticator before the agent, and drops what is no answer, has a
+ * wrong FINGERPRINT, or is forged. What has an attribute that it would have to understand ends the
+ * request all the same (section 6.3.3). */
+static enum end judge(struct asker *asker, const uint8_t *bytes, size_t length,
+                      const stun_address *from) {
+    struct message message;
     int64_t verdict = 0;
-    if (!is_an_answer(asker, bytes, length, from)) return ASKING;
+    if (read_message(bytes, length, &message) != NULL || !is_an_answer(asker, &message, from))
+        return ASKING;
     if (asker->has_credentials) verdict = stun_client_validate(&asker->client, bytes, length);
     if (verdict == STUN_INTEGRITY_FAILED) return ASKING;
     if (verdict == STUN_UNSUPPORTED_FEATURE) return UNSUPPORTED;
@@ -87,37 +111,61 @@ static enum end judge(struct asker *asker, const uint8_t *bytes, size_t length, 
     if (verdict < 0) return fails(asker, verdict);
     int64_t taken = stun_agent_handle(&asker->agent, bytes, length, from, moment());
     if (taken < 0) return fails(asker, taken);
+    if (message.unknown_length > 0) return NOT_UNDERSTOOD;
     return stun_is_resend(verdict) ? ask(asker) : read_response(asker, bytes, length);
 }
 
-/* Sends again what is due, and waits for a datagram until something else is. */
+/* Sends again what is due, and not all of it where that is much: answers are to be read between.
+ * The agent tells the server's address too, but only the peer has the scope of a link-local one. */
+static int64_t send_again(struct asker *asker, uint64_t now) {
+    uint8_t bytes[4096];
+    stun_address to;
+    for (int sent = 0; sent < MOST_AT_ONCE; sent++) {
+        int64_t due = stun_agent_poll_transmit(&asker->agent, now, bytes, sizeof bytes, &to);
+        if (due <= 0) return due;
+        send_to(asker->socket, bytes, (size_t)due, &asker->server);
+    }
+    return 0;
+}
+
+/* Asks what is to be sent again, and then what comes next; waits for a datagram until then. */
 static enum end wait_and_receive(struct asker *asker) {
     uint8_t bytes[4096], id[STUN_ID_LENGTH];
     uint64_t now = moment(), until;
-    stun_address to;
-    int64_t due;
-    while ((due = stun_agent_poll_transmit(&asker->agent, now, bytes, sizeof bytes, &to)) > 0)
-        send_to(asker->socket, bytes, (size_t)due, &asker->server);
-    if (due < 0) return fails(asker, due);
-    if (now >= asker->give_up || stun_agent_poll(&asker->agent, now, &until, id, sizeof id) != 0) return NO_ANSWER;
+    int64_t sent = send_again(asker, now);
+    if (sent < 0) return fails(asker, sent);
+    if (now >= asker->give_up || stun_agent_poll(&asker->agent, now, &until, id, sizeof id) != 0)
+        return NO_ANSWER;
     if (until > asker->give_up) until = asker->give_up;
-    if (!is_readable(asker->socket, until > now ? until - now : 0)) return ASKING;
+    enum arrival came = wait_for(asker->socket, until > now ? until - now : 0);
+    if (came == ERROR_REPORT) {
+        asker->unreachable = hard_error(asker->socket);
+        return asker->unreachable != 0 ? NO_ANSWER : ASKING;
+    }
     struct peer peer;
-    ssize_t length = receive_from(asker->socket, bytes, sizeof bytes, &peer);
+    ssize_t length =
+        came == DATAGRAM ? receive_from(asker->socket, bytes, sizeof bytes, &peer) : -1;
     if (length < 0) return ASKING;
     stun_address from = address_of(&peer);
     return judge(asker, bytes, (size_t)length, &from);
 }
 
-static int64_t begin(struct asker *asker, const stun_address *own, int count, char **words, bool has_sha256) {
-    int64_t answer = stun_agent_new(&asker->agent, STUN_UDP, own);
-    if (answer < 0 || count == 0) return answer;
+static int64_t take(void *taker, const char *name, const char *password) {
+    struct asker *asker = taker;
     asker->has_credentials = true;
-    answer = stun_client_new(&asker->client);
-    if (answer >= 0 && has_sha256) answer = stun_client_set_algorithms(&asker->client, STUN_SHA1 | STUN_SHA256);
-    if (answer < 0) return answer;
-    return stun_client_set_credentials(&asker->client, (const uint8_t *)words[0], strlen(words[0]), (const uint8_t *)words[1],
-                                       strlen(words[1]));
+    return stun_client_set_credentials(&asker->client, (const uint8_t *)name, strlen(name),
+                                       (const uint8_t *)password, strlen(password));
+}
+
+static int64_t begin(struct asker *asker, const stun_address *own, int count, char **words,
+                     const char *file, bool has_sha256) {
+    int64_t answer = stun_agent_new(&asker->agent, STUN_UDP, own);
+    if (answer >= 0) answer = stun_client_new(&asker->client);
+    if (answer >= 0 && has_sha256)
+        answer = stun_client_set_algorithms(&asker->client, STUN_SHA1 | STUN_SHA256);
+    if (answer >= 0) answer = take_words(words, count, take, asker);
+    if (answer >= 0 && file != NULL) answer = take_file(file, take, asker);
+    return answer;
 }
 
 static void report(const struct asker *asker, enum end end) {
@@ -125,21 +173,34 @@ static void report(const struct asker *asker, enum end end) {
     case ANSWERED: puts(text_of(&asker->seen)); break;
     case REFUSED: fprintf(stderr, "refused %lld\n", (long long)asker->number); break;
     case ASKED_TOO_OFTEN: fprintf(stderr, "refused: challenged too often\n"); break;
-    case UNSUPPORTED: fprintf(stderr, "unsupported: %s\n", stun_strerror(STUN_UNSUPPORTED_FEATURE)); break;
+    case UNSUPPORTED:
+        fprintf(stderr, "unsupported: %s\n", stun_strerror(STUN_UNSUPPORTED_FEATURE));
+        break;
+    case NOT_UNDERSTOOD:
+        fprintf(stderr, "failed: the response has an attribute that is not understood\n");
+        break;
     case FAILED: fprintf(stderr, "failed: %s\n", stun_strerror(asker->number)); break;
-    default: fprintf(stderr, "no answer\n");
+    default:
+        if (asker->unreachable != 0)
+            fprintf(stderr, "no answer: %s\n", strerror(asker->unreachable));
+        else fprintf(stderr, "no answer\n");
     }
 }
 
 int main(int count, char **words) {
     bool has_sha256 = false;
+    const char *file = NULL;
     uint64_t within = 60 * SECOND;
     const struct option options[] = {
-        {"--sha256", .flag = &has_sha256}, {"--within", .nanoseconds = &within, .least = 0, .most = 1000000}, {.name = NULL},
+        {"--sha256", .flag = &has_sha256},
+        {"--user", .text = &file},
+        {"--within", .nanoseconds = &within, .least = 0, .most = 1000000},
+        {.name = NULL},
     };
     count = read_options(count, words, options);
-    if (count != 2 && count != 4) {
-        fprintf(stderr, "usage: udp_client HOST PORT [NAME PASSWORD] [--sha256] [--within SECONDS]\n");
+    if (count != 2 && (count != 4 || file != NULL)) {
+        fprintf(stderr, "usage: udp_client HOST PORT [NAME PASSWORD] [--user FILE] [--sha256] "
+                        "[--within SECONDS]\n");
         return 2;
     }
     struct asker asker = {.give_up = moment() + within};
@@ -147,7 +208,7 @@ int main(int count, char **words) {
     heap_bound(MOST_MEMORY);
     asker.socket = open_client(words[0], words[1], &asker.server, &own);
     if (asker.socket < 0) return 1;
-    int64_t answer = begin(&asker, &own, count - 2, words + 2, has_sha256);
+    int64_t answer = begin(&asker, &own, count - 2, words + 2, file, has_sha256);
     enum end end = answer < 0 ? fails(&asker, answer) : ask(&asker);
     while (end == ASKING) end = wait_and_receive(&asker);
     report(&asker, end);

@@ -1,40 +1,48 @@
-/* A STUN server on UDP (RFC 8489), IPv4 and IPv6. It tells who asks the address that it sees, and where it has a realm and
- * users, it answers nobody else (section 9.2.4).
+/* A STUN server on UDP (RFC 8489), IPv4 and IPv6. It tells who asks the address that it sees, and
+ * where it has a realm and users, it answers nobody else (section 9.2.4).
  *
- *     udp_server PORT [REALM NAME PASSWORD [NAME PASSWORD]..] [OPTION]..
+ *     udp_server PORT [REALM [NAME PASSWORD]..] [OPTION]..
  *
+ * --users FILE        takes users of a file, a line `NAME PASSWORD` each; `-` is standard input
  * --sha256            offers HMAC-SHA256 beside HMAC-SHA1
  * --expiry SECONDS    how long a nonce lasts: 3600, and 30 at least
- * --addresses N       for how many addresses each process keeps a nonce: 131072, a multiple of 16
+ * --addresses N       for how many addresses each process keeps a nonce: 131072, and 16 at least
  * --workers N         so many processes on one port
  * --ahead SECONDS     SIGUSR1 moves the clock so far ahead, to see nonces expire (for tests)
- * --any-method        judges requests of other methods too, and answers them 508 (Insufficient Capacity) once validated
- * -v                  prints a line for each datagram: from where, and what was answered
+ * --any-method        judges requests of other methods too, and answers them 508 once validated
+ * -v                  prints a line for each datagram: from where, the answer, and who had signed
  *
  * Port 0 is any free one. The first line of output is `port N`. SIGTERM ends it with status 0. */
 #define _GNU_SOURCE
 #include "heap.h"
 #include "net.h"
 #include "places.h"
+#include "processes.h"
 #include "request.h"
+#include "words.h"
 #include <stdio.h>
 #include <string.h>
 
-static const uint64_t PERIOD = 10 * SECOND;  /* nonces that expired are forgotten so often */
-static const size_t MOST_MEMORY = 64u << 20; /* of one process */
+/* Nonces that expired are looked for so often, some at a time and not all in one pause. */
+static const uint64_t PERIOD = 10 * SECOND, PAUSE = SECOND / 50;
+
+enum { AT_ONCE = 256, AT_ONCE_IDLE = 4096 };
+enum { MEMORY_FOR_ADDRESS = 512, MEMORY_BESIDE = 16 << 20 }; /* of one process, at most */
 
 static struct {
     unsigned long port, workers, addresses;
     uint64_t expiry, ahead;
+    const char *file;
     bool has_users, has_sha256, is_verbose, takes_any_method;
 } settings = {.workers = 1, .addresses = 1 << 17, .expiry = 3600 * SECOND};
 
 static const struct option options[] = {
     {"-v", .flag = &settings.is_verbose},
+    {"--users", .text = &settings.file},
     {"--sha256", .flag = &settings.has_sha256},
     {"--any-method", .flag = &settings.takes_any_method},
     {"--workers", .number = &settings.workers, .least = 1, .most = MOST_PROCESSES},
-    {"--addresses", .number = &settings.addresses, .least = PLACES_IN_GROUP, .most = 1 << 24},
+    {"--addresses", .number = &settings.addresses, .least = SHARES, .most = 1 << 24},
     {"--expiry", .nanoseconds = &settings.expiry, .least = 30, .most = 1000000},
     {"--ahead", .nanoseconds = &settings.ahead, .least = 0, .most = 1000000},
     {.name = NULL},
@@ -47,30 +55,44 @@ static void jump(int number) { jumps += number == SIGUSR1; }
 
 static uint64_t now(void) { return moment() + (uint64_t)jumps * settings.ahead; }
 
-/* Nonces are kept for as long again as they last, so that a client that comes late is told 438 and not 401 or 400. */
-static void forget_now_and_then(void) {
-    static uint64_t next;
-    if (!settings.has_users || now() < next) return;
-    if (next != 0 && now() > settings.expiry) stun_server_forget_expired(&server, now() - settings.expiry);
-    next = now() + PERIOD;
+/* Nonces are kept for as long again as they last, so that a client that comes late is told 438 and
+ * not 401 or 400. */
+static void forget_now_and_then(bool is_idle) {
+    static uint64_t due;
+    static stun_address next;
+    if (!settings.has_users || now() < due || now() < settings.expiry) return;
+    int64_t more = stun_server_forget_expired_within(&server, now() - settings.expiry, &next,
+                                                     is_idle ? AT_ONCE_IDLE : AT_ONCE);
+    due = now() + (more > 0 ? PAUSE : PERIOD);
 }
 
-/* A place is free once its address was silent for as long as the server may keep a nonce, so it keeps no more of them than
- * there are places. */
-static bool may_ask(const stun_address *from) {
-    return !settings.has_users || has_place(from, now(), now() + 2 * settings.expiry + PERIOD);
+/* The server keeps a nonce for no address without a place, so for no more than there are places. */
+static void make_room(const stun_address *from) {
+    stun_address gone;
+    if (settings.has_users && take_place(from, &gone)) stun_server_forget(&server, &gone);
 }
 
-/* Who signed a request: an algorithm, 0 where nobody need sign, or why it is refused. */
-static int64_t validate(const uint8_t *bytes, size_t length, const stun_address *from) {
+static bool has_nonce(const stun_address *at) {
+    uint8_t nonce[64];
+    return stun_server_nonce(&server, at, nonce, sizeof nonce) > 0;
+}
+
+/* Who signed a request: an algorithm, 0 where nobody need sign, or why it is refused. From an
+ * address without a nonce, as after a start of the server or under another port, a request that
+ * repeats what was offered is a bad one for the library, which keeps no such offer. It is told that
+ * its nonce is stale: a 400 the client would take for a forgery, and ask for ever. */
+static int64_t validate(const struct message *request, const uint8_t *bytes, size_t length,
+                        const stun_address *from) {
     uint32_t words[16];
     if (!settings.has_users) return 0;
-    fill_randomly(words, sizeof words);
-    return stun_server_validate(&server, bytes, length, from, now(), words);
+    bool is_new = request->has_algorithms && !has_nonce(from);
+    draw_words(words);
+    int64_t verdict = stun_server_validate(&server, bytes, length, from, now(), words);
+    return verdict == STUN_BAD_REQUEST && is_new && has_nonce(from) ? STUN_STALE_NONCE : verdict;
 }
 
-/* The code that a request draws once it is judged: 200 for a success, 0 where there is no answer. */
-static int code_of(int64_t verdict, const struct request *request) {
+/* The code that a judged request draws: 200 for a success, 0 where there is no answer. */
+static int code_of(int64_t verdict, const struct message *request) {
     if (verdict == STUN_BAD_REQUEST) return 400;
     if (verdict == STUN_UNAUTHORIZED) return 401;
     if (verdict == STUN_STALE_NONCE) return 438;
@@ -79,34 +101,60 @@ static int code_of(int64_t verdict, const struct request *request) {
     return request->method == STUN_BINDING ? 200 : 508;
 }
 
-static int64_t write_answer(const struct request *request, int code, const stun_address *from, uint8_t *out, size_t room) {
+static int64_t write_answer(const struct message *request, int code, const stun_address *from,
+                            uint8_t *out, size_t room) {
     int64_t length = begin_answer(request, code, from, out, room);
-    if (length > 0 && settings.has_users && code != 400) length = stun_server_sign(&server, out, room, (size_t)length, from);
-    if (length > 0 && request->has_fingerprint) length = add_fingerprint(out, room, (size_t)length);
+    if (length > 0 && settings.has_users && code != 400)
+        length = stun_server_sign(&server, out, room, (size_t)length, from);
+    if (length > 0 && request->has_fingerprint)
+        length = stun_add_fingerprint(out, room, (size_t)length);
     return length;
 }
 
 static size_t drop(const stun_address *from, const char *why) {
-    if (settings.is_verbose) printf("%s dropped: %s\n", text_of(from), why);
+    if (settings.is_verbose) say("%s dropped: %s\n", text_of(from), why);
     return 0;
 }
 
-/* Writes what is to be sent back for a datagram, and answers its length, or 0 where nothing is. */
-static size_t answer(const uint8_t *bytes, size_t length, const stun_address *from, uint8_t *out, size_t room) {
-    struct request request;
-    const char *why = read_request(bytes, length, &request);
-    if (why == NULL && request.method != STUN_BINDING && !settings.takes_any_method) why = "not a Binding request";
-    if (why == NULL && !may_ask(from)) why = "no room for its address";
+/* Who was validated at an address is what the server tells, and not the USERNAME of a message. */
+static void tell(const stun_address *from, int code, int64_t verdict) {
+    char name[513];
+    size_t length = 0;
+    const char *algorithm = verdict == STUN_SHA256 ? "SHA256" : "SHA1";
+    if (!settings.is_verbose) return;
+    if (verdict <= 0) {
+        say("%s %d\n", text_of(from), code);
+        return;
+    }
+    stun_server_client(&server, from, (uint8_t *)name, sizeof name, &length);
+    say("%s %d %s %.*s\n", text_of(from), code, algorithm, (int)length, name);
+}
+
+/* Why a request is dropped before it is judged, or NULL. */
+static const char *why_dropped(const struct message *request) {
+    if (request->kind != STUN_REQUEST) return "not a request";
+    bool is_judged = request->method == STUN_BINDING || settings.takes_any_method;
+    return is_judged ? NULL : "not a Binding request";
+}
+
+/* Writes what is to be sent back for a datagram, and answers its length, or 0 where nothing is. A
+ * request is judged, the server says who asked, the answer is signed, and the client is forgotten:
+ * no request needs an earlier one, and a client that starts anew at the address of one that is kept
+ * would be told no algorithms, and give up. */
+static size_t answer(const uint8_t *bytes, size_t length, const stun_address *from, uint8_t *out,
+                     size_t room) {
+    struct message request;
+    const char *why = read_message(bytes, length, &request);
+    if (why == NULL) why = why_dropped(&request);
     if (why != NULL) return drop(from, why);
-    int64_t verdict = validate(bytes, length, from);
+    make_room(from);
+    int64_t verdict = validate(&request, bytes, length, from);
     int code = code_of(verdict, &request);
+    if (code != 0) tell(from, code, verdict);
     int64_t written = code == 0 ? verdict : write_answer(&request, code, from, out, room);
-    /* A Binding request begins no session, so its client need not be kept. */
+    if (verdict > 0) keep_place(from);
     if (verdict > 0) stun_server_remove_client(&server, from);
-    if (written < 0) return drop(from, stun_strerror(written));
-    const char *signed_by = verdict == STUN_SHA256 ? " SHA256" : verdict == STUN_SHA1 ? " SHA1" : "";
-    if (settings.is_verbose) printf("%s %d%s\n", text_of(from), code, signed_by);
-    return (size_t)written;
+    return written < 0 ? drop(from, stun_strerror(written)) : (size_t)written;
 }
 
 static void serve(int socket) {
@@ -114,7 +162,7 @@ static void serve(int socket) {
     struct peer peer;
     while (!is_ending) {
         ssize_t length = receive_from(socket, bytes, sizeof bytes, &peer);
-        forget_now_and_then();
+        forget_now_and_then(length < 0);
         if (length < 0) continue;
         stun_address from = address_of(&peer);
         size_t answered = answer(bytes, (size_t)length, &from, out, sizeof out);
@@ -122,32 +170,43 @@ static void serve(int socket) {
     }
 }
 
+static int64_t take(void *taker, const char *name, const char *password) {
+    return stun_server_add_user(taker, (const uint8_t *)name, strlen(name),
+                                (const uint8_t *)password, strlen(password));
+}
+
 /* The server of a realm and its users. */
-static int64_t begin(int count, char **words) {
+static int64_t begin(const char *realm, int count, char **words) {
     if (!make_places(settings.addresses)) return STUN_OUT_OF_MEMORY;
-    int64_t answer = stun_server_new(&server, (const uint8_t *)words[0], strlen(words[0]));
-    if (answer >= 0 && settings.has_sha256) answer = stun_server_set_algorithms(&server, STUN_SHA1 | STUN_SHA256);
+    int64_t answer = stun_server_new(&server, (const uint8_t *)realm, strlen(realm));
+    if (answer >= 0 && settings.has_sha256)
+        answer = stun_server_set_algorithms(&server, STUN_SHA1 | STUN_SHA256);
     if (answer >= 0) answer = stun_server_set_nonce_expiry(&server, settings.expiry);
-    for (int i = 1; answer >= 0 && i < count; i += 2)
-        answer = stun_server_add_user(&server, (const uint8_t *)words[i], strlen(words[i]), (const uint8_t *)words[i + 1],
-                                      strlen(words[i + 1]));
+    if (answer >= 0) answer = take_words(words, count, take, &server);
+    if (answer >= 0 && settings.file != NULL) answer = take_file(settings.file, take, &server);
     return answer;
+}
+
+/* A port, and where there is a realm, users of words or of a file. */
+static bool has_right_words(int count, char **words) {
+    bool has_rest =
+        count == 1 ? settings.file == NULL : count % 2 == 0 && (count > 2 || settings.file != NULL);
+    return count >= 1 && has_rest && read_number(words[0], 0, 65535, &settings.port);
 }
 
 int main(int count, char **words) {
     count = read_options(count, words, options);
-    if (count < 1 || (count > 1 && (count < 4 || count % 2 != 0)) || settings.addresses % PLACES_IN_GROUP != 0
-        || !read_number(words[0], 0, 65535, &settings.port)) {
-        fprintf(stderr, "usage: udp_server PORT [REALM NAME PASSWORD [NAME PASSWORD]..] [--sha256] [--expiry SECONDS]"
+    if (!has_right_words(count, words)) {
+        fprintf(stderr, "usage: udp_server PORT [REALM [NAME PASSWORD].. [--users FILE]] "
+                        "[--sha256] [--expiry SECONDS]"
                         " [--addresses N] [--workers N] [--ahead SECONDS] [--any-method] [-v]\n");
         return 2;
     }
-    setvbuf(stdout, NULL, _IOLBF, 0);
-    heap_bound(MOST_MEMORY);
+    heap_bound(MEMORY_BESIDE + MEMORY_FOR_ADDRESS * settings.addresses);
     settings.has_users = count > 1;
-    int64_t answer = settings.has_users ? begin(count - 1, words + 1) : 0;
+    int64_t answer = settings.has_users ? begin(words[1], count - 2, words + 2) : 0;
     if (answer < 0) {
-        fprintf(stderr, "udp_server: %s\n", stun_strerror(answer));
+        if (answer != NOT_READ) fprintf(stderr, "udp_server: %s\n", stun_strerror(answer));
         return 1;
     }
     end_at_signals();

@@ -9,17 +9,18 @@ docs/INTEROP.md has the table of a run. Status 0 where each row that could be tr
 """
 import os
 import pathlib
+import signal
 import socket
 import subprocess
 import sys
 import tempfile
 import time
 
-import check
+import harness
 import stun
 
-REALM, NAME, PASSWORD = check.USER
-SERVER, CLIENT = (check.TOP / "examples/c/out" / name for name in ("udp_server", "udp_client"))
+REALM, NAME, PASSWORD = harness.USER
+SERVER, CLIENT = (harness.TOP / "examples/c/out" / name for name in ("udp_server", "udp_client"))
 PYTHON = "/usr/bin/python3"  # Debian's, for which Debian packages aioice
 PACKAGES = ("coturn", "libnice-dev", "pkg-config", "python3-aioice", "golang-github-pion-stun-dev", "golang-go", "stun-client")
 ROWS = []
@@ -80,7 +81,7 @@ class Peer:
     def is_up(self, port):
         if port is None:
             return "\n" in self.told()
-        with check.Peer(port) as peer:
+        with harness.Peer(port) as peer:
             peer.socket.settimeout(0.2)
             try:
                 return bool(peer.ask(stun.message(stun.REQUEST)))
@@ -107,39 +108,106 @@ def turnserver(*words):
 # ---- Their clients against udp_server
 
 
+def until(condition):
+    """Whether it holds, now or within ten seconds: what a server prints comes when it comes."""
+    end = time.monotonic() + 10
+    while not condition() and time.monotonic() < end:
+        time.sleep(0.02)
+    return condition()
+
+
+def ended(server, *ends):
+    """The lines that a server printed which end so."""
+    return [line for line in server.lines[1:] if line.endswith(ends)]
+
+
 def stunclient(host, *words):
-    with check.Server(SERVER, "-v") as server:
+    with harness.Server(SERVER, "-v") as server:
         out, _ = run("turnutils_stunclient", "-p", server.port, *words, host, timeout=6)
-        time.sleep(0.2)
-        address = next(line for line in server.lines if line.endswith(" 200")).split()[0]
+        wants(until(lambda: ended(server, " 200")), (out, server.lines))
+        address = ended(server, " 200")[0].split()[0]
         wants(address.replace("[", "").replace("]", "") in out, (out, server.lines))
         if words:
-            wants(any(line.endswith(" 420") for line in server.lines), server.lines)
+            wants(until(lambda: ended(server, " 420")), server.lines)
             return "prints the address; its CHANGE-REQUEST draws 420"
         return "prints the address that the server saw"
 
 
 def old_stun():
-    with check.Server(SERVER, "-v") as server:
+    with harness.Server(SERVER, "-v") as server:
         run("stun", f"127.0.0.1:{server.port}", timeout=60)
+        until(lambda: server.lines[1:])
         wants(all("dropped: the bytes are not a STUN message" in line for line in server.lines[1:]) and len(server.lines) > 1, server.lines)
         return "not answered: RFC 3489 has no magic cookie"
 
 
 def asks(words, wanted, line, *offered):
     """Their client prints what it should, and the server's last line says that it validated the request."""
-    with check.Server(SERVER, *check.USER, "--any-method", "-v", *offered) as server:
+    with harness.Server(SERVER, *harness.USER, "--any-method", "-v", *offered) as server:
         out, _ = run(*(str(server.port) if word == "PORT" else word for word in words))
-        time.sleep(0.1)
-        wants(wanted in out and server.lines[-1].endswith(line), (out, server.lines))
+        wants(wanted in out and until(lambda: server.lines[-1].endswith(f"{line} {NAME}")), (out, server.lines))
         return f"prints `{wanted}`; the server's log has `{line.strip()}`"
 
 
 def refused(words):
-    with check.Server(SERVER, *check.USER, "--any-method", "-v") as server:
+    with harness.Server(SERVER, *harness.USER, "--any-method", "-v") as server:
         out, _ = run(*(str(server.port) if word == "PORT" else word for word in words))
-        wants(all(line.endswith(" 401") for line in server.lines[1:]), (out, server.lines))
+        wants(until(lambda: server.lines[1:]) and ended(server, " 401") == server.lines[1:], (out, server.lines))
         return "401 each time"
+
+
+def natdiscovery():
+    with harness.Server(SERVER, "-v") as server:
+        out, _ = run("turnutils_natdiscovery", "-m", "-p", server.port, "127.0.0.1", timeout=20)
+        wants(until(lambda: ended(server, " 200")), (out, server.lines))
+        wants(ended(server, " 200")[0].split()[0] in out, (out, server.lines))
+        return "prints the address that the server saw, and no more: OTHER-ADDRESS is not there"
+
+
+def starts_anew(relay, first, second):
+    first.process.terminate()
+    relay.target = ("127.0.0.1", second.port)
+
+
+def forgets(relay, first, second):
+    """The nonce expired for so long that its record goes."""
+    first.process.send_signal(signal.SIGUSR1)
+    time.sleep(0.1)
+
+
+def goes_on(words, way, codes, *offered):
+    """The server starts anew, or forgets the client's address, when the answer to its challenge is on the way. The client then draws
+    these codes first; the last tells whether it went on."""
+    settings = (*harness.USER, "--any-method", "--expiry", "30", "--ahead", "300", "-v", *offered)
+    with harness.Server(SERVER, *settings) as first, harness.Server(SERVER, *settings) as second:
+        moved = []
+
+        def rule(relay, is_request, number, data):
+            if is_request and harness.is_signed(data) and not moved:
+                moved.append(number)
+                way(relay, first, second)
+            return [data]
+
+        with harness.Relay(first, rule) as relay:
+            out, _ = run(*(str(relay.port) if word == "PORT" else word for word in words))
+            drawn = harness.codes(relay)
+            if codes[-1] == 438:
+                wants(drawn == codes and out.startswith("438"), (drawn, out))
+                return f"codes {codes}: it gives up"
+            wants(drawn[:len(codes)] == codes, (drawn, out))
+            wants(until(lambda: any(line.endswith(f" {codes[-1]} SHA1 {NAME}") for line in first.lines + second.lines)), out)
+            return f"codes {codes}: it goes on"
+
+
+WAYS = ((starts_anew, "that starts anew"), (forgets, "that forgets its address"))
+
+
+def going_on(peer, what, words, codes):
+    """Rows of a client in mid-session."""
+    for way, told in WAYS:
+        for offered in ((), ("--sha256",)):
+            judge = "nobody" if codes[-1] == 438 else f"udp_server validated {peer.split()[0]}"
+            row(peer, " ".join((what, "→ udp_server", *offered, told)), judge, "HMAC-SHA1", lambda: goes_on(words, way, codes, *offered))
 
 
 # ---- udp_client against their servers
@@ -147,9 +215,9 @@ def refused(words):
 
 def client_prints(peer, host, *words):
     """It prints its own address, which a relay knows."""
-    with check.Relay(peer, host=host) as relay:
-        check.succeeds(check.ask(CLIENT, host, relay.port, *words), relay.address())
-        codes = check.codes(relay)
+    with harness.Relay(peer, host=host) as relay:
+        harness.succeeds(harness.ask(CLIENT, host, relay.port, *words), relay.address())
+        codes = harness.codes(relay)
         if not words:
             return f"prints its address; codes {codes}"
         key = stun.key_of(stun.SHA1, NAME, REALM, PASSWORD)
@@ -158,7 +226,7 @@ def client_prints(peer, host, *words):
 
 
 def client_is_refused(peer, *words):
-    asked = check.ask(CLIENT, "127.0.0.1", peer.port, *words, within="5")
+    asked = harness.ask(CLIENT, "127.0.0.1", peer.port, *words, within="5")
     wants(asked.status == 1 and not asked.out, asked)
     return f"`{asked.err}`"
 
@@ -167,13 +235,13 @@ def stale(peer):
     """The signed request is held back until coturn's nonce expires."""
 
     def rule(relay, is_request, number, data):
-        if is_request and check.is_signed(data) and number == 2:
+        if is_request and harness.is_signed(data) and number == 2:
             time.sleep(3.5)
         return [data]
 
-    with check.Relay(peer, rule) as relay:
-        check.succeeds(check.ask(CLIENT, "127.0.0.1", relay.port, NAME, PASSWORD), relay.address())
-        codes = check.codes(relay)
+    with harness.Relay(peer, rule) as relay:
+        harness.succeeds(harness.ask(CLIENT, "127.0.0.1", relay.port, NAME, PASSWORD), relay.address())
+        codes = harness.codes(relay)
         wants(438 in codes and 200 in codes, codes)
         return f"prints its address; codes {codes}"
 
@@ -191,6 +259,8 @@ def with_coturn(number):
         words = ("turnutils_uclient", "-p", "PORT", "-u", NAME, "-w", PASSWORD, "-n", "1", "-m", "1", "-y", "127.0.0.1")
         row(peer, " ".join(("`turnutils_uclient` (Allocate) → udp_server --any-method", *offered)), "udp_server validated coturn",
             "HMAC-SHA1", lambda: asks(words, "error 420", " 420 SHA1", *offered))
+    row(peer, "`turnutils_natdiscovery -m` → udp_server", "nobody", "none", natdiscovery)
+    going_on(peer, "`turnutils_uclient` (Allocate)", words, [401, 438, 420])
     wrong = ("turnutils_uclient", "-p", "PORT", "-u", NAME, "-w", "wrong", "-n", "1", "-m", "1", "-y", "127.0.0.1")
     row(peer, "the same, wrong password", "udp_server refused coturn", "HMAC-SHA1", lambda: refused(wrong))
     with turnserver("--stun-only") as server:
@@ -212,14 +282,19 @@ def with_coturn(number):
 def with_libnice(number, folder):
     peer, program = f"libnice {number}", folder / "libnice_peer"
     flags = run("pkg-config", "--cflags", "--libs", "nice")
-    built = run("cc", "-O1", check.HERE / "libnice_peer.c", "-o", program, *(flags[0].split() if flags[1] == 0 else ["-lnice"]))
+    built = run("cc", "-O1", harness.HERE / "libnice_peer.c", "-o", program, *flags[0].split())
     assert built[1] == 0, built
     for offered in ((), ("--sha256",)):
         row(peer, " ".join(("StunAgent → udp_server", *offered)), "each validated the other", "HMAC-SHA1",
             lambda: asks((program, "client", "127.0.0.1", "PORT", NAME, PASSWORD), "signed", " 200 SHA1", *offered))
-    row(peer, "the same, wrong password", "udp_server refused libnice", "HMAC-SHA1",
+    for offered in ((), ("--sha256",)):
+        row(peer, " ".join(("its ICE agent (Allocate) → udp_server --any-method", *offered)), "udp_server validated libnice", "HMAC-SHA1",
+            lambda: asks((program, "gather", "127.0.0.1", "PORT", NAME, PASSWORD), "gathered", " 420 SHA1", *offered))
+    going_on(peer, "StunAgent", (program, "client", "127.0.0.1", "PORT", NAME, PASSWORD), [401, 438, 200])
+    going_on(peer, "its ICE agent (Allocate)", (program, "gather", "127.0.0.1", "PORT", NAME, PASSWORD), [401, 438, 420])
+    row(peer, "StunAgent → udp_server, wrong password", "udp_server refused libnice", "HMAC-SHA1",
         lambda: refused((program, "client", "127.0.0.1", "PORT", NAME, "wrong")))
-    with Peer(program, "server", *check.USER) as server:
+    with Peer(program, "server", *harness.USER) as server:
         for words in ((), ("--sha256",)):
             row(peer, " ".join(("udp_client", *words, "→ StunAgent")), "each validated the other", "HMAC-SHA1",
                 lambda: client_prints(server, "127.0.0.1", NAME, PASSWORD, *words))
@@ -227,16 +302,17 @@ def with_libnice(number, folder):
 
 
 def with_aioice(number):
-    peer, program = f"aioice {number}", (PYTHON, check.HERE / "aioice_peer.py")
+    peer, program = f"aioice {number}", (PYTHON, harness.HERE / "aioice_peer.py")
     for host in ("127.0.0.1", "::1"):
         kind = "IPv6" if ":" in host else "IPv4"
         row(peer, f"stun.Message → udp_server, {kind}", "each validated the other", "HMAC-SHA1",
             lambda: asks((*program, "client", host, "PORT", NAME, PASSWORD), "signed", " 200 SHA1"))
     row(peer, "its TURN client (Allocate) → udp_server --any-method", "udp_server validated aioice", "HMAC-SHA1",
         lambda: asks((*program, "turn", "127.0.0.1", "PORT", NAME, PASSWORD), "420 signed", " 420 SHA1"))
+    going_on(peer, "its TURN client (Allocate)", (*program, "turn", "127.0.0.1", "PORT", NAME, PASSWORD), [401, 438])
     row(peer, "stun.Message → udp_server, wrong password", "udp_server refused aioice", "HMAC-SHA1",
         lambda: refused((*program, "client", "127.0.0.1", "PORT", NAME, "wrong")))
-    with Peer(*program, "server", *check.USER) as server:
+    with Peer(*program, "server", *harness.USER) as server:
         for words in ((), ("--sha256",)):
             row(peer, " ".join(("udp_client", *words, "→ stun.parse_message")), "each validated the other", "HMAC-SHA1",
                 lambda: client_prints(server, "127.0.0.1", NAME, PASSWORD, *words))
@@ -246,14 +322,14 @@ def with_aioice(number):
 def with_pion(number, folder):
     peer, program = f"pion {number}", folder / "pion_peer"
     go = {**os.environ, "GO111MODULE": "off", "GOPATH": "/usr/share/gocode", "GOCACHE": str(folder / "cache"), "GOFLAGS": ""}
-    subprocess.run(["go", "build", "-o", program, check.HERE / "pion_peer.go"], env=go, check=True)
+    subprocess.run(["go", "build", "-o", program, harness.HERE / "pion_peer.go"], env=go, check=True)
     for host in ("127.0.0.1", "::1"):
         kind = "IPv6" if ":" in host else "IPv4"
         row(peer, f"stun.Message → udp_server --sha256, {kind}", "each validated the other", "HMAC-SHA1",
             lambda: asks((program, "client", host, "PORT", NAME, PASSWORD), "signed", " 200 SHA1", "--sha256"))
     row(peer, "the same, wrong password", "udp_server refused pion", "HMAC-SHA1",
         lambda: refused((program, "client", "127.0.0.1", "PORT", NAME, "wrong")))
-    with Peer(program, "server", *check.USER) as server:
+    with Peer(program, "server", *harness.USER) as server:
         for words in ((), ("--sha256",)):
             row(peer, " ".join(("udp_client", *words, "→ stun.Message")), "each validated the other", "HMAC-SHA1",
                 lambda: client_prints(server, "127.0.0.1", NAME, PASSWORD, *words))
@@ -271,11 +347,11 @@ def install():
 def main():
     if "--install" in sys.argv:
         install()
-    subprocess.run(["make", "-s", "-C", check.TOP / "examples/c", "udp", f"STATE={check.STATE}"], check=True)
+    subprocess.run(["make", "-s", "-C", harness.TOP / "examples/c", "udp", f"STATE={harness.STATE}", f"LIBRARY={harness.STATELESS}"], check=True)
     versions = {package: version(package) for package in PACKAGES}
     if versions["coturn"]:
         with_coturn(versions["coturn"])
-    if versions["libnice-dev"]:
+    if versions["libnice-dev"] and versions["pkg-config"]:
         with tempfile.TemporaryDirectory() as folder:
             with_libnice(versions["libnice-dev"], pathlib.Path(folder))
     if versions["python3-aioice"]:

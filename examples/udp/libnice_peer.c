@@ -1,6 +1,7 @@
 /* libnice's STUN agent as a peer of the programs in ../c, with long-term credentials:
  *
  *     libnice_peer client HOST PORT NAME PASSWORD     asks, answers the challenge, and judges the answer
+ *     libnice_peer gather HOST PORT NAME PASSWORD     its ICE agent, which asks for an allocation of TURN, until it has gathered
  *     libnice_peer server REALM NAME PASSWORD         prints `port N`, challenges, judges and answers until it is ended
  *
  * The client prints the address and has status 0 where libnice validated the signed answer. The server prints `validated` for
@@ -8,6 +9,7 @@
 #define _GNU_SOURCE
 #include <arpa/inet.h>
 #include <netinet/in.h>
+#include <nice/agent.h>
 #include <stdio.h>
 #include <stdlib.h>
 #include <string.h>
@@ -69,6 +71,40 @@ static int client(int fd, const struct sockaddr_in *server) {
     return 1;
 }
 
+static void is_gathered(NiceAgent *agent, guint stream, gpointer loop) {
+    (void)agent, (void)stream;
+    puts("gathered");
+    g_main_loop_quit(loop);
+}
+
+static void ignore(NiceAgent *agent, guint stream, guint component, guint length, gchar *bytes, gpointer data) {
+    (void)agent, (void)stream, (void)component, (void)length, (void)bytes, (void)data;
+}
+
+static gboolean is_too_late(gpointer loop) {
+    g_main_loop_quit(loop);
+    return FALSE;
+}
+
+/* The agent answers challenges by itself. What a server without allocations says at last ends its gathering. */
+static void gather(const char *host, const char *port) {
+    GMainLoop *loop = g_main_loop_new(NULL, FALSE);
+    GMainContext *context = g_main_loop_get_context(loop);
+    NiceAgent *agent = nice_agent_new(context, NICE_COMPATIBILITY_RFC5245);
+    NiceAddress own;
+    nice_address_init(&own);
+    nice_address_set_from_string(&own, "127.0.0.1");
+    nice_agent_add_local_address(agent, &own);
+    g_object_set(agent, "upnp", FALSE, "ice-tcp", FALSE, NULL);
+    guint stream = nice_agent_add_stream(agent, 1);
+    nice_agent_set_relay_info(agent, stream, 1, host, (guint)atoi(port), name, password, NICE_RELAY_TYPE_TURN_UDP);
+    nice_agent_attach_recv(agent, stream, 1, context, ignore, NULL);
+    g_signal_connect(agent, "candidate-gathering-done", G_CALLBACK(is_gathered), loop);
+    nice_agent_gather_candidates(agent, stream);
+    g_timeout_add_seconds(10, is_too_late, loop);
+    g_main_loop_run(loop);
+}
+
 static void serve(int fd) {
     StunAgent agent;
     StunMessage request, response;
@@ -108,6 +144,11 @@ int main(int count, char **words) {
         address.sin_port = htons((uint16_t)atoi(words[3]));
         setsockopt(fd, SOL_SOCKET, SO_RCVTIMEO, &wait, sizeof wait);
         return client(fd, &address);
+    }
+    if (count == 6 && strcmp(words[1], "gather") == 0) {
+        name = words[4], password = words[5];
+        gather(words[2], words[3]);
+        return 0;
     }
     if (count != 5 || strcmp(words[1], "server") != 0) return 2;
     realm = words[2], name = words[3], password = words[4];

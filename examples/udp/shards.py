@@ -11,73 +11,38 @@ goes with the process. The last line says what was tried, or what was left out a
 """
 import collections
 import contextlib
-import os
 import pathlib
-import shutil
 import signal
 import socket
 import subprocess
 import sys
 import time
 
-import check
+import harness
 import stun
+from namespaces import CLIENT, SERVER, Refused, add_hosts, ip, main, put, run, within
 
-SERVER, CLIENT = (check.TOP / "examples/c/out" / name for name in ("udp_server", "udp_client"))
 SERVICES = ["10.9.9.9", "fd09::9"]
 SERVERS, ROUTERS = (1, 2, 3), {"a": 1, "b": 2}
 OPEN, USERS, BOTH = 3478, 3479, 3480  # without users, with users, and with users and both algorithms
-WORDS = {OPEN: (), USERS: check.USER, BOTH: (*check.USER, "--sha256")}
+WORDS = {OPEN: (), USERS: harness.USER, BOTH: (*harness.USER, "--sha256")}
 ALGORITHMS = {USERS: stun.SHA1, BOTH: stun.SHA256}
 FIRST = [f"10.1.{number % 7}.{number + 1}" for number in range(30)] + [f"fd01::1:{number:x}" for number in range(30)]
 LATER = [f"10.1.{number % 5 + 100}.{number + 1}" for number in range(30)] + [f"fd01::2:{number:x}" for number in range(30)]
-check.SECONDS = 60  # the whole run has an end
-
-
-class Refused(Exception):
-    """The machine does not do this, and why."""
-
-
-def run(*words, text=""):
-    done = subprocess.run(words, input=text, capture_output=True, text=True)
-    if done.returncode != 0:
-        raise Refused(f"{' '.join(words)}: {done.stderr.strip()}")
 
 
 # ---- The network
 
 
-def within(name):
-    """The words before a command that runs in a namespace, or in that of the clients."""
-    return ("nsenter", f"--net=/run/netns/{name}") if name else ()
-
-
-def ip(name, *lines, family=()):
-    """Commands of ip in a namespace. Without a family it is that of their addresses."""
-    run("ip", *family, *(("-n", name) if name else ()), "-batch", "-", text="\n".join(lines))
-
-
-def put(name, **settings):
-    """Settings of both families, where they have them."""
-    for setting, value in settings.items():
-        files = (f"/proc/sys/net/{family}/{setting.replace('__', '/')}" for family in ("ipv4", "ipv6"))
-        for file in filter(os.path.exists, files):
-            run(*within(name), "sh", "-c", f"echo {value} >{file}")
-
-
 def lay_out():
     """Makes all namespaces and their links; the servers, the routers and the clients then reach each other."""
-    run("mount", "-t", "tmpfs", "none", "/run")
     hosts = {**{f"s{one}": one for one in SERVERS}, **{router: 100 + number for router, number in ROUTERS.items()}}
-    ip(None, *(f"netns add {name}" for name in ("lan", *hosts)), "link set lo up",
-       *(f"address add {source} dev lo" for source in FIRST + LATER))
-    put(None, conf__all__rp_filter=0, conf__default__rp_filter=0, conf__default__accept_dad=0)
+    add_hosts("lan", *hosts)
+    ip(None, *(f"address add {source} dev lo" for source in FIRST + LATER))
     ip("lan", "link add lan type bridge", "link set lan up")
     for name, host in hosts.items():
-        put(name, conf__all__rp_filter=0, conf__default__rp_filter=0, conf__default__accept_dad=0)
         ip("lan", f"link add to-{name} type veth peer name lan netns {name}", f"link set to-{name} master lan up")
-        ip(name, "link set lo up", f"address add 10.2.0.{host}/24 dev lan", f"address add fd02::{host}/64 dev lan",
-           "link set lan up")
+        ip(name, f"address add 10.2.0.{host}/24 dev lan", f"address add fd02::{host}/64 dev lan", "link set lan up")
     for one in SERVERS:
         ip(f"s{one}", *(f"address add {service} dev lo" for service in SERVICES), "route add default via 10.2.0.101",
            "route add default via fd02::101")
@@ -139,7 +104,7 @@ def to_one(router, servers):
 # ---- What clients meet
 
 
-class Client(check.Peer):
+class Client(harness.Peer):
     """A socket at an address of its own."""
 
     def __init__(self, source, port):
@@ -164,16 +129,13 @@ class Client(check.Peer):
         """Answers a challenge, and each that follows, up to a success: the codes on the way."""
         codes = []
         while len(codes) < 4:
-            answer = self.ask(stun.answered(stun.REQUEST, challenge, check.NAME, check.REALM, check.PASSWORD, self.algorithm))
+            answer = self.ask(stun.answered(stun.REQUEST, challenge, harness.NAME, harness.REALM, harness.PASSWORD, self.algorithm))
             codes.append(stun.code_of(answer))
             self.is_told(answer, codes[-1])
             if codes[-1] == 200:
-                key = stun.key_of(self.algorithm, check.NAME, check.REALM, check.PASSWORD)
+                key = stun.key_of(self.algorithm, harness.NAME, harness.REALM, harness.PASSWORD)
                 assert stun.verifies(answer, self.algorithm, key), "a success that nobody signed"
                 return codes
-            if codes[-1] == 400:
-                codes.append(self.begins())
-                answer = self.challenge
             fresh = stun.value_of(answer, stun.NONCE)
             assert fresh is not None and fresh != stun.value_of(challenge, stun.NONCE), f"{codes} without a fresh nonce"
             challenge = answer
@@ -194,7 +156,7 @@ def meetings():
     return known, told
 
 
-EXPECTED = {(OPEN, 200), (USERS, 401), (BOTH, 401), (USERS, 200), (BOTH, 200), (USERS, 438, 200), (BOTH, 400, 401, 200)}
+EXPECTED = {(OPEN, 200), (USERS, 401), (BOTH, 401), (USERS, 200), (BOTH, 200), (USERS, 438, 200), (BOTH, 438, 200)}
 
 
 def homes(servers):
@@ -233,7 +195,7 @@ def moves_in_mid_meeting(servers, old):
     seen = len(second.lines)
     through("a", old)
     first.process.send_signal(signal.SIGSTOP)
-    client = subprocess.Popen([CLIENT, service_for(old), str(USERS), check.NAME, check.PASSWORD, "--within", "20"],
+    client = subprocess.Popen([CLIENT, service_for(old), str(USERS), harness.NAME, harness.PASSWORD, "--within", "20"],
                               stdout=subprocess.PIPE, stderr=subprocess.PIPE, text=True)
     try:
         until(lambda: waits_at(first), "the first request did not come")
@@ -243,7 +205,7 @@ def moves_in_mid_meeting(servers, old):
     out, err = client.communicate(timeout=30)
     assert client.returncode == 0 and is_at(out, new), (out, err)
     lines = lambda: [line for line in second.lines[seen:] if is_at(line, new)]
-    until(lambda: any(line.endswith(" 200 SHA1") for line in lines()), "no success was printed")
+    until(lambda: any(line.endswith(f" 200 SHA1 {harness.NAME}") for line in lines()), "no success was printed")
     codes = [line.split()[1] for line in lines()]
     assert codes[0] in ("401", "438") and codes[-1] == "200", codes
 
@@ -252,11 +214,11 @@ def programs_ask():
     """udp_client from several addresses, with credentials and without."""
     for source in FIRST[::10]:
         through("b", source)
-        user = (check.NAME, check.PASSWORD)
+        user = (harness.NAME, harness.PASSWORD)
         for port, words in ((OPEN, ()), (USERS, user), (BOTH, (*user, "--sha256"))):
-            asked = check.ask(CLIENT, service_for(source), port, *words)
+            asked = harness.ask(CLIENT, service_for(source), port, *words)
             assert asked.status == 0 and is_at(asked.out, source), asked
-        check.fails(check.ask(CLIENT, service_for(source), USERS), "refused 401")
+        harness.fails(harness.ask(CLIENT, service_for(source), USERS), "refused 401")
 
 
 def each_has_one(servers):
@@ -279,7 +241,7 @@ def one_goes(deal, known):
 def tried(deal):
     """What each address was answered, where the routers deal in this way."""
     with contextlib.ExitStack() as running:
-        start = lambda one, port: check.Server(SERVER, *WORDS[port], "-v", port=port, within=within(f"s{one}"))
+        start = lambda one, port: harness.Server(SERVER, *WORDS[port], "-v", port=port, within=within(f"s{one}"))
         servers = {(one, port): running.enter_context(start(one, port)) for one in SERVERS for port in WORDS}
         known, told = meetings()
         if deal is not to_one:
@@ -291,15 +253,8 @@ def tried(deal):
         return told
 
 
-def inside():
-    """All of it, in namespaces of its own."""
-    signal.signal(signal.SIGALRM, check.give_up)
-    signal.alarm(check.SECONDS)
-    try:
-        lay_out()
-    except Refused as why:
-        print(f"shards: left out: {why}")
-        return 0
+def all_deals():
+    """What was tried of each deal, or why not."""
     told, left_out = {}, []
     for name, deal in (("one server alone", to_one), ("equal routes", by_routes), ("nftables", by_nftables)):
         try:
@@ -314,31 +269,8 @@ def inside():
     for name, codes in told.items():
         assert codes == alone, f"{name}: not the codes of one server alone"
     ways = " and by ".join(told) or "nothing"
-    print(f"shards: {len(SERVERS)} servers behind one address, dealt to by {ways}" + "".join(left_out))
-    return 0
-
-
-def main():
-    if sys.argv[1:] == ["--inside"]:
-        return inside()
-    os.environ["PATH"] += ":/usr/sbin:/sbin"
-    for tool in ("unshare", "nsenter", "ip"):
-        if shutil.which(tool) is None:
-            print(f"shards: left out: no {tool}")
-            return 0
-    if not SERVER.exists() or not CLIENT.exists():
-        print("shards: left out: no programs; run make -C examples/c udp")
-        return 0
-    if not check.has_ipv6():
-        print("shards: left out: no IPv6")
-        return 0
-    own = ("unshare", "--user", "--map-root-user", "--net", "--mount")
-    may = subprocess.run([*own, "true"], capture_output=True, text=True)
-    if may.returncode != 0:
-        print(f"shards: left out: {may.stderr.strip()}")
-        return 0
-    return subprocess.run([*own, sys.executable, __file__, "--inside"]).returncode
+    return f"{len(SERVERS)} servers behind one address, dealt to by {ways}" + "".join(left_out)
 
 
 if __name__ == "__main__":
-    sys.exit(main())
+    sys.exit(main("shards", 60, lay_out, all_deals))

@@ -102,6 +102,12 @@ def mapped_address(message):
     return bytes(a ^ b for a, b in zip(value[4:], mask)), port
 
 
+def hidden_address(request, host, port):
+    """The value of XOR-MAPPED-ADDRESS, of an IPv4 address, in an answer to a request."""
+    octets = bytes(a ^ b for a, b in zip(map(int, host.split(".")), request[4:8]))
+    return struct.pack(">BBH", 0, 1, port ^ COOKIE >> 16) + octets
+
+
 def asks_for_a_choice(challenge):
     """Whether the nonce of a challenge has the security bit of password algorithms (section 9.2)."""
     nonce = value_of(challenge, NONCE)

@@ -1,4 +1,5 @@
-//! An allocator for tests, which refuses one allocation of the test's choice, and counts what is allocated and given back.
+//! An allocator for tests, which refuses one allocation of the test's choice, and counts what is
+//! allocated and given back.
 #![tactic(auto)]
 
 use std::alloc::{AllocError, Allocator};
@@ -8,9 +9,11 @@ use std::test::Fail;
 /// Below this many allocations each run of a test has met its last one.
 const MOST_ALLOCATIONS: u64 = 400;
 
-/// Passes each call on to the allocator inside it, but for the one allocation that it was told to refuse.
+/// Passes each call on to the allocator inside it, but for the one allocation that it was told to
+/// refuse.
 ///
-/// A collection takes it as `&heap`, which is copied, so every collection of a test shares the one count.
+/// A collection takes it as `&heap`, which is copied, so every collection of a test shares the one
+/// count.
 pub struct RefusingAllocator<B: Allocator> {
     inner: B,
     counts: Cell<Counts>,
@@ -65,7 +68,8 @@ impl<B: Allocator> RefusingAllocator<B> {
         self.counts.get().allocations
     }
 
-    /// Makes a run for each number from 1 on, until one answers that it met no refusal. The first is to meet one.
+    /// Makes a run for each number from 1 on, until one answers that it met no refusal. The first
+    /// is to meet one.
     ///
     /// A run refuses the allocation of its number, and gives back what it allocates.
     pub fn each_refusal<F: FnMut(u64) -> Result<bool, Fail>>(&self, mut run: F) -> Result<(), Fail>

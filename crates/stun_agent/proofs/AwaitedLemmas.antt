@@ -1,8 +1,6 @@
 -- The least moment that is awaited is that of the first deadline of the index that is no cancellation.
-use Rattle.std.proofs.Common.{ℕ, ◌≡◌, ◌≤◌, ◌⊎◌, inl, inr, arith, Bool, true, false, not, cond, List, [], ◌∷◌, map, suc, subst, ap, sym, refl, ◌∙◌}
-use Rattle.std.specs.Prelude.{Option, Some, None, find, filter, fold}
-use Rattle.std.specs.Option.{option_map}
-use Rattle.std.specs.List.Sorted.{IsNonDecreasingBy}
+use Rattle.std.proofs.Common.{ℕ, ◌≡◌, ◌≤◌, ◌⊎◌, inl, inr, arith, Bool, true, false, not, cond, List, [], ◌∷◌, map, subst, ap, sym, refl, ◌∙◌}
+use Rattle.std.specs.Prelude.{Option, Some, None, filter, fold}
 use Rattle.std.specs.Map.{keys_of}
 use Rattle.std.specs.Ordering.{nat_cmp}
 use Rattle.std.specs.BTreeMap.{is_at}
@@ -12,8 +10,9 @@ use Rattle.stun_agent.specs.declared.deadlines.Deadline.{Deadline}
 use Rattle.stun_agent.specs.declared.deadlines.DeadlineKind.TheVariants.{Cancelled, End, Slot}
 use Rattle.stun_agent.specs.Transactions.{Transaction, Transactions, IsAscending, at, awaited, awaited_moments, has_slots, is_cancelled, next_awaited, sooner}
 use Rattle.stun_agent.specs.code.Deadlines.{deadline_of, is_cancellation, first_awaited, IsIndexOf}
-use Rattle.stun_agent.proofs.DeadlineLemmas.{IsIn, entry_of, entry_at}
-use Rattle.stun_agent.proofs.SlotLemmas.{first_least, head_at, tail_at}
+use Rattle.stun_agent.proofs.DeadlineLemmas.{entry_of, entry_at, least-le, least-some, least-one}
+use Rattle.stun_agent.proofs.PermutedLemmas.{IsIn}
+use Rattle.stun_agent.proofs.SlotLemmas.{head_at, tail_at}
 use Rattle.stun_agent.proofs.SoonerLemmas.{first_le, sooner_stays, one_of}
 
 -- ---- one deadline
@@ -86,62 +85,43 @@ module _ (transport : TransportType) where
 abbrev waits : Deadline → Bool
 waits d = not (is_cancellation d.kind)
 
-found_in : (ds : List Deadline) (d : Deadline) → find waits ds ≡ Some d → IsIn d ds × (waits d ≡ true)
-found_in [] d h = cc
-found_in (y ∷ ys) d h = by (waits y) refl h (found_in ys d)
-  where
-    by : (b : Bool) → waits y ≡ b → cond b (Some y) (find waits ys) ≡ Some d → (find waits ys ≡ Some d → IsIn d ys × (waits d ≡ true)) → IsIn d (y ∷ ys) × (waits d ≡ true)
-    by true is h rest = let same : y ≡ d = cc in (inl same, ap waits (sym same) ∙ is)
-    by false is h rest = let more = rest h in (inr more.0, more.1)
-
-first_found : (ds : List Deadline) (d : Deadline) → IsNonDecreasingBy (λ d. d.moment) ds → IsIn d ds → waits d ≡ true → (o : Option Deadline) → find waits ds ≡ o
-    → (first : Deadline) × (o ≡ Some first) × (first.moment ≤ d.moment)
-first_found [] d up h w o is = absurd h
-first_found (y ∷ ys) d up h w o is = by (waits y) refl h is (λ later is. first_found ys d (λ i j x le less. up (suc i) (suc j) x (omega (arith, le)) (omega (arith, less))) later w o is)
-  where
-    by : (b : Bool) → waits y ≡ b → (y ≡ d) ⊎ IsIn d ys → cond b (Some y) (find waits ys) ≡ o
-        → (IsIn d ys → find waits ys ≡ o → (first : Deadline) × (o ≡ Some first) × (first.moment ≤ d.moment)) → (first : Deadline) × (o ≡ Some first) × (first.moment ≤ d.moment)
-    by true mine h is rest = (y, sym is, first_least d y ys up h)
-    by false mine (inl same) is rest = absurd (let clash : true ≡ false = sym w ∙ ap waits (sym same) ∙ mine in cc)
-    by false mine (inr later) is rest = rest later is
-
 waits_alike : (b : Bool) → not b ≡ true → b ≡ false
 waits_alike true h = cc
 waits_alike false h = refl
 
 pub awaited_first : (transport : TransportType) (all : Transactions) (ds : List Deadline) → IsAscending all → IsIndexOf transport all ds → next_awaited transport all ≡ first_awaited ds
-awaited_first transport all ds ascends index = by (next_awaited transport all) refl (find waits ds) refl
+awaited_first transport all ds ascends index = by (next_awaited transport all) refl (first_awaited ds) refl
   where
-    entry : (n k : ℕ) (t : Transaction) → at k all ≡ Some t → is_cancelled t.sending ≡ false → awaited transport t ≡ n → (o : Option Deadline) → find waits ds ≡ o
-        → (first : Deadline) × (o ≡ Some first) × (first.moment ≤ n)
-    entry n k t here live is o found =
+    -- the entry of a request that awaits a moment
+    waiting : (n k : ℕ) (t : Transaction) → at k all ≡ Some t → is_cancelled t.sending ≡ false → awaited transport t ≡ n
+        → (d : Deadline) × IsIn d ds × (waits d ≡ true) × (d.moment ≡ n)
+    waiting n k t here live is =
         let d = deadline_of transport (k, t) in
-        let w : waits d ≡ true = ap not (cancelled_alike transport (k, t) ∙ live) in
-        let first = first_found ds d index.rises (entry_at transport 0 all ds index k t here) w o found in
-        let moment = moment_awaited transport (k, t) live in
-        (first.0, first.1, omega (arith, first.2, moment, is))
+        (d, entry_at transport 0 all ds index k t here, ap not (cancelled_alike transport (k, t) ∙ live), moment_awaited transport (k, t) live ∙ is)
 
-    own : (d : Deadline) → find waits ds ≡ Some d → (t : Transaction) × (at d.id all ≡ Some t) × (is_cancelled t.sending ≡ false) × (awaited transport t ≡ d.moment)
-    own d found =
-        let there = found_in ds d found in
-        let e = entry_of transport 0 all ds index d d.id there.0 refl in
-        let live : is_cancelled e.0.sending ≡ false = sym (cancelled_alike transport (d.id, e.0)) ∙ ap (λ (x : Deadline). is_cancellation x.kind) e.2 ∙ waits_alike (is_cancellation d.kind) there.1 in
-        (e.0, e.1, live, sym (moment_awaited transport (d.id, e.0) live) ∙ ap (λ (x : Deadline). x.moment) e.2)
+    some : (n : ℕ) → (None ≡ Some n) ⊎ Awaits transport all n → (d : Deadline) × IsIn d ds × (waits d ≡ true) × (d.moment ≡ n)
+    some n (inl absent) = cc
+    some n (inr (k, t, here, live, moment)) = waiting n k t here live moment
 
-    some : (n : ℕ) → next_awaited transport all ≡ Some n → (o : Option Deadline) → find waits ds ≡ o → (None ≡ Some n) ⊎ Awaits transport all n → (first : Deadline) × (o ≡ Some first) × (first.moment ≤ n)
-    some n is o found (inl absent) = cc
-    some n is o found (inr (k, t, here, live, moment)) = entry n k t here live moment o found
+    own : (m : ℕ) → first_awaited ds ≡ Some m → (k : ℕ) × (t : Transaction) × (at k all ≡ Some t) × (is_cancelled t.sending ≡ false) × (awaited transport t ≡ m)
+    own m is =
+        let found = least-one (λ d. d.moment) waits ds m is in
+        let d = found.0 in
+        let e = entry_of transport 0 all ds index d d.id found.1 refl in
+        let live : is_cancelled e.0.sending ≡ false = sym (cancelled_alike transport (d.id, e.0)) ∙ ap (λ (x : Deadline). is_cancellation x.kind) e.2 ∙ waits_alike (is_cancellation d.kind) found.2 in
+        (d.id, e.0, e.1, live, sym (moment_awaited transport (d.id, e.0) live) ∙ ap (λ (x : Deadline). x.moment) e.2 ∙ found.3)
 
-    by : (a : Option ℕ) → next_awaited transport all ≡ a → (o : Option Deadline) → find waits ds ≡ o → a ≡ option_map (λ d. d.moment) o
+    by : (a : Option ℕ) → next_awaited transport all ≡ a → (o : Option ℕ) → first_awaited ds ≡ o → a ≡ o
     by None is None found = refl
-    by None is (Some d) found = let mine = own d found in absurd (least_some transport all None d.id mine.0 mine.1 mine.2 is)
-    by (Some n) is None found = let first = some n is None found (least_in transport all None n ascends is) in cc
-    by (Some n) is (Some d) found =
-        let first = some n is (Some d) found (least_in transport all None n ascends is) in
-        let same : d ≡ first.0 = cc in
-        let down : first.0.moment ≤ n = first.2 in
-        let mine = own d found in
-        let up : n ≤ awaited transport mine.0 = least_le transport all None n d.id mine.0 mine.1 mine.2 is in
-        let equal = ap (λ (x : Deadline). x.moment) same in
-        let moment = mine.3 in
-        ap Some (omega (arith, up, down, equal, moment))
+    by None is (Some m) found = let mine = own m found in absurd (least_some transport all None mine.0 mine.1 mine.2 mine.3 is)
+    by (Some n) is None found =
+        let there = some n (least_in transport all None n ascends is) in
+        absurd (least-some (λ d. d.moment) waits ds None there.0 there.1 there.2 found)
+    by (Some n) is (Some m) found =
+        let there = some n (least_in transport all None n ascends is) in
+        let down : m ≤ there.0.moment = least-le (λ d. d.moment) waits ds None there.0 m there.1 there.2 found in
+        let moment = there.3 in
+        let mine = own m found in
+        let up : n ≤ awaited transport mine.1 = least_le transport all None n mine.0 mine.1 mine.2 mine.3 is in
+        let own_moment = mine.4 in
+        ap Some (omega (arith, up, down, moment, own_moment))

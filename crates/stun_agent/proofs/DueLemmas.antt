@@ -14,10 +14,9 @@ use Rattle.stun_agent.specs.Transactions.{Transaction, Transactions, IsAscending
 use Rattle.stun_agent.specs.code.Deadlines.{deadline_of, is_slot, is_passed, is_slot_after, least_due, IsIndexOf}
 use Rattle.stun_agent.specs.code.Transactions.{length_sent}
 use Rattle.stun_agent.proofs.Ascending.{find-none, find-least, IsAscending-map}
-use Rattle.stun_agent.proofs.DeadlineLemmas.{entry_of, entry_at, least-le, least-some, least-in, Passes}
+use Rattle.stun_agent.proofs.DeadlineLemmas.{entry_of, entry_at, other_key, least-le, least-some, least-in, Passes}
 use Rattle.stun_agent.proofs.EntryLemmas.{same_key, lookup_found}
 use Rattle.stun_agent.proofs.LookupLemmas.{lookup-map, found_passes}
-use Rattle.stun_agent.proofs.RenewLemmas.{other_key}
 use Rattle.stun_agent.proofs.SlotLemmas.{tail_key, tail_at, head_at}
 
 pub clash : {b : Bool} → b ≡ true → b ≡ false → ⊥
@@ -100,23 +99,23 @@ test_due transport now last e = by (not (is_passed last e.0)) (is_cancelled e.1.
 
 module _ (transport : TransportType) (now : ℕ) (last : Option ℕ) (all : Transactions) (ds : List Deadline) (index : IsIndexOf transport all ds) where
   pub due_there : (n : ℕ) → least_due now last ds ≡ Some n → (t : Transaction) × (at n all ≡ Some t) × (is_next transport now last (n, t) ≡ true)
-  due_there n f = by (least-in (test now last) ds None n f)
+  due_there n f = by (least-in (λ d. d.id) (test now last) ds None n f)
     where
-      by : (None ≡ Some n) ⊎ Passes (test now last) ds n → (t : Transaction) × (at n all ≡ Some t) × (is_next transport now last (n, t) ≡ true)
+      by : (None ≡ Some n) ⊎ Passes (λ d. d.id) (test now last) ds n → (t : Transaction) × (at n all ≡ Some t) × (is_next transport now last (n, t) ≡ true)
       by (inl absent) = cc
       by (inr (d, h, passes, key)) =
           let e = entry_of transport now all ds index d n h key in (e.0, e.1, sym (test_due transport now last (n, e.0)) ∙ ap (test now last) e.2 ∙ passes)
 
   pub due_least : (n k : ℕ) (t : Transaction) → least_due now last ds ≡ Some n → at k all ≡ Some t → is_next transport now last (k, t) ≡ true → n ≤ k
   due_least n k t f there passes =
-      least-le (test now last) ds None (deadline_of transport (k, t)) n (entry_at transport now all ds index k t there) (test_due transport now last (k, t) ∙ passes) f
+      least-le (λ d. d.id) (test now last) ds None (deadline_of transport (k, t)) n (entry_at transport now all ds index k t there) (test_due transport now last (k, t) ∙ passes) f
 
   pub due_none : (k : ℕ) (t : Transaction) → least_due now last ds ≡ None → at k all ≡ Some t → is_next transport now last (k, t) ≡ false
   due_none k t f there = by (is_next transport now last (k, t)) refl
     where
       by : (b : Bool) → is_next transport now last (k, t) ≡ b → b ≡ false
       by false is = refl
-      by true is = absurd (least-some (test now last) ds None (deadline_of transport (k, t)) (entry_at transport now all ds index k t there) (test_due transport now last (k, t) ∙ is) f)
+      by true is = absurd (least-some (λ d. d.id) (test now last) ds None (deadline_of transport (k, t)) (entry_at transport now all ds index k t there) (test_due transport now last (k, t) ∙ is) f)
 
 -- ---- the slots up to an id have passed
 abbrev passed_at : TransportType → ℕ → Option ℕ → ℕ × Transaction → Transaction

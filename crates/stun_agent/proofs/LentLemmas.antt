@@ -1,13 +1,14 @@
 -- The request that is sent again is found where nothing passes.
-use Rattle.std.proofs.Common.{ℕ, ◌≡◌, ◌<◌, ◌≤◌, inl, inr, arith, Bool, true, false, not, ◌&&◌, List, [], ◌∷◌, ap, subst, sym, refl, ◌∙◌}
-use Rattle.std.specs.Prelude.{Option, Some, None}
-use Rattle.std.specs.List.Sorted.{IsNonDecreasingBy}
-use Rattle.std.proofs.lemmas.Bool.{cases_lt, leb-true, leb-false}
+use Rattle.std.proofs.Common.{ℕ, ◌≡◌, ◌<◌, ◌≤◌, inl, inr, arith, Bool, true, false, not, ◌&&◌, List, ap, subst, sym, refl, ◌∙◌}
+use Rattle.std.specs.Prelude.{Option, Some, None, nat_le}
+use Rattle.std.specs.Option.{option_map_or}
+use Rattle.std.proofs.lemmas.Bool.{cases_lt, le-leb, leb-true}
 use Rattle.stun_base.specs.declared.transport.TransportType.{TransportType}
 use Rattle.stun_agent.specs.declared.deadlines.Deadline.{Deadline}
 use Rattle.stun_agent.specs.Transactions.{Transaction, Transactions, IsAscending, at, is_due, repeats, next_sent, after_slots}
-use Rattle.stun_agent.specs.code.Deadlines.{is_passed, is_slot_after, least_due, has_come, IsIndexOf}
-use Rattle.stun_agent.proofs.DeadlineLemmas.{least-stops}
+use Rattle.stun_agent.specs.code.Deadlines.{is_passed, is_slot_after, least_due, has_come, earliest, IsIndexOf}
+use Rattle.stun_agent.proofs.DeadlineLemmas.{least-one, earliest-none, earliest-le}
+use Rattle.stun_agent.proofs.PermutedLemmas.{IsIn}
 use Rattle.stun_agent.proofs.DueLemmas.{clash, find-is, find-not, is_next, due_there, due_least, due_none, passed_start, sends_none, none_after}
 
 -- of the due ones up to `last` none is sent
@@ -81,13 +82,29 @@ module _ (transport : TransportType) (now : ℕ) (last : Option ℕ) (all : Tran
           absurd (clash due (ap (λ b. not b && is_due transport now t) (sym is) ∙ due_none transport now last all ds index k t none there))
 
 -- ---- the first moment has not come
-none_come : (now : ℕ) (ds : List Deadline) → IsNonDecreasingBy (λ d. d.moment) ds → has_come now ds ≡ false → least_due now None ds ≡ None
-none_come now [] rises h = refl
-none_come now (d ∷ ds) rises h = least-stops (is_slot_after None) now (d ∷ ds) 0 d None rises refl (leb-false d.moment now h)
+none_come : (now : ℕ) (ds : List Deadline) → has_come now ds ≡ false → least_due now None ds ≡ None
+none_come now ds late = by (least_due now None ds) refl
+  where
+    second : (a b : Bool) → (a && b) ≡ true → b ≡ true
+    second true b h = h
+    second false b h = cc
+
+    later : (d : Deadline) → IsIn d ds → nat_le d.moment now ≡ true → (o : Option ℕ) → earliest ds ≡ o → option_map_or (λ m. nat_le m now) o false ≡ false → ⊥
+    later d there early None is late = earliest-none ds d is there
+    later d there early (Some m) is late =
+        let low = earliest-le ds d m is there in
+        let up = leb-true d.moment now early in
+        clash (le-leb m now (omega (arith, low, up))) late
+
+    by : (o : Option ℕ) → least_due now None ds ≡ o → o ≡ None
+    by None is = refl
+    by (Some n) is =
+        let found = least-one (λ d. d.id) (λ d. is_slot_after None d && nat_le d.moment now) ds n is in
+        absurd (later found.0 found.1 (second (is_slot_after None found.0) (nat_le found.0.moment now) found.2) (earliest ds) refl late)
 
 module _ (transport : TransportType) (now : ℕ) (all : Transactions) (ds : List Deadline) (ascends : IsAscending all) (index : IsIndexOf transport all ds) (late : has_come now ds ≡ false) where
   pub none_next : next_sent transport now all ≡ None
-  none_next = sends_none transport now None all all ds ascends index (passed_start transport now all) (none_come now ds index.rises late)
+  none_next = sends_none transport now None all all ds ascends index (passed_start transport now all) (none_come now ds late)
 
   pub none_passes : all ≡ after_slots transport now None all
-  none_passes = none_after transport now None all all ds ascends index (passed_start transport now all) (none_come now ds index.rises late)
+  none_passes = none_after transport now None all all ds ascends index (passed_start transport now all) (none_come now ds late)

@@ -1,72 +1,72 @@
 -- What an index becomes as one deadline is replaced.
-use Rattle.std.proofs.Common.{ℕ, ◌≡◌, Bool, true, false, not, List, [], ◌∷◌, subst, ap, sym, refl, ◌∙◌}
-use Rattle.std.specs.Prelude.{Option, Some, None, MatchOption, ◌==◌}
-use Rattle.std.specs.Option.{option_map, option_map_or}
-use Rattle.std.specs.Map.{set_value}
+use Rattle.std.proofs.Common.{ℕ, ◌≡◌, Bool, true, false, cond, List, [], ◌∷◌, subst, ap, sym, refl, ◌∙◌}
+use Rattle.std.specs.Prelude.{Option, Some, None}
+use Rattle.std.specs.Option.{option_map}
 use Rattle.std.specs.Ordering.{nat_cmp}
 use Rattle.std.specs.BTreeMap.{is_at}
-use Rattle.std.proofs.lemmas.Bool.{eq-eqb, eqb-true, eqb-false, ne_eqb}
+use Rattle.std.proofs.lemmas.Bool.{ne_eqb}
+use Rattle.std.proofs.lemmas.Option.{same_Some}
 use Rattle.stun_base.specs.declared.transport.TransportType.{TransportType}
 use Rattle.stun_agent.specs.declared.deadlines.Deadline.{Deadline}
 use Rattle.stun_agent.specs.Transactions.{Transaction, Transactions, at, changed}
-use Rattle.stun_agent.specs.code.Deadlines.{deadline_of, entries_at, without_entry, IsInOrder, IsIndexOf, IsPlaced, IsReplaced, IsRenewed}
-use Rattle.stun_agent.proofs.DeadlineLemmas.{without-own, without-other, insert-own, insert-other}
-use Rattle.stun_agent.proofs.EntryLemmas.{own_key, same_key}
+use Rattle.stun_agent.specs.code.Deadlines.{deadline_of, entries_at, IsIndexOf, IsReplaced}
+use Rattle.stun_agent.specs.code.Transactions.{awaited_around}
+use Rattle.stun_agent.proofs.DeadlineLemmas.{entry, other_key, index_permuted, rest_entries}
+use Rattle.stun_agent.proofs.EntryLemmas.{same_key}
 use Rattle.stun_agent.proofs.LookupLemmas.{at-changed, at-changed_other}
-use Rattle.stun_agent.proofs.OrderLemmas.{ordered-filter, ordered-insert, ordered_rises}
+use Rattle.stun_agent.proofs.PermutedLemmas.{own_head, other_head}
 
-pub other_key : (n k : ℕ) → is_at (nat_cmp n) k ≡ false → n ≡ k → ⊥
-other_key n k off same = let own : is_at (nat_cmp n) n ≡ true = own_key n in let here : is_at (nat_cmp n) n ≡ false = subst (λ x. is_at (nat_cmp n) x ≡ false) (sym same) off in cc
+-- the transaction of an id, and what it awaits before a change and after it
+pub record IsTold (transport : TransportType) (f : Transaction → Transaction) (id : ℕ) (all : Transactions) (before after : Deadline) : Type 0 where
+  pub transaction : Transaction
+  pub there : at id all ≡ Some transaction
+  pub before_is : before ≡ deadline_of transport (id, transaction)
+  pub after_is : after ≡ deadline_of transport (id, f transaction)
 
-pub placed_own : (d : Deadline) (ds new : List Deadline) → IsPlaced d (without_entry d.id ds) new → entries_at d.id new ≡ d ∷ []
-placed_own d ds new (i, place, is) = ap (entries_at d.id) is ∙ insert-own d.id i (without_entry d.id ds) d (eq-eqb d.id d.id refl) (without-own d.id ds)
-
-pub placed_other : (d : Deadline) (ds new : List Deadline) (n : ℕ) → (n ≡ d.id → ⊥) → IsPlaced d (without_entry d.id ds) new → entries_at n new ≡ entries_at n ds
-placed_other d ds new n apart (i, place, is) = ap (entries_at n) is ∙ insert-other n i (without_entry d.id ds) d (ne_eqb n d.id apart) ∙ without-other d.id n ds apart
-
-pub placed_ordered : (d : Deadline) (ds new : List Deadline) → IsInOrder ds → IsPlaced d (without_entry d.id ds) new → IsInOrder new
-placed_ordered d ds new up (i, place, is) = subst IsInOrder (sym is) (ordered-insert d (without_entry d.id ds) i (ordered-filter (λ x. not (x.id == d.id)) ds up) place)
-
-pub same_test : (a b : ℕ) → (a == b) ≡ (b == a)
-same_test a b = by (a == b) refl
+pub told_there : (transport : TransportType) (f : Transaction → Transaction) (id : ℕ) (all : Transactions) (before after : Deadline)
+    → ◌≡◌ {A = Option (Deadline × Deadline)} (Some (before, after)) (option_map (awaited_around transport f id) (at id all)) → IsTold transport f id all before after
+told_there transport f id all before after h = by (at id all) refl h
   where
-    by : (c : Bool) → (a == b) ≡ c → c ≡ (b == a)
-    by true is = sym (eq-eqb b a (sym (eqb-true a b is)))
-    by false is = sym (ne_eqb b a (λ same. eqb-false a b is (sym same)))
+    by : (o : Option Transaction) → at id all ≡ o → ◌≡◌ {A = Option (Deadline × Deadline)} (Some (before, after)) (option_map (awaited_around transport f id) o) → IsTold transport f id all before after
+    by None is h = cc
+    by (Some t) is h =
+        let same = same_Some (before, after) (awaited_around transport f id t) h in
+        record { transaction = t; there = is; before_is = ap (λ (x : Deadline × Deadline). x.0) same; after_is = ap (λ (x : Deadline × Deadline). x.1) same }
 
--- the map is changed at one id, and its entry is replaced
-pub index_changed : (transport : TransportType) (f : Transaction → Transaction) (id : ℕ) (all : Transactions) (ds new : List Deadline) → IsIndexOf transport all ds
-    → IsRenewed transport id (changed f id all) ds new → IsIndexOf transport (changed f id all) new
-index_changed transport f id all ds new index renewed = by (at id all) refl
-  where
-    entry : ℕ → Option Transaction → List Deadline
-    entry n o = option_map_or (λ t. deadline_of transport (n, t) ∷ []) o []
+module _ (transport : TransportType) (f : Transaction → Transaction) (id : ℕ) (all : Transactions) (ds : List Deadline) (before after : Deadline) (index : IsIndexOf transport all ds)
+    (told : IsTold transport f id all before after) where
+  -- it has the deadline that is told, alone
+  pub told_alone : entries_at before.id ds ≡ before ∷ []
+  told_alone =
+      subst (λ (d : Deadline). entries_at d.id ds ≡ d ∷ []) (sym told.before_is) (index.entries id ∙ ap (entry transport id) told.there)
 
-    absent : at id all ≡ None → IsIndexOf transport (changed f id all) new
-    absent is =
-        let stays : new ≡ ds = subst (λ o. MatchOption o (new ≡ ds) (λ t. IsReplaced (deadline_of transport (id, t)) ds new)) (at-changed f id all ∙ ap (option_map f) is) renewed in
-        let map_stays : changed f id all ≡ all = ap (λ o. option_map_or (λ t. set_value (is_at (nat_cmp id)) all (f t)) o all) is in
-        subst (λ m. IsIndexOf transport m new) (sym map_stays) (subst (IsIndexOf transport all) (sym stays) index)
+  pub told_same : after.id ≡ before.id
+  told_same = ap (λ (d : Deadline). d.id) told.after_is ∙ sym (ap (λ (d : Deadline). d.id) told.before_is)
 
-    there : (t : Transaction) → at id all ≡ Some t → IsIndexOf transport (changed f id all) new
-    there t is =
-        let here : at id (changed f id all) ≡ Some (f t) = at-changed f id all ∙ ap (option_map f) is in
-        let placed : IsReplaced (deadline_of transport (id, f t)) ds new = subst (λ o. MatchOption o (new ≡ ds) (λ t. IsReplaced (deadline_of transport (id, t)) ds new)) here renewed in
-        let up = placed_ordered (deadline_of transport (id, f t)) ds new index.ordered placed in
-        record {
-          ordered = up;
-          rises = ordered_rises new up;
-          entries = λ n. at_each t is here placed n (is_at (nat_cmp n) id) refl;
-        }
-      where
-        at_each : (t : Transaction) → at id all ≡ Some t → at id (changed f id all) ≡ Some (f t) → IsPlaced (deadline_of transport (id, f t)) (without_entry id ds) new
-            → (n : ℕ) (b : Bool) → is_at (nat_cmp n) id ≡ b → entries_at n new ≡ entry n (at n (changed f id all))
-        at_each t is here placed n true same =
-            let key : id ≡ n = same_key n id same in
-            subst (λ m. entries_at m new ≡ entry m (at m (changed f id all))) key (placed_own (deadline_of transport (id, f t)) ds new placed ∙ sym (ap (entry id) here))
-        at_each t is here placed n false off =
-            placed_other (deadline_of transport (id, f t)) ds new n (other_key n id off) placed ∙ index.entries n ∙ sym (ap (entry n) (at-changed_other f n id all off))
+  -- the map is changed at this id, and the deadline is replaced
+  pub index_changed : (new : List Deadline) → IsReplaced before after ds new → IsIndexOf transport (changed f id all) new
+  index_changed new replaced =
+      index_permuted transport (changed f id all) (after ∷ replaced.rest) new (record { entries = λ n. by n (is_at (nat_cmp n) id) refl }) replaced.put
+    where
+      left : IsIndexOf transport all (before ∷ replaced.rest)
+      left = index_permuted transport all ds (before ∷ replaced.rest) index replaced.taken
 
-    by : (o : Option Transaction) → at id all ≡ o → IsIndexOf transport (changed f id all) new
-    by None is = absent is
-    by (Some t) is = there t is
+      before_key : before.id ≡ id
+      before_key = ap (λ (d : Deadline). d.id) told.before_is
+
+      after_key : after.id ≡ id
+      after_key = ap (λ (d : Deadline). d.id) told.after_is
+
+      rest : (n : ℕ) (b : Bool) → is_at (nat_cmp n) id ≡ b → entries_at n replaced.rest ≡ cond b [] (entry transport n (at n all))
+      rest n b h = rest_entries transport all before replaced.rest left n b (ap (is_at (nat_cmp n)) before_key ∙ h)
+
+      by : (n : ℕ) (b : Bool) → is_at (nat_cmp n) id ≡ b → entries_at n (after ∷ replaced.rest) ≡ entry transport n (at n (changed f id all))
+      by n true h =
+          let key : id ≡ n = same_key n id h in
+          own_head after replaced.rest n (sym key ∙ sym after_key) ∙ ap (λ xs. after ∷ xs) (rest n true h)
+          ∙ ap (λ (d : Deadline). d ∷ []) told.after_is
+          ∙ subst (λ m. deadline_of transport (id, f told.transaction) ∷ [] ≡ entry transport m (at m (changed f id all))) key
+          (sym (ap (entry transport id) (at-changed f id all ∙ ap (option_map f) told.there)))
+      by n false h =
+          other_head after replaced.rest n (ne_eqb n after.id (λ same. other_key n id h (same ∙ after_key))) ∙ rest n false h
+          ∙ sym (ap (entry transport n) (at-changed_other f n id all h))

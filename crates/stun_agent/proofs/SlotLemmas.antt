@@ -1,8 +1,7 @@
 -- The rest of a map, the first moment of an index, and the request that is over.
-use Rattle.std.proofs.Common.{ℕ, ◌≡◌, ◌<◌, ◌≤◌, inl, inr, arith, Bool, true, false, not, ◌&&◌, ◌||◌, cond, List, [], ◌∷◌, length, map, min, get_or, suc, subst, ap, sym, refl, ◌∙◌}
+use Rattle.std.proofs.Common.{ℕ, ◌≡◌, ◌≤◌, arith, Bool, true, false, not, ◌&&◌, ◌||◌, cond, List, [], ◌∷◌, map, min, subst, ap, sym, refl, ◌∙◌}
 use Rattle.std.specs.Prelude.{Option, Some, None, MatchOption, fold, nat_le}
 use Rattle.std.specs.Option.{option_map, option_map_or}
-use Rattle.std.specs.List.Sorted.{IsNonDecreasingBy}
 use Rattle.std.specs.Map.{keys_of}
 use Rattle.std.specs.Ordering.{nat_cmp}
 use Rattle.std.specs.BTreeMap.{is_at}
@@ -12,7 +11,7 @@ use Rattle.stun_agent.specs.declared.deadlines.Deadline.{Deadline}
 use Rattle.stun_agent.specs.Transactions.{Transaction, Transactions, IsAscending, at, awaited, is_cancelled, has_slots, is_over, repeats, first_over}
 use Rattle.stun_agent.specs.code.Deadlines.{deadline_of, earliest, IsIndexOf}
 use Rattle.stun_agent.proofs.Ascending.{find-none, fold-min-le, fold-min-le_first}
-use Rattle.stun_agent.proofs.DeadlineLemmas.{IsIn, entry_of, entry_at}
+use Rattle.stun_agent.proofs.DeadlineLemmas.{entry_of, entry_at, earliest-none, earliest-le, earliest-in}
 use Rattle.stun_agent.proofs.EntryLemmas.{own_key, same_key, lookup_found}
 use Rattle.stun_agent.proofs.LookupLemmas.{none_above}
 
@@ -34,21 +33,6 @@ pub head_at : (e : ℕ × Transaction) (es : Transactions) → at e.0 (e ∷ es)
 head_at e es = ap (λ b. cond b (Some e.1) (at e.0 es)) (own_key e.0)
 
 -- ---- the first moment
-in_at : (d : Deadline) (ds : List Deadline) → IsIn d ds → (j : ℕ) × (j < length ds) × ((x : Deadline) → get_or ds j x ≡ d)
-in_at d [] h = absurd h
-in_at d (y ∷ ys) (inl same) = (0, omega arith, λ x. same)
-in_at d (y ∷ ys) (inr later) = let rest = in_at d ys later in (suc rest.0, further rest.0 (length ys) rest.1, rest.2)
-  where
-    further : (j n : ℕ) → j < n → suc j < suc n
-    further j n less = omega (arith, less)
-
-pub first_least : (d y : Deadline) (ys : List Deadline) → IsNonDecreasingBy (λ d. d.moment) (y ∷ ys) → IsIn d (y ∷ ys) → y.moment ≤ d.moment
-first_least d y ys rises h =
-    let place = in_at d (y ∷ ys) h in
-    let up = rises 0 place.0 y (omega arith) place.1 in
-    let same = ap (λ (x : Deadline). x.moment) (place.2 y) in
-    omega (arith, up, same)
-
 module _ (transport : TransportType) (all : Transactions) (ds : List Deadline) (index : IsIndexOf transport all ds) where
   not_over : (now : ℕ) → first_over transport now all ≡ None → (n : ℕ) (t : Transaction) → at n all ≡ Some t → (deadline_of transport (n, t)).moment ≡ awaited transport t
   not_over now none n t here = by (is_cancelled t.sending) (not (has_slots transport t) && nat_le (awaited transport t) now) (find-none (λ e. is_over transport now e.1) all n t here none)
@@ -67,25 +51,24 @@ module _ (transport : TransportType) (all : Transactions) (ds : List Deadline) (
   -- the least awaited moment is the first one
   pub wake_up_first : (now c : ℕ) → IsAscending all → first_over transport now all ≡ None
       → fold min c (map (λ e. awaited transport e.1) all) ≡ option_map_or (λ m. min m c) (earliest ds) c
-  wake_up_first now c ascends none = by ds index.rises (λ n t h. entry_at transport now all ds index n t h) (λ d h. entry_of transport now all ds index d d.id h refl)
+  wake_up_first now c ascends none = by (earliest ds) refl
     where
       empty : (es : Transactions) → ((n : ℕ) (t : Transaction) → at n es ≡ Some t → ⊥) → fold min c (map (λ e. awaited transport e.1) es) ≡ c
       empty [] none_there = refl
       empty (e ∷ es) none_there = absurd (none_there e.0 e.1 (head_at e es))
 
-      by : (xs : List Deadline) → IsNonDecreasingBy (λ d. d.moment) xs → ((n : ℕ) (t : Transaction) → at n all ≡ Some t → IsIn (deadline_of transport (n, t)) xs)
-          → ((d : Deadline) → IsIn d xs → (t : Transaction) × (at d.id all ≡ Some t) × (deadline_of transport (d.id, t) ≡ d))
-          → fold min c (map (λ e. awaited transport e.1) all) ≡ option_map_or (λ m. min m c) (earliest xs) c
-      by [] rises has of = empty all has
-      by (y ∷ ys) rises has of =
-          let own = of y (inl refl) in
-          let moment : awaited transport own.0 ≡ y.moment = sym (not_over now none y.id own.0 own.1) ∙ ap (λ (d : Deadline). d.moment) own.2 in
-          let most = fold-min-le (λ e. awaited transport e.1) all c y.id own.0 own.1 in
+      by : (o : Option ℕ) → earliest ds ≡ o → fold min c (map (λ e. awaited transport e.1) all) ≡ option_map_or (λ m. min m c) o c
+      by None is = empty all (λ n t h. earliest-none ds (deadline_of transport (n, t)) is (entry_at transport now all ds index n t h))
+      by (Some m) is =
+          let found = earliest-in ds m is in
+          let own = entry_of transport now all ds index found.0 found.0.id found.1 refl in
+          let moment : awaited transport own.0 ≡ m = sym (not_over now none found.0.id own.0 own.1) ∙ ap (λ (d : Deadline). d.moment) own.2 ∙ found.2 in
+          let most = fold-min-le (λ e. awaited transport e.1) all c found.0.id own.0 own.1 in
           let first = fold-min-le_first (map (λ e. awaited transport e.1) all) c in
-          let least = fold-least c (min y.moment c) (omega arith) all ascends (λ n t h.
-          let up = first_least (deadline_of transport (n, t)) y ys rises (has n t h) in
-          let is = not_over now none n t h in
-          omega (arith, up, is)) in
+          let least = fold-least c (min m c) (omega arith) all ascends (λ n t h.
+          let up = earliest-le ds (deadline_of transport (n, t)) m is (entry_at transport now all ds index n t h) in
+          let same = not_over now none n t h in
+          omega (arith, up, same)) in
           omega (arith, moment, most, first, least)
 
 -- ---- the request that is over

@@ -49,7 +49,7 @@
 //! ```
 //!
 //! Socket, clock and the source of random words are the caller's. After each call but the getters ask both polls again:
-//! `poll_transmit` until it answers `None`, then `poll`. The test `client_loop` of the crate `run_tests` runs this loop.
+//! `poll_transmit` until it answers `None`, then `poll`. The test `client_loop` of the crate `api_tests` runs this loop.
 ghost use Rattle.std.specs.Prelude.{◌≡◌};
 ghost use Rattle.std.specs.Borrow.{sem};
 ghost use Rattle.std.specs.Option.{option_copied, option_copied_mut};

@@ -1,13 +1,11 @@
-//! What outstanding requests await, in the order of the moments.
-ghost use Rattle.std.specs.Prelude.{◌≡◌, [], ◌+◌, ◌<◌, ◌≤◌, codes, length, slice_get, Some, OnOk, OnErr};
+//! What outstanding requests await, in a tree for each kind.
+ghost use Rattle.std.specs.Prelude.{◌≡◌, [], ◌∷◌, ◌+◌, ◌<◌, ◌≤◌, codes, Some, IsSomeAnd, IsPermutation};
 ghost use Rattle.std.specs.Fmt.{WritesOnOk};
-ghost use Rattle.std.specs.List.Sorted.{IsNonDecreasingBy};
 ghost use Rattle.stun_agent.specs.Deadlines.{IsUnused};
-ghost use Rattle.stun_agent.specs.code.Deadlines.{earliest, has_come, early, is_slot, least_due, least_ended, without_entry, is_before, is_cancellation, first_awaited, IsInOrder, HasEntry, IsPlace, IsPlaced, IsReplaced};
+ghost use Rattle.stun_agent.specs.code.Deadlines.{earliest, has_come, early, lesser, least_due, least_ended, first_awaited, entries_at, IsReplaced};
 
-use crate::{ending, retransmission};
-use std::alloc::{AllocError, Allocator, Global};
-use std::collections::VecDeque;
+use crate::deadline_tree::{DeadlineTree, Entry};
+use std::alloc::{Allocator, Global};
 use std::fmt;
 use std::marker::{Brand, Model};
 use std::sync::ledger::{Blank, Book, Ledger, Share};
@@ -25,20 +23,6 @@ pub(crate) enum DeadlineKind {
     Cancelled,
 }
 
-impl DeadlineKind {
-    pub(crate) fn is_slot(self) -> bool
-        ensures { result ≡ is_slot self }
-    {
-        matches!(self, DeadlineKind::Slot)
-    }
-
-    fn is_cancellation(self) -> bool
-        ensures { result ≡ is_cancellation self }
-    {
-        matches!(&self, DeadlineKind::Cancelled)
-    }
-}
-
 /// The moment that a request awaits. A cancelled one awaits moment zero.
 #[derive(Clone, Copy, Debug, PartialEq, Eq)]
 pub(crate) struct Deadline {
@@ -47,93 +31,83 @@ pub(crate) struct Deadline {
     pub(crate) kind: DeadlineKind,
 }
 
-impl Deadline {
-    fn is_before(self, moment: Instant, id: TransactionId) -> bool
-        ensures { result ≡ is_before moment id self }
-    {
-        self.moment < moment || self.moment == moment && self.id < id
-    }
-}
-
-/// Deadlines by ascending moments, and at one moment by ascending ids. It is a ring, so that the first entry leaves
-/// and the last one comes without a move of the others.
+/// Deadlines, in a tree for each kind, since each question is about one or two kinds. A contract sees them in one list,
+/// in no order.
 #[derive(Drop)]
 #[derive_where(Debug)]
 pub(crate) struct DeadlineIndex<A: Allocator = Global> {
-    entries: VecDeque<Deadline, A>,
+    slots: DeadlineTree<A>,
+    ends: DeadlineTree<A>,
+    cancelled: DeadlineTree<A>,
 }
 
 impl<A: Allocator> Model for DeadlineIndex<A> {
-    ghost use Rattle.std.specs.Prelude.{List};
+    ghost use Rattle.std.specs.Prelude.{List, ◌++◌};
     ghost use Rattle.stun_agent.specs.declared.deadlines.Deadline.{Deadline};
 
     ghost Value = { List Deadline };
 
-    ghost view = { λ index. index.entries.items };
+    ghost use Rattle.stun_agent.specs.code.Deadlines.{AreByKind};
+
+    ghost view = { λ index. index.slots ++ (index.ends ++ index.cancelled) };
+
+    ghost invariant = { λ index. AreByKind index.slots index.ends index.cancelled };
 }
 
 impl<A: Allocator> DeadlineIndex<A> {
-    pub(crate) fn new(alloc: A) -> Self
+    pub(crate) fn new() -> Self
         ensures { result ≡ [] }
     {
         DeadlineIndex {
-            entries: VecDeque::new(alloc),
+            slots: DeadlineTree::new(),
+            ends: DeadlineTree::new(),
+            cancelled: DeadlineTree::new(),
         }
     }
 
-    pub(crate) fn len(&self) -> usize
-        ensures { result ≡ length self.now }
+    /// Puts in the deadline of a request that has none here. Does not allocate.
+    pub(crate) fn put(&mut self, entry: Entry<A>)
+        requires { entries_at entry.id self.old ≡ [] }
+        ensures { IsPermutation (entry ∷ self.old) self.new }
     {
-        self.entries.len()
+        match entry.deadline().kind {
+            DeadlineKind::Slot => self.slots.put(entry),
+            DeadlineKind::End => self.ends.put(entry),
+            DeadlineKind::Cancelled => self.cancelled.put(entry),
+        }
     }
 
-    fn get(&self, i: usize) -> Deadline
-        requires { i < length self.now }
-        ensures { slice_get self.now i ≡ Some result }
+    /// Takes out the deadline that a request has.
+    pub(crate) fn take(&mut self, deadline: Deadline) -> Option<Entry<A>>
+        requires { entries_at deadline.id self.old ≡ deadline ∷ [] }
+        ensures { IsSomeAnd result
+            (λ e. (e ≡ deadline) × IsPermutation self.old (deadline ∷ self.new)) }
     {
-        self.entries[i]
+        match deadline.kind {
+            DeadlineKind::Slot => self.slots.take(deadline.id),
+            DeadlineKind::End => self.ends.take(deadline.id),
+            DeadlineKind::Cancelled => self.cancelled.take(deadline.id),
+        }
+    }
+
+    /// Puts another deadline of a request in place of the one that it has. Does not allocate.
+    pub(crate) fn replace(&mut self, before: Deadline, after: Deadline)
+        requires there { entries_at before.id self.old ≡ before ∷ [] }
+        requires same { after.id ≡ before.id }
+        ensures { IsReplaced before after self.old self.new }
+    {
+        if let Some(mut entry) = self.take(before) {
+            entry.set(after);
+            self.put(entry);
+        }
     }
 
     /// The first moment, and nothing of whose it is. It is not counted.
     pub(crate) fn earliest(&self) -> Option<Instant>
         ensures { result ≡ earliest self.now }
     {
-        if self.entries.is_empty() {
-            None
-        } else {
-            Some(self.entries[0].moment)
-        }
-    }
-
-    /// Puts a deadline at its place. Where an allocation fails, nothing changes.
-    pub(crate) fn insert(&mut self, deadline: Deadline) -> Result<(), AllocError>
-        requires { IsInOrder self.old }
-        ensures ok { OnOk result (IsPlaced deadline self.old self.new) }
-        ensures err { OnErr result (self.new ≡ self.old) }
-    {
-        let place = place(&self.entries, deadline.moment, deadline.id);
-        match self.entries.insert(place, deadline) {
-            Ok(()) => Ok(()),
-            Err(_refused) => Err(AllocError),
-        }
-    }
-
-    /// Takes out the deadline of a request, which is at this moment.
-    pub(crate) fn remove(&mut self, moment: Instant, id: TransactionId)
-        requires order { IsInOrder self.old }
-        requires entry { HasEntry moment id self.old }
-        ensures { self.new ≡ without_entry id self.old }
-    {
-        take_out(&mut self.entries, moment, id);
-    }
-
-    /// Puts another deadline of a request in place of the one that it has at this moment. Does not allocate.
-    pub(crate) fn replace(&mut self, moment: Instant, deadline: Deadline)
-        requires order { IsInOrder self.old }
-        requires entry { HasEntry moment deadline.id self.old }
-        ensures { IsReplaced deadline self.old self.new }
-    {
-        replace(&mut self.entries, moment, deadline);
+        let awaited = first(self.slots.earliest(), self.ends.earliest());
+        first(awaited, self.cancelled.earliest())
     }
 
     /// Whether the first moment has come. It is not counted.
@@ -146,20 +120,20 @@ impl<A: Allocator> DeadlineIndex<A> {
         }
     }
 
-    /// The least id among those whose end has come, and how many entries were read to tell.
+    /// The least id among those whose end has come, and how many nodes were read to tell.
     pub(crate) fn least_ended<L: Ledger>(
         &self,
         now: Instant,
         blank: Blank,
     ) -> (Option<TransactionId>, Reads<L>)
-        requires rises { IsNonDecreasingBy (λ d. d.moment) self.now }
-        requires unused { IsUnused blank.name blank.parts L.name L.parts }
+        requires { IsUnused blank.name blank.parts L.name L.parts }
         ensures answer { result.0 ≡ least_ended now self.now }
         ensures work { result.1 ≤ early now self.now + 1 }
     {
-        let mut reader = DeadlineReader::<A, L>::new(self, blank);
-        let ended = ending::least_ended(&mut reader, now);
-        (ended, reader.into_reads())
+        let mut reads = Reads::<L>::new(blank);
+        let ended = self.ends.least_come(now, &None, &mut reads);
+        let cancelled = self.cancelled.least_come(now, &None, &mut reads);
+        (least(ended, cancelled), reads)
     }
 
     /// The least id, after `last`, of a request whose slot is due.
@@ -168,7 +142,6 @@ impl<A: Allocator> DeadlineIndex<A> {
         now: Instant,
         last: &Option<TransactionId>,
     ) -> Option<TransactionId>
-        requires { IsNonDecreasingBy (λ d. d.moment) self.now }
         ensures { result ≡ least_due now last.now self.now }
     {
         self.least_due_from::<Brand>(now, last, Blank::new(1))
@@ -181,29 +154,44 @@ impl<A: Allocator> DeadlineIndex<A> {
         last: &Option<TransactionId>,
         blank: Blank,
     ) -> Option<TransactionId>
-        requires rises { IsNonDecreasingBy (λ d. d.moment) self.now }
-        requires unused { IsUnused blank.name blank.parts L.name L.parts }
+        requires { IsUnused blank.name blank.parts L.name L.parts }
         ensures { result ≡ least_due now last.now self.now }
     {
-        let mut reader = DeadlineReader::<A, L>::new(self, blank);
-        retransmission::least_due(&mut reader, now, last)
+        let mut reads = Reads::<L>::new(blank);
+        self.slots.least_come(now, last, &mut reads)
     }
 
     /// The first moment of a request that is not cancelled.
     pub(crate) fn first_awaited(&self) -> Option<Instant>
         ensures { result ≡ first_awaited self.now }
     {
-        for i in 0..self.entries.len() {
-            let deadline = self.entries[i];
-            if !deadline.kind.is_cancellation() {
-                return Some(deadline.moment);
-            }
-        }
-        None
+        first(self.slots.earliest(), self.ends.earliest())
     }
 }
 
-/// How many entries of an index were read. It takes no bytes, and only `DeadlineReader::entry` raises it.
+/// The sooner of two moments that may be there.
+fn first(one: Option<Instant>, other: Option<Instant>) -> Option<Instant>
+    ensures { result ≡ lesser one other }
+{
+    match (one, other) {
+        (Some(one), Some(other)) => Some(one.min(other)),
+        (Some(one), None) => Some(one),
+        (None, other) => other,
+    }
+}
+
+/// The lesser of two ids that may be there.
+fn least(one: Option<TransactionId>, other: Option<TransactionId>) -> Option<TransactionId>
+    ensures { result ≡ lesser one other }
+{
+    match (one, other) {
+        (Some(one), Some(other)) => Some(one.min(other)),
+        (Some(one), None) => Some(one),
+        (None, other) => other,
+    }
+}
+
+/// How many nodes of trees of deadlines were read. It takes no bytes, and only a tree that reads a node raises it.
 #[derive(Drop)]
 pub struct Reads<L: Ledger> {
     book: Book<L>,
@@ -240,92 +228,9 @@ impl<L: Ledger> Reads<L> {
         Reads { book, share }
     }
 
-    fn tick(&mut self)
+    pub(crate) fn tick(&mut self)
         ensures { self.new ≡ self.old + 1 }
     {
         self.book.add(&mut self.share, 1);
-    }
-}
-
-/// An index that is read, one entry at a time, and how many entries were read. What decides by deadlines is handed
-/// this alone, and makes none: it sees neither the index nor a way to count anew.
-#[derive(Drop)]
-pub(crate) struct DeadlineReader<'a, A: Allocator, L: Ledger> {
-    index: &'a DeadlineIndex<A>,
-    reads: Reads<L>,
-}
-
-impl<'a, A: Allocator, L: Ledger> Model for DeadlineReader<'a, A, L> {
-    ghost use Rattle.stun_agent.specs.code.Deadlines.{Reading};
-
-    ghost Value = { Reading };
-
-    ghost view = { λ reader. record { deadlines = reader.index.now; reads = reader.reads } };
-}
-
-impl<'a, A: Allocator, L: Ledger> DeadlineReader<'a, A, L> {
-    fn new(index: &'a DeadlineIndex<A>, blank: Blank) -> Self
-        requires { IsUnused blank.name blank.parts L.name L.parts }
-        ensures { result ≡ record { deadlines = index.now; reads = 0 } }
-    {
-        DeadlineReader {
-            index,
-            reads: Reads::new(blank),
-        }
-    }
-
-    pub(crate) fn len(&self) -> usize
-        ensures { result ≡ length self.now.deadlines }
-    {
-        self.index.len()
-    }
-
-    /// The only way to an entry, and it is counted.
-    pub(crate) fn entry(&mut self, i: usize) -> Deadline
-        requires { i < length self.old.deadlines }
-        ensures value { slice_get self.old.deadlines i ≡ Some result }
-        ensures count { self.new ≡ record self.old { reads = self.old.reads + 1 } }
-    {
-        self.reads.tick();
-        self.index.get(i)
-    }
-
-    fn into_reads(self) -> Reads<L>
-        ensures { result ≡ self.entry.reads }
-    {
-        let DeadlineReader { index: _, reads } = self;
-        reads
-    }
-}
-
-/// The place of a deadline: after all that are sooner.
-fn place<A: Allocator>(entries: &VecDeque<Deadline, A>, moment: Instant, id: TransactionId) -> usize
-    requires { IsInOrder entries.now.items }
-    ensures { IsPlace moment id entries.now.items result }
-{
-    entries.partition_point(|entry| entry.is_before(moment, id))
-}
-
-fn take_out<A: Allocator>(entries: &mut VecDeque<Deadline, A>, moment: Instant, id: TransactionId)
-    requires order { IsInOrder entries.old.items }
-    requires entry { HasEntry moment id entries.old.items }
-    ensures items { entries.new.items ≡ without_entry id entries.old.items }
-    ensures room { entries.new.len < entries.new.cap }
-{
-    let place = place(entries, moment, id);
-    let _taken = entries.remove(place);
-}
-
-/// What is taken out leaves the room for what is put in.
-fn replace<A: Allocator>(entries: &mut VecDeque<Deadline, A>, moment: Instant, deadline: Deadline)
-    requires order { IsInOrder entries.old.items }
-    requires entry { HasEntry moment deadline.id entries.old.items }
-    ensures { IsReplaced deadline entries.old.items entries.new.items }
-{
-    take_out(entries, moment, deadline.id);
-    let place = place(entries, deadline.moment, deadline.id);
-    match entries.insert(place, deadline) {
-        Ok(()) => {}
-        Err(_refused) => unreachable!(),
     }
 }

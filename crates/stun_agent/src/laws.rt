@@ -21,8 +21,10 @@ pub fn a_request_is_never_sent_early()
     ensures { IsNeverEarly }
 {}
 
-/// A request is transmitted at most so often as the greatest count of transmissions that its settings ever held,
-/// the first ones too, and at least once; over TCP it is transmitted once (RFC 8489, sections 6.2.1 and 6.2.2).
+/// Over any calls of an agent that began with no request outstanding, a request is transmitted at
+/// most so often as the greatest count of transmissions that its settings ever held, the first ones
+/// too, or once where that is 0; over TCP it is transmitted once (RFC 8489, sections 6.2.1 and
+/// 6.2.2).
 pub fn a_request_is_transmitted_at_most_as_often_as_set()
     ensures { IsTransmittedAtMost }
 {}
@@ -33,7 +35,8 @@ pub fn a_poll_tells_how_long_all_is_quiet()
     ensures { WaitsAsTold }
 {}
 
-/// Each request that `send_request` took is outstanding, or has ended once: by a response, by a time-out, or by a
+/// Over any calls of an agent that began with no request outstanding, each request that
+/// `send_request` took is outstanding, or has ended once: by a response, by a time-out, or by a
 /// cancellation.
 pub fn a_request_ends_once()
     ensures { EndsOnce }

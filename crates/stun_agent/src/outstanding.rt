@@ -2,14 +2,13 @@
 ghost use Rattle.std.specs.Prelude.{◌≡◌, ◌+◌, ◌≤◌, ◌<◌, [], length, Some, None, IfSome, IsSomeAnd, IfOk, OnOk, OnErr};
 ghost use Rattle.std.specs.Option.{option_map, option_copied};
 ghost use Rattle.stun_agent.specs.Deadlines.{early_requests, IsUnused};
-ghost use Rattle.stun_agent.specs.Timing.{settings_of};
-ghost use Rattle.stun_agent.specs.Transactions.{repeats, AreKept, at, with, without, changed, silenced, cancelled, configured, first_over, wake_up, next_awaited, next_sent, after_slots, IsNamed};
-ghost use Rattle.stun_agent.specs.code.Transactions.{contents, told_of_end};
+ghost use Rattle.stun_agent.specs.Transactions.{AreKept, at, with, without, changed, first_over, wake_up, next_awaited, next_sent, after_slots, IsNamed};
+ghost use Rattle.stun_agent.specs.code.Transactions.{contents, told_of_end, after_change};
 
+use crate::deadline_tree::Entry;
 use crate::deadlines::{DeadlineIndex, Reads};
 use crate::error::NoRoom;
-use crate::rto::RequestRto;
-use crate::transaction::Transaction;
+use crate::transaction::{Change, Transaction};
 use crate::transactions::{self, Transactions};
 use std::alloc::{AllocError, Allocator, Global};
 use std::collections::BTreeMap;
@@ -51,7 +50,7 @@ impl<A: Allocator + Copy> Outstanding<A> {
         Outstanding {
             transport,
             requests: BTreeMap::new(alloc),
-            deadlines: DeadlineIndex::new(alloc),
+            deadlines: DeadlineIndex::new(),
         }
     }
 
@@ -70,6 +69,7 @@ impl<A: Allocator + Copy> Outstanding<A> {
     /// Keeps a request at an id that has none. Where an allocation fails, nothing changes.
     pub(crate) fn insert(
         &mut self,
+        alloc: A,
         id: TransactionId,
         request: Transaction<A>,
     ) -> Result<(), AllocError>
@@ -79,15 +79,13 @@ impl<A: Allocator + Copy> Outstanding<A> {
         ensures there { OnOk result (at id self.new.requests ≡ Some request) }
         ensures err { OnErr result (self.new ≡ self.old) }
     {
-        let deadline = request.deadline(id, self.transport);
-        let moment = deadline.moment;
-        self.deadlines.insert(deadline)?;
+        let entry = Entry::new(alloc, request.deadline(id, self.transport))?;
         match self.requests.insert(id, request) {
-            Ok(_absent) => Ok(()),
-            Err(_refused) => {
-                self.deadlines.remove(moment, id);
-                Err(AllocError)
+            Ok(_absent) => {
+                self.deadlines.put(entry);
+                Ok(())
             }
+            Err(_refused) => Err(AllocError),
         }
     }
 
@@ -97,13 +95,12 @@ impl<A: Allocator + Copy> Outstanding<A> {
         ensures after { self.new ≡ record self.old { requests = without id self.old.requests } }
     {
         let request = self.requests.remove(&id)?;
-        self.deadlines
-            .remove(request.deadline(id, self.transport).moment, id);
+        let _deadline = self.deadlines.take(request.deadline(id, self.transport));
         Some(request)
     }
 
-    /// The id of the request that is to end, and whether it was still sent again; and how many deadlines were read to
-    /// tell, which alone decide.
+    /// The id of the request that is to end, and whether it was still sent again; and how many nodes of deadlines were
+    /// read to tell, which alone decide.
     pub(crate) fn first_over<L: Ledger>(
         &self,
         now: Instant,
@@ -135,34 +132,18 @@ impl<A: Allocator + Copy> Outstanding<A> {
         self.deadlines.first_awaited()
     }
 
-    /// Passes the slots that are due, and tells of the request that is to be sent again its id and how many bytes it has.
-    pub(crate) fn pass_due_slots(&mut self, now: Instant) -> Option<(TransactionId, usize)>
-        ensures sent { result ≡ option_map (λ e. (e.0, length e.1.bytes))
-            (next_sent self.old.transport now self.old.requests) }
-        ensures after { self.new ≡ record self.old {
-          requests = after_slots self.old.transport now
-              (option_map (λ s. s.0) result) self.old.requests;
-        } }
-        ensures request { IfSome (next_sent self.old.transport now self.old.requests) IsNamed }
-        ensures kept { IfSome result (λ s. option_map contents (at s.0 self.new.requests)
-            ≡ option_map (λ e. contents e.1) (next_sent self.old.transport now self.old.requests)) }
-    {
-        if !self.deadlines.has_come(now) {
-            return None;
-        }
-        transactions::pass_slots(&mut self.requests, &mut self.deadlines, self.transport, now)
-    }
-
-    /// As `pass_due_slots`, where what is sent again has at most `room` bytes, and else nothing changes.
-    pub(crate) fn pass_due_slots_within(
+    /// Passes the slots that are due, and tells of the request that is to be sent again its id and how many bytes it
+    /// has. Where that is more than there is room for, nothing changes.
+    pub(crate) fn pass_due_slots(
         &mut self,
         now: Instant,
-        room: usize,
+        room: Option<usize>,
     ) -> Result<Option<(TransactionId, usize)>, NoRoom>
         ensures sent { IfOk result (λ sent. sent ≡ option_map (λ e. (e.0, length e.1.bytes))
             (next_sent self.old.transport now self.old.requests)) }
-        ensures fits { OnOk result (IfSome (next_sent self.old.transport now self.old.requests)
-            (λ e. length e.1.bytes ≤ room)) }
+        ensures fits { OnOk result (IfSome room (λ r.
+            IfSome (next_sent self.old.transport now self.old.requests)
+            (λ e. length e.1.bytes ≤ r))) }
         ensures after { OnOk result (self.new ≡ record self.old {
           requests = after_slots self.old.transport now
               (option_map (λ e. e.0) (next_sent self.old.transport now self.old.requests))
@@ -174,46 +155,30 @@ impl<A: Allocator + Copy> Outstanding<A> {
             option_map contents (at s.0 self.new.requests)
             ≡ option_map (λ e. contents e.1)
             (next_sent self.old.transport now self.old.requests))) }
-        ensures refused { OnErr result (IsSomeAnd
+        ensures refused { OnErr result (IsSomeAnd room (λ r. IsSomeAnd
             (next_sent self.old.transport now self.old.requests)
-            (λ e. room < length e.1.bytes)) }
+            (λ e. r < length e.1.bytes))) }
         ensures same { OnErr result (self.new ≡ self.old) }
     {
         if !self.deadlines.has_come(now) {
             return Ok(None);
         }
-        // Mostly the first that is due is sent, and the search that finds it also measures it.
-        let Some((first, length)) = transactions::first_due(
-            &self.requests,
-            &self.deadlines,
-            self.transport,
-            now,
-        ) else {
-            self.check_room(now, room)?;
-            return Ok(self.pass_due_slots(now));
-        };
-        if room < length {
-            return Err(NoRoom);
-        }
-        let id = first.id;
-        transactions::pass_slot_of(
-            &mut self.requests,
-            &mut self.deadlines,
-            self.transport,
-            now,
-            first,
-        );
-        Ok(Some((id, length)))
+        self.check_room(now, room)?;
+        Ok(transactions::pass_slots(&mut self.requests, &mut self.deadlines, self.transport, now))
     }
 
     /// Refuses where `pass_due_slots` would send more bytes than there is room for.
-    fn check_room(&self, now: Instant, room: usize) -> Result<(), NoRoom>
-        ensures ok { OnOk result (IfSome (next_sent self.now.transport now self.now.requests)
-            (λ e. length e.1.bytes ≤ room)) }
-        ensures err { OnErr result (IsSomeAnd
+    fn check_room(&self, now: Instant, room: Option<usize>) -> Result<(), NoRoom>
+        ensures ok { OnOk result (IfSome room (λ r.
+            IfSome (next_sent self.now.transport now self.now.requests)
+            (λ e. length e.1.bytes ≤ r))) }
+        ensures err { OnErr result (IsSomeAnd room (λ r. IsSomeAnd
             (next_sent self.now.transport now self.now.requests)
-            (λ e. room < length e.1.bytes)) }
+            (λ e. r < length e.1.bytes))) }
     {
+        let Some(room) = room else {
+            return Ok(());
+        };
         let Some(next) = self.next_sent(now) else {
             return Ok(());
         };
@@ -242,39 +207,20 @@ impl<A: Allocator + Copy> Outstanding<A> {
         None
     }
 
-    /// Stops the retransmissions of a request, where it is there.
-    pub(crate) fn cancel_retransmissions(&mut self, id: TransactionId)
-        ensures { self.new ≡ record self.old { requests = changed silenced id self.old.requests } }
-    {
-        let Some(before) = transactions::deadline_at(&self.requests, self.transport, id) else {
-            return;
-        };
-        transactions::cancel_retransmissions(&mut self.requests, id);
-        transactions::renew(&mut self.deadlines, &self.requests, self.transport, before);
-    }
-
-    /// Lets a request end at the next poll that reaches it, where it is there.
-    pub(crate) fn cancel(&mut self, id: TransactionId)
-        ensures { self.new ≡ record self.old { requests = changed cancelled id self.old.requests } }
-    {
-        let Some(before) = transactions::deadline_at(&self.requests, self.transport, id) else {
-            return;
-        };
-        transactions::cancel(&mut self.requests, id);
-        transactions::renew(&mut self.deadlines, &self.requests, self.transport, before);
-    }
-
-    /// Replaces the timeouts of a request, where it is there.
-    pub(crate) fn configure(&mut self, id: TransactionId, settings: RequestRto)
+    /// Changes a request, where it is there. Does not allocate.
+    pub(crate) fn change(&mut self, id: TransactionId, change: Change)
         ensures { self.new ≡ record self.old {
-          requests = changed
-              (configured (settings_of settings)) id self.old.requests;
+          requests = changed (after_change change) id self.old.requests;
         } }
     {
-        let Some(before) = transactions::deadline_at(&self.requests, self.transport, id) else {
+        let Some((before, after)) = transactions::change(
+            &mut self.requests,
+            self.transport,
+            id,
+            change,
+        ) else {
             return;
         };
-        transactions::configure(&mut self.requests, id, settings);
-        transactions::renew(&mut self.deadlines, &self.requests, self.transport, before);
+        self.deadlines.replace(before, after);
     }
 }

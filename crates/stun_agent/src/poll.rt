@@ -42,8 +42,8 @@ impl<A: Allocator + Copy> StunAgent<A> {
         answer
     }
 
-    /// As `poll`, which is this call with a blank of its own, and how many deadlines were read to find what ends: at
-    /// most one more than there are requests that are cancelled or await at most `now`. The count takes no bytes, and
+    /// As `poll`, which is this call with a blank of its own, and how many nodes of deadlines were read to find what ends:
+    /// at most one more than there are requests that are cancelled or await at most `now`. The count takes no bytes, and
     /// contracts alone see it.
     pub fn poll_counted<L: Ledger>(
         &mut self,
@@ -95,7 +95,9 @@ impl<A: Allocator + Copy> StunAgent<A> {
             ≡ option_map (λ e. datagram_of self.old e.1) (sent_by_poll now self.old) }
         ensures request { IfSome (sent_by_poll now self.old) IsNamed }
     {
-        let id = self.pass_and_count(now)?;
+        let Ok(Some(id)) = self.pass_and_count(now, None) else {
+            return None;
+        };
         let transport = self.outstanding.transport();
         let from = self.local_addr;
         let request = self.outstanding.get(id)?;
@@ -110,7 +112,7 @@ impl<A: Allocator + Copy> StunAgent<A> {
     }
 
     /// As `poll_transmit`, where the bytes fit into `room`. Where they do not, the agent is as before, and no transmission is
-    /// lost. It looks for the request once, as `poll_transmit` does, where that request is the first that is due.
+    /// lost.
     pub fn poll_transmit_within(
         &mut self,
         now: Instant,
@@ -126,7 +128,7 @@ impl<A: Allocator + Copy> StunAgent<A> {
         ensures refused { OnErr result (IsSomeAnd (sent_by_poll now self.old)
             (λ e. room < length e.1.bytes)) }
     {
-        let Some(id) = self.pass_and_count_within(now, room)? else {
+        let Some(id) = self.pass_and_count(now, Some(room))? else {
             return Ok(None);
         };
         let transport = self.outstanding.transport();
@@ -159,39 +161,27 @@ impl<A: Allocator + Copy> StunAgent<A> {
         })
     }
 
-    /// Passes the slots that are due, counts the request that is to be sent again, and tells its id.
-    fn pass_and_count(&mut self, now: Instant) -> Option<TransactionId>
-        ensures sent { result ≡ option_map (λ e. e.0) (sent_by_poll now self.old) }
-        ensures after { self.new ≡ after_poll_transmit now self.old }
-        ensures kept { IfSome result (λ id. option_map contents (at id self.new.transactions)
-            ≡ option_map (λ e. contents e.1) (sent_by_poll now self.old)) }
-        ensures request { IfSome (sent_by_poll now self.old) IsNamed }
-    {
-        let (id, length) = self.outstanding.pass_due_slots(now)?;
-        counting::count_sent_again(&mut self.stats, length);
-        Some(id)
-    }
-
-    /// The same, where what is sent again fits into the room, and else nothing.
-    fn pass_and_count_within(
+    /// Passes the slots that are due, counts the request that is to be sent again, and tells its id. Where that has more
+    /// bytes than there is room for, nothing changes.
+    fn pass_and_count(
         &mut self,
         now: Instant,
-        room: usize,
+        room: Option<usize>,
     ) -> Result<Option<TransactionId>, NoRoom>
         ensures sent { IfOk result (λ sent. sent
             ≡ option_map (λ e. e.0) (sent_by_poll now self.old)) }
-        ensures fits { OnOk result (IfSome (sent_by_poll now self.old)
-            (λ e. length e.1.bytes ≤ room)) }
+        ensures fits { OnOk result (IfSome room (λ r. IfSome (sent_by_poll now self.old)
+            (λ e. length e.1.bytes ≤ r))) }
         ensures after { OnOk result (self.new ≡ after_poll_transmit now self.old) }
         ensures kept { IfOk result (λ sent. IfSome sent (λ id.
             option_map contents (at id self.new.transactions)
             ≡ option_map (λ e. contents e.1) (sent_by_poll now self.old))) }
         ensures request { OnOk result (IfSome (sent_by_poll now self.old) IsNamed) }
-        ensures refused { OnErr result (IsSomeAnd (sent_by_poll now self.old)
-            (λ e. room < length e.1.bytes)) }
+        ensures refused { OnErr result (IsSomeAnd room (λ r. IsSomeAnd (sent_by_poll now self.old)
+            (λ e. r < length e.1.bytes))) }
         ensures same { OnErr result (self.new ≡ self.old) }
     {
-        let Some((id, length)) = self.outstanding.pass_due_slots_within(now, room)? else {
+        let Some((id, length)) = self.outstanding.pass_due_slots(now, room)? else {
             return Ok(None);
         };
         counting::count_sent_again(&mut self.stats, length);

@@ -5,11 +5,12 @@ ghost use Rattle.std.specs.Duration.{as_nanos, max_nanos};
 ghost use Rattle.std.specs.Option.{option_map};
 ghost use Rattle.stun_agent.specs.Agent.{with_transactions};
 ghost use Rattle.stun_agent.specs.Requests.{StaysWith, rests, peer_and_integrity, lends_agent};
-ghost use Rattle.stun_agent.specs.Timing.{settings_of};
 ghost use Rattle.stun_agent.specs.Transactions.{at, changed, silenced, cancelled, configured};
+ghost use Rattle.stun_agent.specs.code.Transactions.{after_change};
 
 use crate::agent::StunAgent;
 use crate::rto::RequestRto;
+use crate::transaction::Change;
 use std::alloc::{AllocError, Allocator, Global};
 use std::net::SocketAddr;
 use std::time::Duration;
@@ -76,25 +77,12 @@ impl<A: Allocator + Copy> StunAgent<A> {
         Some((request.to(), request.integrity()))
     }
 
-    fn cancel_retransmissions(&mut self, id: TransactionId)
+    /// Changes a request, where it is outstanding.
+    fn change(&mut self, id: TransactionId, change: Change)
         ensures { self.new ≡ with_transactions self.old
-            (changed silenced id self.old.transactions) }
+            (changed (after_change change) id self.old.transactions) }
     {
-        self.outstanding.cancel_retransmissions(id);
-    }
-
-    fn cancel(&mut self, id: TransactionId)
-        ensures { self.new ≡ with_transactions self.old
-            (changed cancelled id self.old.transactions) }
-    {
-        self.outstanding.cancel(id);
-    }
-
-    fn configure(&mut self, id: TransactionId, settings: RequestRto)
-        ensures { self.new ≡ with_transactions self.old
-            (changed (configured (settings_of settings)) id self.old.transactions) }
-    {
-        self.outstanding.configure(id, settings);
+        self.outstanding.change(id, change);
     }
 }
 
@@ -173,7 +161,7 @@ impl<'a, A: Allocator + Copy> StunRequestMut<'a, A> {
     pub fn cancel_retransmissions(&mut self)
         ensures { StaysWith self.old self.new (changed silenced self.old.id self.old.agent.now.transactions) }
     {
-        self.agent.cancel_retransmissions(self.id);
+        self.agent.change(self.id, Change::Silence);
     }
 
     /// Sends the request no more, and ends it at the next `poll` that reaches it; a response that comes before is
@@ -181,7 +169,7 @@ impl<'a, A: Allocator + Copy> StunRequestMut<'a, A> {
     pub fn cancel(&mut self)
         ensures { StaysWith self.old self.new (changed cancelled self.old.id self.old.agent.now.transactions) }
     {
-        self.agent.cancel(self.id);
+        self.agent.change(self.id, Change::Cancel);
     }
 
     /// Replaces the timeouts of the request: the wait after the first transmission, how many transmissions there
@@ -229,6 +217,6 @@ impl<'a, A: Allocator + Copy> StunRequestMut<'a, A> {
             retransmits,
             last_retransmit,
         };
-        self.agent.configure(self.id, settings);
+        self.agent.change(self.id, Change::Configure(settings));
     }
 }

@@ -2,9 +2,9 @@
 ghost use Rattle.std.specs.Prelude.{◌≡◌, IsTrue};
 ghost use Rattle.stun_base.specs.Address.{same_address};
 ghost use Rattle.stun_agent.specs.code.Deadlines.{deadline_of};
-ghost use Rattle.stun_agent.specs.code.Transactions.{length_sent};
+ghost use Rattle.stun_agent.specs.code.Transactions.{length_sent, after_change};
 ghost use Rattle.stun_agent.specs.Timing.{settings_of};
-ghost use Rattle.stun_agent.specs.Transactions.{repeats, is_cancelled, after_silence, new_transaction, silenced, cancelled, configured, has_slots, awaited, is_due, after_slot, round_trip};
+ghost use Rattle.stun_agent.specs.Transactions.{repeats, is_cancelled, after_silence, new_transaction, has_slots, awaited, is_due, after_slot, round_trip};
 
 use crate::address::is_same;
 use crate::deadlines::{Deadline, DeadlineKind};
@@ -51,6 +51,17 @@ impl Sending {
             Sending::Cancelled => Sending::Cancelled,
         }
     }
+}
+
+/// What the user of a request changes of it.
+#[derive(Clone, Copy, Debug, PartialEq, Eq)]
+pub(crate) enum Change {
+    /// It is sent no more, and is waited for.
+    Silence,
+    /// It ends, as cancelled, at the next poll that reaches it.
+    Cancel,
+    /// It has other timeouts.
+    Configure(RequestRto),
 }
 
 /// A request that waits for its response.
@@ -146,23 +157,16 @@ impl<A: Allocator> Transaction<A> {
         self.sending
     }
 
-    pub(crate) fn cancel_retransmissions(&mut self)
-        ensures { self.new ≡ silenced self.old }
+    pub(crate) fn change(&mut self, change: Change)
+        ensures { self.new ≡ after_change change self.old }
     {
-        self.sending = self.sending.silenced();
-    }
-
-    /// It ends, as cancelled, at the next poll that reaches it.
-    pub(crate) fn cancel(&mut self)
-        ensures { self.new ≡ cancelled self.old }
-    {
-        self.sending = Sending::Cancelled;
-    }
-
-    pub(crate) fn configure(&mut self, settings: RequestRto)
-        ensures { self.new ≡ configured (settings_of settings) self.old }
-    {
-        self.settings = settings;
+        match change {
+            Change::Silence => self.sending = self.sending.silenced(),
+            Change::Cancel => self.sending = Sending::Cancelled,
+            Change::Configure(settings) => {
+                self.settings = settings;
+            }
+        }
     }
 
     /// Whether timeouts are left, each with a transmission at its end.

@@ -166,10 +166,10 @@ or-true true = refl
 or-true false = refl
 
 module _ {K X : Type 0} {R : K → K → Ordering} (o : IsTotalOrder R) (same : IsAntisymmetric R) (test : K → Bool) where
-  abbrev keys_of : List (K × X) → List K
+  abbrev pub keys_of : List (K × X) → List K
   keys_of es = map (λ e. e.0) es
 
-  abbrev is_key : List (K × X) → K → Bool
+  abbrev pub is_key : List (K × X) → K → Bool
   is_key es q = list_any (eq_by_cmp R q) (keys_of es)
 
   -- what is above all keys of a list is none of them
@@ -187,7 +187,7 @@ module _ {K X : Type 0} {R : K → K → Ordering} (o : IsTotalOrder R) (same : 
       less Greater p = absurd p
 
   -- the least key that passes is found
-  find-least : (es : List (K × X)) → T (is_sorted R es) → (x : K) → is_key es x ≡ true → test x ≡ true
+  pub find-least : (es : List (K × X)) → T (is_sorted R es) → (x : K) → is_key es x ≡ true → test x ≡ true
       → ((y : K) → is_key es y ≡ true → test y ≡ true → is_gt (R x y) ≡ false) → find test (keys_of es) ≡ Some x
   find-least [] sorted x there passes least = absurd (true≢false (sym there))
   find-least (e ∷ es) sorted x there passes least =
@@ -204,7 +204,7 @@ module _ {K X : Type 0} {R : K → K → Ordering} (o : IsTotalOrder R) (same : 
       ] refl there
 
   -- and none where none passes
-  find-none : (es : List (K × X)) → ((y : K) → is_key es y ≡ true → test y ≡ false) → find test (keys_of es) ≡ None
+  pub find-none : (es : List (K × X)) → ((y : K) → is_key es y ≡ true → test y ≡ false) → find test (keys_of es) ≡ None
   find-none [] none = refl
   find-none (e ∷ es) none =
       ap (λ b. cond b (Some e.0) (find test (keys_of es))) (none e.0 (ap (λ r. is_eq r || is_key es e.0) (tied_itself o e.0)))

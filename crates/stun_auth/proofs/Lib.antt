@@ -25,6 +25,7 @@ pub mod SignedLimits
 pub mod SignedReading
 pub mod SignedRoom
 pub mod SignedSides
+pub mod SteppingLemmas
 pub mod TailReading
 pub mod Unchanged
 pub mod UserMaps

@@ -16,7 +16,7 @@ use Rattle.stun_auth.specs.Places.{PlacesSeen, at_place}
 use Rattle.stun_auth.specs.code.Places.{place_seen, places_seen}
 use Rattle.stun_auth.specs.declared.places.Place.{Place}
 use Rattle.stun_auth.proofs.Addresses.{address_total, address_exact}
-use Rattle.stun_auth.proofs.Maps.{get-seen, seen_inserted}
+use Rattle.stun_auth.proofs.Maps.{get-seen, seen_inserted, seen_removed}
 
 -- the order that `SocketAddr` derives
 abbrev pub derived : SocketAddr → SocketAddr → Ordering
@@ -38,6 +38,11 @@ pub places_seen-updated : {A : Type 0} (m n : BTreeMap SocketAddr (Place A)) (a 
 places_seen-updated m n a v updates =
     let changed = subst (λ (R : SocketAddr → SocketAddr → Ordering). (q : SocketAddr) → tree.get R n q ≡ cond (is_eq (R a q)) (Some v) (tree.get R m q)) derived_is updates.0 in
     seen_inserted address_total address_exact (λ x. x) place_seen m.entries n.entries a v changed
+
+pub places_seen-removed : {A : Type 0} (m n : BTreeMap SocketAddr (Place A)) (a : SocketAddr) → UpdatesBy derived (derived a) m n None → places_seen n.entries ≡ fin.remove (places_seen m.entries) a
+places_seen-removed m n a updates =
+    let changed = subst (λ (R : SocketAddr → SocketAddr → Ordering). (q : SocketAddr) → tree.get R n q ≡ cond (is_eq (R a q)) None (tree.get R m q)) derived_is updates.0 in
+    seen_removed address_total address_exact (λ x. x) place_seen m.entries n.entries a changed
 
 -- what the finite map has there, where the tree map has it so
 pub found_there : {A : Type 0} (m : BTreeMap SocketAddr (Place A)) (a : SocketAddr) (places : PlacesSeen) (o : Option (Place A)) → places_seen m.entries ≡ places → o ≡ tree.get_by (derived a) m → option_map place_seen o ≡ fin.get places a

@@ -6,6 +6,7 @@ use Rattle.stun_base.specs.declared.algorithm.IntegrityAlgorithm.{IntegrityAlgor
 use Rattle.stun_base.specs.declared.error.StunWriteError.{StunWriteError}
 use Rattle.stun_base.specs.declared.error.StunWriteError.TheVariants.{NotAllowed, MessageIntegrityExists, AttributeExists, TooLarge, TooSmall, IntegrityFailed, OutOfMemory}
 use Rattle.stun_types.specs.Attribute.{TypedValue, attribute_length}
+use Rattle.stun_types.specs.Message.{LENGTH_LIMIT}
 use Rattle.stun_types.specs.Limits.{TEXT_LIMIT, USERNAME_LIMIT}
 use Rattle.stun_types.specs.Writing.{attribute_refusal, signing_refusal, with_attribute, with_integrity}
 
@@ -18,6 +19,10 @@ pub data Addition : Type 0 where
 pub record Page : Type 0 where
   pub bytes : List ℕ
   pub room : ℕ
+
+-- a message in a writer that grows to the longest message
+abbrev pub page_of : List ℕ → Page
+page_of message = record { bytes = message; room = LENGTH_LIMIT - length message }
 
 -- how many bytes an addition takes
 abbrev pub growth_of : Addition → ℕ

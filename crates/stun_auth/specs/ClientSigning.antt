@@ -2,6 +2,7 @@
 -- and in which it may be refused. `added_by_client` in Signed.antt says it by attribute, which is what a reader finds.
 -- `laws::sides_add_by_attribute` says that both add the same.
 use Rattle.std.specs.Prelude.{List, [], ◌∷◌, ◌++◌, Bool, if◌then◌else◌, Option, Some, None}
+use Rattle.std.specs.Option.{option_map}
 use Rattle.stun_base.specs.declared.algorithm.IntegrityAlgorithm.{IntegrityAlgorithm}
 use Rattle.stun_types.specs.Attribute.{TypedValue}
 use Rattle.stun_auth.specs.Additions.{Addition, attribute, integrity}
@@ -36,6 +37,10 @@ abbrev pub kept_challenge : ClientState → Option Challenge
 kept_challenge initial = None
 kept_challenge (authenticating c) = Some c
 kept_challenge (authenticated c) = Some c
+
+-- the algorithm of the digest that signing adds, where it adds one
+abbrev pub signing_algorithm : ClientState → Option IntegrityAlgorithm
+signing_algorithm state = option_map (λ (c : Challenge). c.algorithm) (kept_challenge state)
 
 -- without a key nothing is added
 abbrev pub kept_additions : Bool → Option Challenge → List Addition

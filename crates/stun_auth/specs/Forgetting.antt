@@ -2,6 +2,7 @@
 use Rattle.std.specs.Prelude.{ℕ, nat_lt, Bool, ◌&&◌, if◌then◌else◌, Option, Some, None}
 use Rattle.std.specs.Option.{is_none, is_some}
 use Rattle.std.specs.FinMap as map
+use Rattle.std.specs.declared.net.socket_addr.SocketAddr.{SocketAddr}
 use Rattle.stun_base.specs.Address.{address_cmp}
 use Rattle.stun_auth.specs.Seen.{PlaceSeen}
 use Rattle.stun_auth.specs.Validation.{ServerSeen}
@@ -22,3 +23,7 @@ places_kept now places = map.retain_keys places (λ address. is_some (place_kept
 -- the server that is left
 abbrev pub after_forgetting : ServerSeen → ℕ → ServerSeen
 after_forgetting s now = record s { places = places_kept now s.places }
+
+-- the server that keeps nothing of an address, and of all others what it kept
+abbrev pub without_place : ServerSeen → SocketAddr → ServerSeen
+without_place s address = record s { places = map.remove s.places address }

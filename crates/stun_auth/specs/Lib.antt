@@ -20,6 +20,8 @@ pub mod Validation
 pub mod Places
 -- when what is kept for an address is forgotten
 pub mod Forgetting
+-- the same in steps
+pub mod ForgettingSteps
 -- why a server refuses a message
 pub mod Reasons
 -- a client: what it is set to and what it keeps (section 9.2)

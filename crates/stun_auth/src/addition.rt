@@ -77,7 +77,7 @@ pub(crate) fn add_integrity<W: MessageWrite, A: Allocator>(
         (W.reserved writer.old)
         result (page_in W.bytes W.room writer.new) }
 {
-    writer.add_message_integrity_with_key(key.key(), algorithm)
+    writer.add_message_integrity_with_prepared_key(key, algorithm)
 }
 
 /// How many bytes the integrity attribute of an algorithm takes.

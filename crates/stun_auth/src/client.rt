@@ -173,9 +173,13 @@ impl<A: Allocator> LongTermClientAuth<A> {
         self.supported = self.supported.with(algorithm);
     }
 
-    /// Supports one algorithm alone. Where this is not HMAC-SHA1, a nonce without security bits is refused by
-    /// `UnsupportedFeature`. With a nonce that has them, so is a list that lacks the algorithm; where there is no list, and the
-    /// bits ask for no password algorithms, a client takes HMAC-SHA1 all the same.
+    /// Supports one algorithm alone, which does not keep a client of HMAC-SHA256 from signing with
+    /// HMAC-SHA1 where a forged challenge says so: `signing_algorithm` tells, before a message is
+    /// signed, and a loop can give up.
+    ///
+    /// Where this is not HMAC-SHA1, a nonce without security bits is refused by `UnsupportedFeature`.
+    /// With a nonce that has them, so is a list that lacks the algorithm; where there is no list, and
+    /// the bits ask for no password algorithms, a client takes HMAC-SHA1 all the same.
     pub fn set_supported_integrity(&mut self, algorithm: IntegrityAlgorithm)
         ensures { self.new ≡ record self.old { settings = record self.old.settings { supported = algorithm ∷ [] } } }
     {

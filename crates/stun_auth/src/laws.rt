@@ -21,6 +21,7 @@ ghost use Rattle.stun_auth.specs.ClientSigning.{client_additions};
 ghost use Rattle.stun_auth.specs.ClientStep.{client_step};
 ghost use Rattle.stun_auth.specs.Feature.{is_possible};
 ghost use Rattle.stun_auth.specs.Forgetting.{after_forgetting, place_kept};
+ghost use Rattle.stun_auth.specs.ForgettingSteps.{after_steps};
 ghost use Rattle.stun_auth.specs.Joined.{HasAdded, IsReadBack, IsTyped, page_after};
 ghost use Rattle.stun_auth.specs.Nonces.{asks_for_algorithms, asks_for_userhash, nonce_of, security_bits, spelled_bits};
 ghost use Rattle.stun_auth.specs.Reading.{Reading, error_code, reading_of};
@@ -127,6 +128,13 @@ pub fn expired_nonces_are_forgotten()
     ensures current { (s : ServerSeen) (now : ℕ) (a : SocketAddr) (place : PlaceSeen) →
         map.get s.places a ≡ Some place → now ≤ place.expires
         → map.get (after_forgetting s now).places a ≡ Some place }
+{}
+
+/// Steps of forgetting, each of which goes on where the one before ended, leave the server that
+/// `forget_expired` leaves once they come to the end.
+pub fn steps_forget_what_has_expired()
+    ensures { (s : ServerSeen) (now : ℕ) (sizes : List ℕ) (left : ServerSeen)
+        → after_steps s now None sizes ≡ Some left → left ≡ after_forgetting s now }
 {}
 
 /// A built message without attributes, and one with an error code alone, can be signed, and are read as what they were

@@ -1,12 +1,14 @@
 //! What is kept for each address: a nonce with its end, the algorithms that were offered, and the client.
 
-ghost use Rattle.std.specs.Prelude.{◌≡◌, ◌↔◌, IfOk, IsTrue, Option, None, Some, OnOk, OnErr};
-ghost use Rattle.std.specs.Option.{option_map, option_copied};
+ghost use Rattle.std.specs.Prelude.{◌≡◌, ◌↔◌, IfOk, IsTrue, false, Option, None, Some, OnOk, OnErr};
+ghost use Rattle.std.specs.Option.{option_map, option_map_or, option_copied};
 ghost use Rattle.std.specs.FinMap as map;
 ghost use Rattle.std.specs.String.{string_bytes};
+ghost use Rattle.stun_base.specs.Address.{same_address};
 ghost use Rattle.stun_auth.specs.Forgetting.{is_forgotten, places_kept};
+ghost use Rattle.stun_auth.specs.ForgettingSteps.{is_looked_at, next_from, places_kept_where, start_of};
 ghost use Rattle.stun_auth.specs.Places.{with_change, with_client, with_offer};
-ghost use Rattle.stun_auth.specs.code.Places.{client_seen, place_seen, renewed_with};
+ghost use Rattle.stun_auth.specs.code.Places.{IsFirstFrom, client_seen, place_seen, renewed_with};
 
 use crate::algorithm_set::AlgorithmSet;
 use crate::short_text::ShortText;
@@ -14,6 +16,7 @@ use std::alloc::{AllocError, Allocator};
 use std::collections::BTreeMap;
 use std::marker::Model;
 use std::net::SocketAddr;
+use std::ops::Bound;
 use stun_base::algorithm::IntegrityAlgorithm;
 use stun_base::instant::Instant;
 
@@ -161,11 +164,66 @@ impl<A: Allocator + Copy> Places<A> {
         }
     }
 
+    /// Forgets the place of an address.
+    pub(crate) fn forget(&mut self, address: SocketAddr)
+        ensures { self.new ≡ map.remove self.old address }
+    {
+        self.by_address.remove(&address);
+    }
+
     /// Forgets each place without a client whose nonce ended before a moment.
     pub(crate) fn forget_expired(&mut self, now: Instant)
         ensures { self.new ≡ places_kept now self.old }
     {
         self.by_address.retain(|_, place| !place.is_forgotten(now));
+    }
+
+    /// The same at no more than so many addresses, from one on or from the first: it answers the one
+    /// to go on at.
+    pub(crate) fn forget_expired_within(
+        &mut self,
+        now: Instant,
+        from: Option<SocketAddr>,
+        most: usize,
+    ) -> Option<SocketAddr>
+        ensures next { result ≡ next_from self.old (start_of from) most }
+        ensures state { self.new ≡ places_kept_where (is_looked_at from result) now self.old }
+    {
+        let mut start = start_at(from);
+        for _looked in 0..most {
+            let address = self.first_from(start)?;
+            self.forget_if_expired(address, now);
+            start = Bound::Excluded(address);
+        }
+        let next = self.first_from(start);
+        next
+    }
+
+    /// The first address that has a place, from a start on.
+    fn first_from(&self, start: Bound<SocketAddr>) -> Option<SocketAddr>
+        ensures { IsFirstFrom self.now start result }
+    {
+        let (address, _) = self.by_address.range((start, Bound::Unbounded)).next()?;
+        Some(*address)
+    }
+
+    /// Forgets the place of an address, where it has no client and its nonce ended before a moment.
+    fn forget_if_expired(&mut self, address: SocketAddr, now: Instant)
+        ensures { self.new ≡ places_kept_where (same_address address) now self.old }
+    {
+        if self.has_expired(address, now) {
+            self.forget(address);
+        }
+    }
+
+    /// Whether an address has a place without a client, whose nonce ended before a moment.
+    fn has_expired(&self, address: SocketAddr, now: Instant) -> bool
+        ensures { result ≡ option_map_or (is_forgotten now) (map.get self.now address) false }
+    {
+        match self.get(address) {
+            Some(place) => place.is_forgotten(now),
+            None => false,
+        }
     }
 
     /// Keeps what was offered to an address that has a nonce and no client.
@@ -207,5 +265,15 @@ impl<A: Allocator + Copy> Places<A> {
                 Ok(())
             }
         }
+    }
+}
+
+/// Where a walk over addresses begins: at one, or at the first of all.
+fn start_at(from: Option<SocketAddr>) -> Bound<SocketAddr>
+    ensures { result ≡ start_of from }
+{
+    match from {
+        Some(address) => Bound::Included(address),
+        None => Bound::Unbounded,
     }
 }

@@ -1,6 +1,6 @@
 //! The users of a realm, each with a key for each supported algorithm.
 
-ghost use Rattle.std.specs.Prelude.{◌≡◌, Option, None, Some, OnOk, OnErr, IfErr, IfNone, IfSome};
+ghost use Rattle.std.specs.Prelude.{◌≡◌, Option, None, Some, OnOk, OnErr, IfOk, IfErr, IfNone, IfSome};
 ghost use Rattle.std.specs.Ordering.{nat_cmp};
 ghost use Rattle.std.specs.BTreeMap.{Updates, UpdatesBy, get_by_text};
 ghost use Rattle.std.specs.Cmp.Lexicographic.{slice_cmp};
@@ -20,10 +20,17 @@ use stun_base::credentials::LongTermCredentials;
 use stun_base::key::{long_term_key, userhash};
 use stun_base::prepared_key::PreparedKey;
 
-/// A user with a key for each supported algorithm, prepared for the digests that are verified under it. The keys are inline.
+/// A user with a key for each supported algorithm, prepared for the digests that are verified under it.
 #[derive(Drop)]
 pub(crate) struct User<A: Allocator> {
     password: String<A>,
+    /// In a box, since they are long and a tree leaves half of its places empty.
+    keys: Box<UserKeys<A>, A>,
+}
+
+/// The keys of a user.
+#[derive(Drop)]
+pub(crate) struct UserKeys<A: Allocator> {
     sha1: Option<PreparedKey<A>>,
     sha256: Option<PreparedKey<A>>,
 }
@@ -50,17 +57,24 @@ fn key_if<A: Allocator>(
 impl<A: Allocator + Copy> User<A> {
     ghost use Rattle.stun_auth.specs.code.Users.{HasKeys, key_in};
 
-    fn new(name: &str, realm: &str, password: String<A>, supported: AlgorithmSet) -> Self
-        ensures keys { HasKeys realm.now supported name.now result }
-        ensures password { string_bytes result.password ≡ string_bytes password }
+    fn new(
+        name: &str,
+        realm: &str,
+        password: String<A>,
+        supported: AlgorithmSet,
+    ) -> Result<Self, AllocError>
+        ensures keys { IfOk result (HasKeys realm.now supported name.now) }
+        ensures password { IfOk result (λ user.
+            string_bytes user.password ≡ string_bytes password) }
     {
-        let mut user = User {
-            password,
+        let none = UserKeys {
             sha1: None,
             sha256: None,
         };
+        let keys = Box::new(*password.allocator(), none)?;
+        let mut user = User { password, keys };
         user.set_keys(name, realm, supported);
-        user
+        Ok(user)
     }
 
     /// Makes the keys anew. It does not allocate.
@@ -86,16 +100,16 @@ impl<A: Allocator + Copy> User<A> {
             realm,
             password,
         );
-        self.sha1 = sha1;
-        self.sha256 = sha256;
+        self.keys.sha1 = sha1;
+        self.keys.sha256 = sha256;
     }
 
     fn key(&self, algorithm: IntegrityAlgorithm) -> Option<&PreparedKey<A>>
         ensures { option_copied result ≡ key_in self.now algorithm }
     {
         match algorithm {
-            IntegrityAlgorithm::Sha1 => self.sha1.as_ref(),
-            IntegrityAlgorithm::Sha256 => self.sha256.as_ref(),
+            IntegrityAlgorithm::Sha1 => self.keys.sha1.as_ref(),
+            IntegrityAlgorithm::Sha256 => self.keys.sha256.as_ref(),
         }
     }
 }
@@ -190,9 +204,9 @@ impl<A: Allocator + Copy> Registry<A> {
             (record { username = string_bytes name; password = string_bytes password })) }
         ensures err { OnErr result (self.new ≡ self.old) }
     {
+        let user = User::new(name.as_str(), self.realm.as_str(), password, self.supported)?;
         let hash = userhash(name.as_str(), self.realm.as_str());
         self.hashed.insert(hash, name.clone()?)?;
-        let user = User::new(name.as_str(), self.realm.as_str(), password, self.supported);
         match put_user(&mut self.users, name, user) {
             Ok(()) => Ok(()),
             Err(refused) => {

@@ -7,7 +7,8 @@ ghost use Rattle.std.specs.Option.{option_and_then, option_copied, option_map};
 ghost use Rattle.std.specs.FinMap as map;
 ghost use Rattle.std.specs.String.{string_bytes};
 ghost use Rattle.stun_auth.specs.Algorithms.{listed, only, with_algorithm};
-ghost use Rattle.stun_auth.specs.Forgetting.{after_forgetting};
+ghost use Rattle.stun_auth.specs.Forgetting.{after_forgetting, without_place};
+ghost use Rattle.stun_auth.specs.ForgettingSteps.{after_step, next_address};
 ghost use Rattle.stun_auth.specs.Nonces.{MINIMUM_EXPIRY};
 ghost use Rattle.stun_auth.specs.Seen.{PlaceSeen};
 ghost use Rattle.stun_auth.specs.Places.{with_change, with_client};
@@ -208,6 +209,15 @@ impl<A: Allocator + Copy> LongTermServerAuth<A> {
         self.places.set_client(address, None);
     }
 
+    /// Forgets all that is kept of an address: its nonce, the nonce's end, the algorithms that were offered to it, and its client.
+    /// Other addresses stay as they are. It does not allocate, and finds the address as a message from there does, without a
+    /// walk. The address is then met as a new one.
+    pub fn forget(&mut self, address: SocketAddr)
+        ensures { self.new ≡ without_place self.old address }
+    {
+        self.places.forget(address);
+    }
+
     /// Forgets each address without a client whose nonce's end is before `now`: its nonce, the nonce's end and the algorithms
     /// that were offered to it are gone, and what was kept for them is freed. Other addresses stay as they are.
     ///
@@ -219,6 +229,31 @@ impl<A: Allocator + Copy> LongTermServerAuth<A> {
         ensures { self.new ≡ after_forgetting self.old now }
     {
         self.places.forget_expired(now);
+    }
+
+    /// Forgets what `forget_expired` does, at no more than `most` addresses, so that a server of many
+    /// has no long pause. It looks at those that have a place, in the order of `SocketAddr`, from
+    /// `from` on, or from the first where that is `None`. It answers the first that it did not look at,
+    /// or `None` at the end, so that the answer of each call is the `from` of the next:
+    ///
+    /// ```text
+    /// next = auth.forget_expired_within(now, next, 100);
+    /// ```
+    ///
+    /// Calls up to a `None` forget together what `forget_expired` does, where nothing else is called
+    /// between them (law `steps_forget_what_has_expired`). An address that comes between is looked at
+    /// if it stands after `next`, and else in the next round. It does not allocate, and each address
+    /// costs two or three look-ups.
+    pub fn forget_expired_within(
+        &mut self,
+        now: Instant,
+        from: Option<SocketAddr>,
+        most: usize,
+    ) -> Option<SocketAddr>
+        ensures next { result ≡ next_address self.old from most }
+        ensures state { self.new ≡ after_step self.old now from most }
+    {
+        self.places.forget_expired_within(now, from, most)
     }
 
     /// Sets how long nonces last that are made from here on: at least `minimum_nonce_expiry_duration()`, which is 30 seconds.

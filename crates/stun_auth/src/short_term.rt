@@ -9,7 +9,8 @@ use std::alloc::{AllocError, Allocator, Global};
 use std::fmt;
 use std::marker::Model;
 use stun_types::message::{
-    IntegrityAlgorithm, IntegrityKey, Message, ShortTermCredentials, StunWriteError, ValidateError,
+    IntegrityAlgorithm, IntegrityKey, Message, PreparedKey, ShortTermCredentials, StunWriteError,
+    ValidateError,
 };
 use stun_types::prelude::*;
 
@@ -21,12 +22,12 @@ pub struct ShortTermAuth<A: Allocator = Global> {
     kept: Option<KeptPassword<A>>,
 }
 
-/// Credentials with the key that they give and the algorithm to sign with.
+/// Credentials with the key that they give, prepared for the algorithm to sign with.
 #[derive(Drop)]
 struct KeptPassword<A: Allocator> {
     credentials: ShortTermCredentials<A>,
     algorithm: IntegrityAlgorithm,
-    key: IntegrityKey<A>,
+    key: PreparedKey<A>,
 }
 
 impl<A: Allocator> Model for ShortTermAuth<A> {
@@ -79,7 +80,7 @@ impl<A: Allocator> ShortTermAuth<A> {
     pub fn integrity_key(&self) -> Option<&IntegrityKey<A>>
         ensures { option_copied result ≡ option_map (λ secret. secret.password) self.now }
     {
-        self.kept.as_ref().map(|kept| &kept.key)
+        self.kept.as_ref().map(|kept| kept.key.key())
     }
 
     /// How many bytes signing adds to a message of any class: 0 without credentials, 24 for HMAC-SHA1, 36 for HMAC-SHA256.
@@ -118,7 +119,7 @@ impl<A: Allocator> ShortTermAuth<A> {
     {
         let mut writer = writer;
         if let Some(kept) = &self.kept {
-            writer.add_message_integrity_with_key(&kept.key, kept.algorithm)?;
+            writer.add_message_integrity_with_prepared_key(&kept.key, kept.algorithm)?;
         }
         Ok(writer)
     }
@@ -144,7 +145,7 @@ impl<A: Allocator> ShortTermAuth<A> {
     {
         let mut writer = writer;
         if let Some(kept) = &self.kept {
-            writer.add_message_integrity_with_key_unchecked(&kept.key, kept.algorithm)?;
+            writer.add_message_integrity_with_prepared_key_unchecked(&kept.key, kept.algorithm)?;
         }
         Ok(writer)
     }
@@ -161,7 +162,7 @@ impl<A: Allocator> ShortTermAuth<A> {
     {
         match &self.kept {
             None => Ok(None),
-            Some(kept) => Ok(Some(message.validate_integrity_with_key(&kept.key)?)),
+            Some(kept) => Ok(Some(message.validate_integrity_with_prepared_key(&kept.key)?)),
         }
     }
 }
@@ -181,7 +182,7 @@ impl<A: Allocator + Copy> ShortTermAuth<A> {
         ensures err { OnErr result (self.new ≡ self.old) }
         ensures succeeds_inline { length credentials ≤ 32 → IsOk result }
     {
-        let key = credentials.make_key()?;
+        let key = PreparedKey::new(credentials.make_key()?, algorithm);
         self.kept = Some(KeptPassword {
             credentials,
             algorithm,

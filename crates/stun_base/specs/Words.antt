@@ -12,3 +12,8 @@ next_words (suc n) source = (next_u32 source).0 ∷ next_words n (next_u32 sourc
 unfoldable pub after_words : ℕ → Stream → Stream
 after_words zero source = source
 after_words (suc n) source = after_words n (next_u32 source).1
+
+-- a source of words that are handed in: the next of them and the rest, and zeros where none is left
+abbrev pub next_word : List ℕ → ℕ × List ℕ
+next_word [] = (0, [])
+next_word (word ∷ words) = (word, words)

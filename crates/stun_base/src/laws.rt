@@ -16,6 +16,7 @@ use crate::instant::Instant;
 use crate::message_type::{BINDING, MessageClass, MessageType, Method};
 use crate::transaction_id::TransactionId;
 use crate::transport::TransportType;
+use crate::words::WordSource;
 use std::alloc::{AllocError, Allocator};
 use std::cmp::Ordering;
 
@@ -288,4 +289,11 @@ pub fn attribute_types() -> [AttributeType; 11]
         AttributeType::PASSWORD_ALGORITHMS,
         AttributeType::FINGERPRINT,
     ]
+}
+
+/// Sources are equal where the same words are left.
+pub fn is_same_source(one: &WordSource, other: &WordSource) -> bool
+    ensures { IsTrue result ↔ (one.now ≡ other.now) }
+{
+    one == other
 }

@@ -19,3 +19,4 @@ pub mod prepared_key;
 mod short_text;
 pub mod transaction_id;
 pub mod transport;
+pub mod words;

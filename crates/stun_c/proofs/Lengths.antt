@@ -35,11 +35,11 @@ length-with_length (x ∷ y ∷ []) n long = absurd (omega (arith, long))
 length-with_length (x ∷ y ∷ z ∷ []) n long = absurd (omega (arith, long))
 length-with_length (x ∷ y ∷ z ∷ w ∷ bytes) n long = refl
 
-length-spelled_attribute : (attribute : TypedValue) → length (spelled_attribute attribute) ≡ attribute_length (length attribute.value)
+pub length-spelled_attribute : (attribute : TypedValue) → length (spelled_attribute attribute) ≡ attribute_length (length attribute.value)
 length-spelled_attribute attribute = simp (length-append, length-replicate) (omega arith)
 
 -- an attribute after a message, and the digest of an algorithm
-length-with_attribute : (message : List ℕ) (attribute : TypedValue) → 20 ≤ length message
+pub length-with_attribute : (message : List ℕ) (attribute : TypedValue) → 20 ≤ length message
     → length (with_attribute message attribute) ≡ length message + attribute_length (length attribute.value)
 length-with_attribute message attribute long =
     let raised = with_length message (length_with message (length attribute.value)) in

@@ -1,6 +1,10 @@
 mod Appended
+mod Ending
 mod Lengths
 mod Members
+mod Refused
 mod Signed
 mod Sizes
 mod Texts
+mod Told
+mod Walking

@@ -1,14 +1,16 @@
 -- The first attribute of a type as it is read, and where the attributes after a place are.
-use Rattle.std.proofs.Common.{◌≡◌, ◌≤◌, ℕ, List, length, arith}
+use Rattle.std.proofs.Common.{◌≡◌, ◌≤◌, ℕ, true, List, length, drop, arith}
 use Rattle.std.specs.Prelude.{nat_lt, IfSome, MatchOption, Option, Some, None, Result, Err}
 use Rattle.stun_base.specs.declared.error.StunParseError.{StunParseError}
 use Rattle.stun_base.specs.declared.error.StunParseError.TheVariants.{MissingAttribute}
-use Rattle.stun_types.specs.Attribute.{TypedValue}
+use Rattle.stun_types.specs.Attribute.{TypedValue, has_attribute}
 use Rattle.stun_types.specs.Reading.{attribute_answer}
+use Rattle.stun_types.specs.Integrity.{first_of}
 use Rattle.stun_types.specs.Visible.{visible}
 use Rattle.stun_types.specs.Walk.{Member}
 use Rattle.stun_types.specs.code.Walk.{IsWithin}
-use Rattle.stun_types.proofs.IntegrityLemmas.{IfSome-find, visible-within}
+use Rattle.stun_types.proofs.IntegrityLemmas.{IfSome-find, first_of-within, visible-within}
+use Rattle.stun_types.proofs.WalkLemmas.{whole_within}
 use Rattle.stun_c.specs.Reading.{next_member, read_member}
 
 -- what reading answers of a member that may be there
@@ -26,3 +28,11 @@ place-within bytes (Some m) within = omega (arith, within.whole)
 -- the attribute that comes after a place does so within
 pub next-within : (place : ℕ) (bytes : List ℕ) → IfSome (next_member place bytes) (λ m. m.0 ≤ length bytes)
 next-within place bytes = place-within bytes (next_member place bytes) (IfSome-find (IsWithin bytes) (λ m. nat_lt place m.0) (visible bytes) (visible-within bytes))
+
+-- so does the first of a type
+pub first-within : (kind : ℕ) (bytes : List ℕ) → IfSome (first_of kind (visible bytes)) (λ m. m.0 ≤ length bytes)
+first-within kind bytes = place-within bytes (first_of kind (visible bytes)) (first_of-within kind bytes)
+
+-- a whole attribute after a header has the header before it
+pub header_before : (place : ℕ) (bytes : List ℕ) → 20 ≤ place → has_attribute (drop place bytes) ≡ true → 20 ≤ length bytes
+header_before place bytes behind whole = omega (arith, behind, whole_within place bytes whole)

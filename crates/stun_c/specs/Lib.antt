@@ -10,5 +10,9 @@ pub mod Writing
 pub mod Answers
 -- what the calls that read a message answer
 pub mod Reading
+-- what the walk over the attributes answers, and where it stands
+pub mod Walking
+-- what the calls over `stun_extra` answer: FINGERPRINT, types that are not known, and streams
+pub mod Extra
 -- what no clause of a public call says: what private functions alone cite
 pub mod code

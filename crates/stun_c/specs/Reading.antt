@@ -1,12 +1,13 @@
 -- What the calls that read a message answer, and what they leave in the caller's numbers and buffers.
-use Rattle.std.specs.Prelude.{ℕ, ℤ, pos, List, take, drop, find, nat_lt, Option, Some, None, Result, Ok, Err}
+use Rattle.std.specs.Prelude.{ℕ, ℤ, pos, ◌+◌, List, length, take, drop, find, nat_lt, not, ◌||◌, Option, Some, None, Result, Ok, Err, if◌then◌else◌}
 use Rattle.std.specs.Option.{option_map}
+use Rattle.byteorder.specs.Endian.{big_number}
 use Rattle.stun_base.specs.Attributes.{ERROR_CODE, XOR_MAPPED_ADDRESS}
-use Rattle.stun_base.specs.Header.{transaction_id_field, type_field}
+use Rattle.stun_base.specs.Header.{HEADER_LENGTH, header_refusal, length_field, transaction_id_field, type_field}
 use Rattle.stun_base.specs.MessageType.{class_in, class_number, method_of}
 use Rattle.stun_base.specs.declared.error.StunParseError.{StunParseError}
 use Rattle.stun_base.specs.declared.error.StunParseError.TheVariants.{MissingAttribute}
-use Rattle.stun_types.specs.Attribute.{TypedValue}
+use Rattle.stun_types.specs.Attribute.{TypedValue, first_attribute, has_attribute}
 use Rattle.stun_types.specs.ErrorCode.{CodeAndReason, error_of}
 use Rattle.stun_types.specs.Integrity.{first_of}
 use Rattle.stun_types.specs.Message.{refusal}
@@ -15,10 +16,12 @@ use Rattle.stun_types.specs.Visible.{visible}
 use Rattle.stun_types.specs.Walk.{Member}
 use Rattle.stun_types.specs.XorMappedAddress.{XoredAddress, xor_bytes, xor_key, xor_port, xored_of}
 use Rattle.stun_c.specs.declared.codes.Refusal.{Refusal}
+use Rattle.stun_c.specs.declared.codes.Refusal.TheVariants.{BadArgument, MalformedAttribute, MissingAttribute as NotFound}
+use Rattle.stun_c.specs.declared.header.Header.{Header}
 use Rattle.stun_c.specs.Answers.{unless_no_message}
 use Rattle.stun_c.specs.Codes.{code_of, refusal_of_attribute, refusal_of_parse}
 use Rattle.stun_c.specs.Requests.{unless_refused}
-use Rattle.stun_c.specs.Writing.{unless}
+use Rattle.stun_c.specs.Writing.{is_size, unless}
 
 -- the two bits of the class (RFC 8489, section 5)
 abbrev pub class_answer : List ℕ → ℤ
@@ -27,6 +30,24 @@ class_answer bytes = unless_no_message (refusal bytes) (pos (class_number (class
 -- the method
 abbrev pub method_answer : List ℕ → ℤ
 method_answer bytes = unless_no_message (refusal bytes) (pos (method_of (type_field bytes)))
+
+-- what a header says, with the length of the message that it begins
+abbrev pub header_in : List ℕ → Header
+header_in bytes = record {
+  message_class = class_number (class_in bytes);
+  method = method_of (type_field bytes);
+  length = HEADER_LENGTH + length_field bytes;
+  id = take 12 (drop 8 bytes);
+}
+
+-- what `stun_read_header` answers: what follows the header is not looked at
+abbrev pub header_answer : List ℕ → ℤ
+header_answer bytes = unless_no_message (header_refusal bytes) (pos 0)
+
+-- the caller's header afterwards
+abbrev pub header_after : Option StunParseError → List ℕ → Header → Header
+header_after (Some error) bytes header = header
+header_after None bytes header = header_in bytes
 
 -- the bytes of the transaction id
 abbrev pub id_of_message : List ℕ → Result (List ℕ) Refusal
@@ -46,10 +67,20 @@ abbrev pub next_answer : List ℕ → ℕ → ℤ
 next_answer bytes place = unless_no_message (refusal bytes) (place_number (next_member place bytes))
 
 -- a number of the caller, which the attribute that is found sets
-abbrev pub number_after : (TypedValue → ℕ) → Option StunParseError → Option Member → ℕ → ℕ
+abbrev pub number_after : {E : Type 0} → (TypedValue → ℕ) → Option E → Option Member → ℕ → ℕ
 number_after part (Some error) found number = number
 number_after part None None number = number
 number_after part None (Some m) number = part m.1
+
+-- why no attribute of a type is looked for: the type, then the message
+abbrev pub finding_refusal : ℕ → List ℕ → Option Refusal
+finding_refusal kind bytes = if nat_lt kind 65536 then option_map refusal_of_parse (refusal bytes) else Some BadArgument
+
+-- what `stun_find` answers of the attribute that it finds, if there is one
+abbrev pub find_answer : Option Refusal → Option Member → ℤ
+find_answer (Some refusal) found = code_of refusal
+find_answer None None = code_of NotFound
+find_answer None (Some m) = pos m.0
 
 -- the first attribute of a type as it is read, where it is there
 abbrev pub read_member : {A : Type 0} → ℕ → (TypedValue → Option A) → Option Member → Result A StunParseError
@@ -83,7 +114,58 @@ abbrev pub octets_of_message : List ℕ → Result (List ℕ) Refusal
 octets_of_message bytes = unless (option_map refusal_of_parse (refusal bytes)) (shown_octets (address_in bytes) (transaction_id_field bytes))
 
 -- the caller's port, which the address sets where its octets were written
-abbrev pub port_after : Result (List ℕ) Refusal → Result XoredAddress StunParseError → ℕ → ℕ
+abbrev pub port_after : {E : Type 0} → Result (List ℕ) Refusal → Result XoredAddress E → ℕ → ℕ
 port_after (Ok octets) (Ok address) port = xor_port address.port
 port_after (Ok octets) (Err error) port = port
 port_after (Err refusal) address port = port
+
+-- the address in an attribute of any type, still hidden: XOR-MAPPED-ADDRESS, XOR-PEER-ADDRESS and XOR-RELAYED-ADDRESS have one form
+-- (RFC 8656, sections 18.3 and 18.5)
+abbrev pub hidden_in : TypedValue → Option XoredAddress
+hidden_in attribute = xored_of (record { kind = XOR_MAPPED_ADDRESS; value = attribute.value })
+
+-- an address, unless it is malformed
+abbrev pub unless_malformed : Option XoredAddress → Result XoredAddress Refusal
+unless_malformed None = Err MalformedAttribute
+unless_malformed (Some address) = Ok address
+
+-- the address in the attribute at a place of a message, still hidden: the place is after the header, and the attribute is whole
+abbrev pub address_at : List ℕ → ℕ → Result XoredAddress Refusal
+address_at bytes place =
+    if nat_lt place HEADER_LENGTH || not (has_attribute (drop place bytes)) then Err BadArgument
+    else unless_malformed (hidden_in (first_attribute (drop place bytes)))
+
+-- its octets, shown under an id, or why there are none
+abbrev pub octets_shown : Result XoredAddress Refusal → ℕ → Result (List ℕ) Refusal
+octets_shown (Ok address) id = Ok (xor_bytes address.octets (xor_key id))
+octets_shown (Err refusal) id = Err refusal
+
+-- what `stun_read_xor_address` writes
+abbrev pub octets_at : List ℕ → ℕ → Result (List ℕ) Refusal
+octets_at bytes place = octets_shown (address_at bytes place) (transaction_id_field bytes)
+
+-- the octets of an address that is not hidden (RFC 8489, section 14.1), or why there are none
+abbrev pub plain_octets : Result XoredAddress Refusal → Result (List ℕ) Refusal
+plain_octets (Ok address) = Ok address.octets
+plain_octets (Err refusal) = Err refusal
+
+-- the caller's port, which such an address sets where its octets were written
+abbrev pub plain_port_after : Result (List ℕ) Refusal → Result XoredAddress Refusal → ℕ → ℕ
+plain_port_after (Ok octets) (Ok address) port = address.port
+plain_port_after (Ok octets) (Err refusal) port = port
+plain_port_after (Err refusal) address port = port
+
+-- a value of as many bytes as numbers have, or it is malformed
+abbrev pub sized : List ℕ → Result (List ℕ) Refusal
+sized value = if is_size (length value) then Ok value else Err MalformedAttribute
+
+-- the bytes of the number in the attribute at a place of a message, or why there are none
+abbrev pub sized_at : List ℕ → ℕ → Result (List ℕ) Refusal
+sized_at bytes place =
+    if nat_lt place HEADER_LENGTH || not (has_attribute (drop place bytes)) then Err BadArgument
+    else sized (first_attribute (drop place bytes)).value
+
+-- the caller's number, which these bytes set
+abbrev pub sized_after : Result (List ℕ) Refusal → ℕ → ℕ
+sized_after (Ok value) number = big_number (length value) value
+sized_after (Err refusal) number = number

@@ -1,10 +1,10 @@
 -- What the calls that write a message make of the caller's buffer: bytes, or the first refusal.
-use Rattle.std.specs.Prelude.{ℕ, ◌-◌, Bool, List, [], length, take, find, nat_lt, nat_le, not, ◌==◌, ◌&&◌, ◌||◌, if◌then◌else◌, is_some, Option, Some, None, Result, Ok, Err}
+use Rattle.std.specs.Prelude.{ℕ, ◌-◌, ◌^◌, Bool, List, [], length, take, find, nat_lt, nat_le, not, ◌==◌, ◌&&◌, ◌||◌, if◌then◌else◌, is_some, Option, Some, None, Result, Ok, Err}
 use Rattle.std.specs.Option.{option_or, option_map}
 use Rattle.std.specs.Str.{is_utf8}
-use Rattle.byteorder.specs.Endian.{big_number}
+use Rattle.byteorder.specs.Endian.{big_bytes, big_number}
 use Rattle.stun_base.specs.Algorithm.{digest_length}
-use Rattle.stun_base.specs.Attributes.{ERROR_CODE, XOR_MAPPED_ADDRESS}
+use Rattle.stun_base.specs.Attributes.{ERROR_CODE}
 use Rattle.stun_base.specs.Header.{transaction_id_field}
 use Rattle.stun_base.specs.MessageType.{class_of_bits, type_number}
 use Rattle.stun_base.specs.declared.algorithm.IntegrityAlgorithm.{IntegrityAlgorithm}
@@ -78,11 +78,38 @@ hidden_value octets port id =
 abbrev pub is_address : List ℕ → ℕ → Bool
 is_address octets port = nat_lt port 65536 && ((length octets == 4) || (length octets == 16))
 
--- what `stun_add_xor_mapped_address` makes
-abbrev pub added_address : List ℕ → ℕ → List ℕ → ℕ → Result (List ℕ) Refusal
-added_address buffer count octets port =
+-- what `stun_add_xor_mapped_address` makes with its type: an attribute with a value as XOR-MAPPED-ADDRESS has it
+abbrev pub added_address : List ℕ → ℕ → ℕ → List ℕ → ℕ → Result (List ℕ) Refusal
+added_address buffer count kind octets port =
     if is_address octets port
-    then added buffer count XOR_MAPPED_ADDRESS (hidden_value octets port (transaction_id_field (take count buffer))) else Err BadArgument
+    then added buffer count kind (hidden_value octets port (transaction_id_field (take count buffer))) else Err BadArgument
+
+-- what `stun_add_xor_address` makes, of a type that must be a number of 16 bits
+abbrev pub added_numbered_address : List ℕ → ℕ → ℕ → List ℕ → ℕ → Result (List ℕ) Refusal
+added_numbered_address buffer count kind octets port =
+    if nat_lt kind 65536 then added_address buffer count kind octets port else Err BadArgument
+
+-- the value of an address that is not hidden (section 14.1): the same form
+abbrev pub plain_value : List ℕ → ℕ → List ℕ
+plain_value octets port = xored_value (record { family = family_of_count (length octets); port = port; octets = octets })
+
+-- what `stun_add_address` makes, of a type that must be a number of 16 bits
+abbrev pub added_plain_address : List ℕ → ℕ → ℕ → List ℕ → ℕ → Result (List ℕ) Refusal
+added_plain_address buffer count kind octets port =
+    if is_address octets port then added_number buffer count kind (plain_value octets port) else Err BadArgument
+
+-- whether numbers are written in so many bytes
+abbrev pub is_size : ℕ → Bool
+is_size size = (size == 1) || (size == 2) || (size == 4) || (size == 8)
+
+-- whether this number is
+abbrev pub has_size : ℕ → ℕ → Bool
+has_size size number = is_size size && nat_lt number (256 ^ size)
+
+-- what `stun_add_number` makes: what `stun_add` does, of the number in so many bytes
+abbrev pub added_sized : List ℕ → ℕ → ℕ → ℕ → ℕ → Result (List ℕ) Refusal
+added_sized buffer count kind size number =
+    if has_size size number then added_number buffer count kind (big_bytes size number) else Err BadArgument
 
 -- why an error cannot be written: its code, then its reason (section 14.8)
 abbrev pub error_argument_refusal : ℕ → List ℕ → Option Refusal

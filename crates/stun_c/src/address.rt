@@ -1,14 +1,13 @@
-//! Addresses hidden under a transaction id (RFC 8489, section 14.2).
+//! Addresses, plain or hidden under a transaction id (RFC 8489, sections 14.1 and 14.2).
 
 ghost use Rattle.std.specs.Prelude.{◌≡◌, ◌≤◌, ◌<◌, ◌+◌, length, take, true, IfOk, IfErr, Some};
-ghost use Rattle.stun_base.specs.Attributes.{XOR_MAPPED_ADDRESS};
 ghost use Rattle.stun_base.specs.Header.{transaction_id_field};
 ghost use Rattle.stun_types.specs.XorMappedAddress.{xor_bytes, xor_key};
 ghost use Rattle.stun_c.specs.Answers.{written_number, buffer_after};
-ghost use Rattle.stun_c.specs.Writing.{added, added_address, base_refusal, hidden_value, is_address};
+ghost use Rattle.stun_c.specs.Writing.{added, added_address, added_plain_address, base_refusal, hidden_value, is_address, plain_value};
 
 use crate::codes::Refusal;
-use crate::writing::{add, base_message};
+use crate::writing::{add, add_numbered, base_message};
 use stun_base::attribute_type::AttributeType;
 use stun_base::header::MAGIC_COOKIE;
 use stun_base::transaction_id::TransactionId;
@@ -41,18 +40,27 @@ pub fn xor_key(id: TransactionId) -> [u8; 16]
     key
 }
 
-/// Writes the value that hides an address.
-#[tactic(auto, unfolding(crate::specs::Writing::hidden_value))]
-fn write_address(value: &mut [u8], octets: &[u8], port: u16, id: TransactionId)
-    requires short { length octets.now ≤ 16 }
-    requires room { length value.old ≡ 4 + length octets.now }
-    ensures { value.new ≡ hidden_value octets.now port id }
+/// Writes the value of an address.
+fn write_address(value: &mut [u8], octets: &[u8], port: u16)
+    requires { length value.old ≡ 4 + length octets.now }
+    ensures { value.new ≡ plain_value octets.now port }
 {
     let family = if octets.len() == 4 { IPV4 } else { IPV6 };
     let (front, back) = value.split_at_mut(4);
     front[..2].copy_from_slice(&[0, family]);
-    front[2..].copy_from_slice(&(port ^ PORT_KEY).to_be_bytes());
+    front[2..].copy_from_slice(&port.to_be_bytes());
     back.copy_from_slice(octets);
+}
+
+/// Writes the value that hides an address.
+#[tactic(auto, unfolding(crate::specs::Writing::hidden_value))]
+fn write_hidden(value: &mut [u8], octets: &[u8], port: u16, id: TransactionId)
+    requires short { length octets.now ≤ 16 }
+    requires room { length value.old ≡ 4 + length octets.now }
+    ensures { value.new ≡ hidden_value octets.now port id }
+{
+    write_address(value, octets, port ^ PORT_KEY);
+    let (_, back) = value.split_at_mut(4);
     xor_with(back, &xor_key(id));
 }
 
@@ -80,34 +88,57 @@ fn base_id(buffer: &[u8], count: usize) -> Result<TransactionId, Refusal>
     Ok(message.transaction_id())
 }
 
-/// Adds an XOR-MAPPED-ADDRESS of these octets to the message in the first `count` bytes of the buffer.
-fn add_hidden(buffer: &mut [u8], count: usize, octets: &[u8], port: u16) -> i64
+/// Adds an attribute of a type that hides these octets to the message in the first `count` bytes of the buffer.
+fn add_hidden(buffer: &mut [u8], count: usize, kind: AttributeType, octets: &[u8], port: u16) -> i64
     requires { length octets.now ≤ 16 }
-    ensures answer { result ≡ written_number (added buffer.old count XOR_MAPPED_ADDRESS
+    ensures answer { result ≡ written_number (added buffer.old count kind.0
         (hidden_value octets.now port (transaction_id_field (take count buffer.old)))) }
-    ensures written { buffer.new ≡ buffer_after (added buffer.old count XOR_MAPPED_ADDRESS
+    ensures written { buffer.new ≡ buffer_after (added buffer.old count kind.0
         (hidden_value octets.now port (transaction_id_field (take count buffer.old)))) buffer.old }
 {
     match base_id(buffer, count) {
         Ok(id) => {
             let mut longest = [0; 20];
             let value = &mut longest[..4 + octets.len()];
-            write_address(value, octets, port, id);
-            add(buffer, count, AttributeType::XOR_MAPPED_ADDRESS, value)
+            write_hidden(value, octets, port, id);
+            add(buffer, count, kind, value)
         }
         Err(refusal) => refusal.code(),
     }
 }
 
-/// Adds an XOR-MAPPED-ADDRESS to the message in the first `count` bytes of the buffer, and answers the new length or the
-/// number of the refusal.
-pub fn add_address(buffer: &mut [u8], count: usize, octets: &[u8], port: u32) -> i64
-    ensures answer { result ≡ written_number (added_address buffer.old count octets.now port) }
+/// Adds an attribute of a type with an address as XOR-MAPPED-ADDRESS has it to the message in the first `count` bytes of the
+/// buffer, and answers the new length or the number of the refusal.
+pub fn add_address(
+    buffer: &mut [u8],
+    count: usize,
+    kind: AttributeType,
+    octets: &[u8],
+    port: u32,
+) -> i64
+    ensures answer { result ≡ written_number (added_address buffer.old count kind.0 octets.now port) }
     ensures written { buffer.new ≡ buffer_after
-        (added_address buffer.old count octets.now port) buffer.old }
+        (added_address buffer.old count kind.0 octets.now port) buffer.old }
 {
     if !is_address(octets, port) {
         return Refusal::BadArgument.code();
     }
-    add_hidden(buffer, count, octets, port as u16)
+    add_hidden(buffer, count, kind, octets, port as u16)
+}
+
+/// Adds an attribute of a type with an address as MAPPED-ADDRESS has it to the message in the first
+/// `count` bytes of the buffer, and answers the new length or the number of the refusal.
+pub fn add_plain(buffer: &mut [u8], count: usize, kind: u32, octets: &[u8], port: u32) -> i64
+    ensures answer { result ≡ written_number
+        (added_plain_address buffer.old count kind octets.now port) }
+    ensures written { buffer.new ≡ buffer_after
+        (added_plain_address buffer.old count kind octets.now port) buffer.old }
+{
+    if !is_address(octets, port) {
+        return Refusal::BadArgument.code();
+    }
+    let mut longest = [0; 20];
+    let value = &mut longest[..4 + octets.len()];
+    write_address(value, octets, port as u16);
+    add_numbered(buffer, count, kind, value)
 }

@@ -1,10 +1,12 @@
 //! The numbers that callers get and give, as `include/stun.h` has them.
 
 ghost use Rattle.std.specs.Prelude.{◌≡◌, IfOk, IfErr, Some, None};
+ghost use Rattle.stun_base.specs.MessageType.{class_number};
 ghost use Rattle.stun_c.specs.Codes.{code_of, algorithm_number, algorithm_numbered};
 
 use stun_base::algorithm::IntegrityAlgorithm;
 use stun_base::error::{StunParseError, ValidateError};
+use stun_base::message_type::MessageClass;
 
 /// Why a call refuses. Each has a number below zero.
 #[derive(Debug, Clone, Copy, PartialEq, Eq)]
@@ -97,6 +99,18 @@ impl From<ValidateError> for Refusal {
             ValidateError::Parse(error) => Refusal::from(error),
             ValidateError::IntegrityFailed => Refusal::IntegrityFailed,
         }
+    }
+}
+
+/// The two bits of a class.
+pub fn class_number(class: MessageClass) -> u32
+    ensures { result ≡ class_number class }
+{
+    match class {
+        MessageClass::Request => 0,
+        MessageClass::Indication => 1,
+        MessageClass::Success => 2,
+        MessageClass::Error => 3,
     }
 }
 

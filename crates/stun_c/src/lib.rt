@@ -3,32 +3,47 @@
 //! Each calls the crates below, and its clause cites their definitions. None allocates, and calls share nothing.
 #![tactic(auto)]
 
-ghost use Rattle.std.specs.Prelude.{◌≡◌, length, pos};
+ghost use Rattle.std.specs.Prelude.{◌≡◌, ◌↔◌, ◌⊎◌, drop, length, pos, slice_get, IfNone, IfSome};
+ghost use Rattle.stun_base.specs.Attributes.{XOR_MAPPED_ADDRESS};
+ghost use Rattle.stun_base.specs.Header.{header_refusal};
+ghost use Rattle.stun_types.specs.Integrity.{first_of};
 ghost use Rattle.stun_types.specs.Message.{refusal};
+ghost use Rattle.stun_types.specs.Visible.{visible};
+ghost use Rattle.stun_extra.specs.Framing.{IsStunPacket, frame_of, packet_frame_of, turn_frame_of};
 ghost use Rattle.stun_c.specs.Answers.{parse_answer, verify_answer, fitted, written_number, buffer_after};
 ghost use Rattle.stun_c.specs.Codes.{algorithm_numbered};
-ghost use Rattle.stun_c.specs.Reading.{class_answer, method_answer, id_of_message, next_member, next_answer, number_after, error_answer, address_in, octets_of_message, port_after};
+ghost use Rattle.stun_c.specs.Extra.{fingerprint_answer, fingerprinted, known_refusal, told_number, types_after, unknown_made, unknown_of, wanted_number};
+ghost use Rattle.stun_c.specs.Reading.{address_at, octets_at, class_answer, method_answer, id_of_message, next_member, next_answer, number_after, error_answer, address_in, octets_of_message, plain_octets, plain_port_after, port_after, sized_after, sized_at, find_answer, finding_refusal, header_answer, header_after};
 ghost use Rattle.stun_c.specs.Requests.{signed_request, key_of_texts, userhash_of_texts};
-ghost use Rattle.stun_c.specs.Writing.{begun, added_number, added_address, added_error, signed};
+ghost use Rattle.stun_c.specs.Walking.{ahead, cursor_refusal, walk_answer};
+ghost use Rattle.stun_c.specs.Writing.{begun, added_number, added_sized, added_address, added_numbered_address, added_plain_address, added_error, signed};
 
 mod address;
 mod buffer;
 mod codes;
+mod fingerprint;
+mod framing;
+mod header;
 mod keys;
 pub mod laws;
+mod number;
 mod reading;
 mod request;
 mod text;
+mod unknown;
 mod verdict;
+mod walk;
 mod writing;
 
 use buffer::fill;
 use codes::{Refusal, algorithm_number};
+use header::Header;
 use keys::{userhash_of_texts, write_key};
 use request::{LONGEST_REQUEST, signed_request};
 use stun_base::attribute_type::AttributeType;
 use stun_types::message::Message;
 use verdict::verdict;
+use walk::Cursor;
 
 /// Whether the bytes are a message: 0, or why they are none.
 #[unsafe(no_mangle)]
@@ -133,10 +148,42 @@ pub extern "C" fn stun_add(buffer: &mut [u8], count: usize, kind: u32, value: &[
     ensures written { buffer.new ≡ buffer_after
         (added_number buffer.old count kind value.now) buffer.old }
 {
-    if kind >= 65536 {
-        return Refusal::BadArgument.code();
-    }
-    writing::add(buffer, count, AttributeType::new(kind as u16), value)
+    writing::add_numbered(buffer, count, kind, value)
+}
+
+/// Adds an attribute with a number of so many bytes to the message in the first bytes of a buffer,
+/// and answers the new length.
+#[unsafe(no_mangle)]
+pub extern "C" fn stun_add_number(
+    buffer: &mut [u8],
+    count: usize,
+    kind: u32,
+    number: u64,
+    size: usize,
+) -> i64
+    ensures answer { result ≡ written_number (added_sized buffer.old count kind size number) }
+    ensures written { buffer.new ≡ buffer_after
+        (added_sized buffer.old count kind size number) buffer.old }
+{
+    number::add_number(buffer, count, kind, number, size)
+}
+
+/// Adds an attribute of a type with an address, as MAPPED-ADDRESS has it, to the message in the first
+/// bytes of a buffer, and answers the new length.
+#[unsafe(no_mangle)]
+pub extern "C" fn stun_add_address(
+    buffer: &mut [u8],
+    count: usize,
+    kind: u32,
+    octets: &[u8],
+    port: u32,
+) -> i64
+    ensures answer { result ≡ written_number
+        (added_plain_address buffer.old count kind octets.now port) }
+    ensures written { buffer.new ≡ buffer_after
+        (added_plain_address buffer.old count kind octets.now port) buffer.old }
+{
+    address::add_plain(buffer, count, kind, octets, port)
 }
 
 /// Adds an XOR-MAPPED-ADDRESS to the message in the first bytes of a buffer, and answers the new length.
@@ -147,11 +194,39 @@ pub extern "C" fn stun_add_xor_mapped_address(
     octets: &[u8],
     port: u32,
 ) -> i64
-    ensures answer { result ≡ written_number (added_address buffer.old count octets.now port) }
+    ensures answer { result ≡ written_number
+        (added_address buffer.old count XOR_MAPPED_ADDRESS octets.now port) }
     ensures written { buffer.new ≡ buffer_after
-        (added_address buffer.old count octets.now port) buffer.old }
+        (added_address buffer.old count XOR_MAPPED_ADDRESS octets.now port) buffer.old }
 {
-    address::add_address(buffer, count, octets, port)
+    address::add_address(
+        buffer,
+        count,
+        AttributeType::XOR_MAPPED_ADDRESS,
+        octets,
+        port,
+    )
+}
+
+/// Adds an attribute of a type with an address, hidden as in XOR-MAPPED-ADDRESS, to the message in the first bytes of a buffer,
+/// and answers the new length.
+#[unsafe(no_mangle)]
+pub extern "C" fn stun_add_xor_address(
+    buffer: &mut [u8],
+    count: usize,
+    kind: u32,
+    octets: &[u8],
+    port: u32,
+) -> i64
+    ensures answer { result ≡ written_number
+        (added_numbered_address buffer.old count kind octets.now port) }
+    ensures written { buffer.new ≡ buffer_after
+        (added_numbered_address buffer.old count kind octets.now port) buffer.old }
+{
+    if kind >= 65536 {
+        return Refusal::BadArgument.code();
+    }
+    address::add_address(buffer, count, AttributeType::new(kind as u16), octets, port)
 }
 
 /// Adds an ERROR-CODE to the message in the first bytes of a buffer, and answers the new length.
@@ -173,6 +248,15 @@ pub extern "C" fn stun_sign(buffer: &mut [u8], count: usize, algorithm: u32, key
         (signed buffer.old count (algorithm_numbered algorithm) key.now) buffer.old }
 {
     writing::sign(buffer, count, algorithm, key)
+}
+
+/// Writes what the header says that the bytes begin with, and answers 0, or why they begin with none.
+#[unsafe(no_mangle)]
+pub extern "C" fn stun_read_header(bytes: &[u8], header: &mut Header) -> i64
+    ensures answer { result ≡ header_answer bytes.now }
+    ensures written { header.new ≡ header_after (header_refusal bytes.now) bytes.now header.old }
+{
+    header::read_header(bytes, header)
 }
 
 /// The class of a message, from 0 to 3, or why the bytes are none.
@@ -219,6 +303,44 @@ pub extern "C" fn stun_next(
     reading::next(message, place, kind, value_length)
 }
 
+/// The place of the first visible attribute that is before a cursor, with its type and its value's length, or 0 where there
+/// is none; the cursor goes past it.
+#[unsafe(no_mangle)]
+pub extern "C" fn stun_walk(
+    message: &[u8],
+    cursor: &mut Cursor,
+    kind: &mut u16,
+    value_length: &mut usize,
+) -> i64
+    ensures answer { result ≡ walk_answer (cursor_refusal cursor.old message.now)
+        (slice_get (ahead cursor.old message.now) 0) }
+    ensures kind { kind.new ≡ number_after (λ a. a.kind) (cursor_refusal cursor.old message.now)
+        (slice_get (ahead cursor.old message.now) 0) kind.old }
+    ensures value_length { value_length.new ≡ number_after (λ a. length a.value)
+        (cursor_refusal cursor.old message.now)
+        (slice_get (ahead cursor.old message.now) 0) value_length.old }
+    ensures goes_on { IfNone (cursor_refusal cursor.old message.now)
+        (cursor_refusal cursor.new message.now ≡ None) }
+    ensures rest { IfNone (cursor_refusal cursor.old message.now)
+        (ahead cursor.new message.now ≡ drop 1 (ahead cursor.old message.now)) }
+    ensures refused { IfSome (cursor_refusal cursor.old message.now)
+        (λ _. cursor.new ≡ cursor.old) }
+{
+    walk::walk(message, cursor, kind, value_length)
+}
+
+/// The place of the first visible attribute of a type, with its value's length, or why there is none.
+#[unsafe(no_mangle)]
+pub extern "C" fn stun_find(message: &[u8], kind: u32, value_length: &mut usize) -> i64
+    ensures answer { result ≡ find_answer (finding_refusal kind message.now)
+        (first_of kind (visible message.now)) }
+    ensures value_length { value_length.new ≡ number_after (λ a. length a.value)
+        (finding_refusal kind message.now)
+        (first_of kind (visible message.now)) value_length.old }
+{
+    reading::find(message, kind, value_length)
+}
+
 /// The code of the error that a message reports, or why it reports none.
 #[unsafe(no_mangle)]
 pub extern "C" fn stun_error_code(message: &[u8]) -> i64
@@ -238,4 +360,124 @@ pub extern "C" fn stun_xor_mapped_address(message: &[u8], out: &mut [u8], port: 
         (address_in message.now) port.old }
 {
     reading::mapped_address(message, out, port)
+}
+
+/// Writes the address in the attribute at a place of a message, hidden as in XOR-MAPPED-ADDRESS, 4 or 16 octets, and its port,
+/// and answers how many octets there are.
+#[unsafe(no_mangle)]
+pub extern "C" fn stun_read_xor_address(
+    message: &[u8],
+    place: usize,
+    out: &mut [u8],
+    port: &mut u16,
+) -> i64
+    ensures answer { result ≡ written_number (fitted (octets_at message.now place)
+        (length out.old)) }
+    ensures written { out.new ≡ buffer_after (fitted (octets_at message.now place)
+        (length out.old)) out.old }
+    ensures port { port.new ≡ port_after (fitted (octets_at message.now place) (length out.old))
+        (address_at message.now place) port.old }
+{
+    reading::address_at(message, place, out, port)
+}
+
+/// Writes the address in the attribute at a place of a message, as MAPPED-ADDRESS has it, 4 or 16
+/// octets, and its port, and answers how many octets there are.
+#[unsafe(no_mangle)]
+pub extern "C" fn stun_read_address(
+    message: &[u8],
+    place: usize,
+    out: &mut [u8],
+    port: &mut u16,
+) -> i64
+    ensures answer { result ≡ written_number (fitted (plain_octets (address_at message.now place))
+        (length out.old)) }
+    ensures written { out.new ≡ buffer_after (fitted (plain_octets (address_at message.now place))
+        (length out.old)) out.old }
+    ensures port { port.new ≡ plain_port_after
+        (fitted (plain_octets (address_at message.now place)) (length out.old))
+        (address_at message.now place) port.old }
+{
+    reading::plain_at(message, place, out, port)
+}
+
+/// Writes the number in the attribute at a place of a message, 1, 2, 4 or 8 bytes, and answers how many they are.
+#[unsafe(no_mangle)]
+pub extern "C" fn stun_read_number(message: &[u8], place: usize, number: &mut u64) -> i64
+    ensures answer { result ≡ written_number (sized_at message.now place) }
+    ensures number { number.new ≡ sized_after (sized_at message.now place) number.old }
+{
+    number::number_at(message, place, number)
+}
+
+/// What the FINGERPRINT of a message is: 0 where it has none, 1 right, 2 wrong, 3 misplaced, or why the bytes are no message.
+#[unsafe(no_mangle)]
+pub extern "C" fn stun_check_fingerprint(message: &[u8]) -> i64
+    ensures { result ≡ fingerprint_answer message.now }
+{
+    fingerprint::check(message)
+}
+
+/// Adds FINGERPRINT to the message in the first bytes of a buffer, and answers the new length.
+#[unsafe(no_mangle)]
+pub extern "C" fn stun_add_fingerprint(buffer: &mut [u8], count: usize) -> i64
+    ensures answer { result ≡ written_number (fingerprinted buffer.old count) }
+    ensures written { buffer.new ≡ buffer_after (fingerprinted buffer.old count) buffer.old }
+{
+    fingerprint::add(buffer, count)
+}
+
+/// How many types a message has that must be understood and are not among the known; the first of them are written.
+#[unsafe(no_mangle)]
+pub extern "C" fn stun_unknown_types(message: &[u8], known: &[u16], types: &mut [u16]) -> i64
+    ensures answer { result ≡ told_number (known_refusal message.now known.now)
+        (unknown_of message.now known.now) }
+    ensures types { types.new ≡ types_after (known_refusal message.now known.now)
+        (unknown_of message.now known.now) types.old }
+{
+    unknown::types(message, known, types)
+}
+
+/// Writes the answer 420 to a request that has such types, and answers its length, or 0 where it has none.
+#[unsafe(no_mangle)]
+pub extern "C" fn stun_refuse_unknown(request: &[u8], known: &[u16], out: &mut [u8]) -> i64
+    ensures answer { result ≡ written_number (fitted (unknown_made request.now known.now)
+        (length out.old)) }
+    ensures written { out.new ≡ buffer_after (fitted (unknown_made request.now known.now)
+        (length out.old)) out.old }
+{
+    unknown::refuse(request, known, out)
+}
+
+/// 1 where a packet is to be given to STUN, or 0.
+#[unsafe(no_mangle)]
+pub extern "C" fn stun_is_stun(packet: &[u8]) -> i64
+    ensures yes { (result ≡ pos 1) ↔ IsStunPacket packet.now }
+    ensures no { (result ≡ pos 1) ⊎ (result ≡ pos 0) }
+{
+    framing::is_stun_packet(packet)
+}
+
+/// How many bytes the message has that a stream begins with, or its header, where that is not whole, or why it is none.
+#[unsafe(no_mangle)]
+pub extern "C" fn stun_next_frame(bytes: &[u8]) -> i64
+    ensures { result ≡ wanted_number (length bytes.now) (frame_of bytes.now) }
+{
+    framing::next_frame(bytes)
+}
+
+/// The same of a packet behind its length in 2 bytes, which counts too.
+#[unsafe(no_mangle)]
+pub extern "C" fn stun_next_packet_frame(bytes: &[u8]) -> i64
+    ensures { result ≡ wanted_number (length bytes.now) (packet_frame_of bytes.now) }
+{
+    framing::next_packet_frame(bytes)
+}
+
+/// The same of a message or ChannelData, with its header and its padding.
+#[unsafe(no_mangle)]
+pub extern "C" fn stun_next_turn_frame(bytes: &[u8]) -> i64
+    ensures { result ≡ wanted_number (length bytes.now) (turn_frame_of bytes.now) }
+{
+    framing::next_turn_frame(bytes)
 }

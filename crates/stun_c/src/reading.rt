@@ -1,6 +1,6 @@
 //! Messages read: their fields, their attributes by place, and the error and the address that they report.
 
-ghost use Rattle.std.specs.Prelude.{◌≡◌, ◌≤◌, ℕ, length, IfOk, IfErr, IfSome, IfNone, IsOkAnd, Some, None, Ok, Err, slice_index, true};
+ghost use Rattle.std.specs.Prelude.{◌≡◌, ◌≤◌, ℕ, length, IfOk, IfErr, IfSome, IfNone, IsOkAnd, OnOk, Some, None, Ok, Err, slice_index, true};
 ghost use Rattle.stun_base.specs.Header.{transaction_id_field};
 ghost use Rattle.stun_types.specs.Integrity.{first_of as first_member_of};
 ghost use Rattle.stun_types.specs.Message.{refusal};
@@ -8,15 +8,18 @@ ghost use Rattle.stun_types.specs.Visible.{visible};
 ghost use Rattle.stun_types.specs.XorMappedAddress.{has_octets, xor_bytes, xor_key, xor_port, xored_of};
 ghost use Rattle.stun_c.specs.Answers.{fitted, written_number, buffer_after};
 ghost use Rattle.stun_c.specs.Codes.{refusal_of_attribute};
-ghost use Rattle.stun_c.specs.Reading.{class_answer, method_answer, id_of_message, next_member, next_answer, number_after, error_in, error_answer, address_in, octets_of_message, port_after, shown_octets};
+ghost use Rattle.stun_c.specs.Reading.{address_at, octets_at, class_answer, method_answer, id_of_message, next_member, next_answer, number_after, error_in, error_answer, address_in, octets_of_message, plain_octets, plain_port_after, port_after, shown_octets, find_answer, finding_refusal};
 
 use crate::address::{IPV4, IPV6, PORT_KEY, xor_key, xor_with};
 use crate::buffer::fill;
-use crate::codes::Refusal;
+use crate::codes::{Refusal, class_number};
+use crate::request::transaction_id;
+use crate::walk::attribute_at;
 use byteorder::{BigEndian, ByteOrder};
 use stun_base::attribute_type::AttributeType;
 use stun_base::error::StunParseError;
-use stun_base::message_type::MessageClass;
+use stun_base::header::HEADER_LENGTH;
+use stun_base::transaction_id::TransactionId;
 use stun_types::attribute::{ErrorCode, RawAttribute};
 use stun_types::message::Message;
 use stun_types::prelude::*;
@@ -26,12 +29,7 @@ pub fn class(message: &[u8]) -> i64
     ensures { result ≡ class_answer message.now }
 {
     match Message::from_bytes(message) {
-        Ok(message) => match message.class() {
-            MessageClass::Request => 0,
-            MessageClass::Indication => 1,
-            MessageClass::Success => 2,
-            MessageClass::Error => 3,
-        },
+        Ok(message) => i64::from(class_number(message.class())),
         Err(error) => Refusal::from(error).code(),
     }
 }
@@ -145,11 +143,35 @@ fn has_octets(family: u8, count: usize) -> bool
 
 /// The first visible attribute of a type, with its place.
 fn first_of<'a>(message: &Message<'a>, kind: AttributeType) -> Option<(usize, RawAttribute<'a>)>
-    ensures { result ≡ first_member_of kind.0 (visible message.now) }
+    ensures first { result ≡ first_member_of kind.0 (visible message.now) }
+    ensures within { IfSome result (λ m. m.0 ≤ length message.now) }
 {
     message
         .iter_attributes()
         .find(|found| found.1.get_type() == kind)
+}
+
+/// The place of the first visible attribute of a type, or the number of the refusal. The length of its value is written.
+pub fn find(message: &[u8], kind: u32, value_length: &mut usize) -> i64
+    ensures answer { result ≡ find_answer (finding_refusal kind message.now)
+        (first_member_of kind (visible message.now)) }
+    ensures value_length { value_length.new ≡ number_after (λ a. length a.value)
+        (finding_refusal kind message.now)
+        (first_member_of kind (visible message.now)) value_length.old }
+{
+    if kind >= 65536 {
+        return Refusal::BadArgument.code();
+    }
+    match Message::from_bytes(message) {
+        Ok(message) => match first_of(&message, AttributeType::new(kind as u16)) {
+            Some((place, attribute)) => {
+                *value_length = attribute.length();
+                place as i64
+            }
+            None => Refusal::MissingAttribute.code(),
+        },
+        Err(error) => Refusal::from(error).code(),
+    }
 }
 
 /// The port and the octets of an XOR-MAPPED-ADDRESS, still hidden, where it is well formed.
@@ -236,6 +258,115 @@ pub fn mapped_address(message: &[u8], out: &mut [u8], port: &mut u16) -> i64
                 return Refusal::BufferTooSmall.code();
             }
             *port = shown;
+            fill(out, octets)
+        }
+        Err(refusal) => refusal.code(),
+    }
+}
+
+/// The port and the octets in the attribute at a place of a message, still hidden, or why there are none.
+#[tactic(auto, using(crate::proofs::Members::header_before))]
+fn hidden_at(message: &[u8], place: usize) -> Result<(u16, &[u8]), Refusal>
+    ensures ok { IfOk result (λ parts. octets_at message.now place
+        ≡ Ok (xor_bytes parts.1.now (xor_key (transaction_id_field message.now)))) }
+    ensures plain { IfOk result (λ parts. plain_octets (address_at message.now place)
+        ≡ Ok parts.1.now) }
+    ensures port { IfOk result (λ parts. IsOkAnd (address_at message.now place)
+        (λ a. a.port ≡ parts.0)) }
+    ensures short { IfOk result (λ parts. length parts.1.now ≤ 16) }
+    ensures header { OnOk result (20 ≤ length message.now) }
+    ensures err { IfErr result (λ refusal. octets_at message.now place ≡ Err refusal) }
+    ensures plain_err { IfErr result (λ refusal. plain_octets (address_at message.now place)
+        ≡ Err refusal) }
+{
+    if place < HEADER_LENGTH {
+        return Err(Refusal::BadArgument);
+    }
+    let Some(attribute) = attribute_at(message, place) else {
+        return Err(Refusal::BadArgument);
+    };
+    let attribute = RawAttribute::new(AttributeType::XOR_MAPPED_ADDRESS, attribute.value());
+    match hidden_parts(&attribute) {
+        Some(parts) => Ok(parts),
+        None => Err(Refusal::MalformedAttribute),
+    }
+}
+
+/// The transaction id in a header.
+fn id_in(message: &[u8]) -> TransactionId
+    requires { 20 ≤ length message.now }
+    ensures { result ≡ transaction_id_field message.now }
+{
+    transaction_id(&message[8..20]).unwrap()
+}
+
+/// What hides addresses under the id in a header.
+fn key_in(message: &[u8]) -> [u8; 16]
+    requires { 20 ≤ length message.now }
+    ensures { result ≡ xor_key (transaction_id_field message.now) }
+{
+    let id = id_in(message);
+    xor_key(id)
+}
+
+/// The port and the octets in the attribute at a place of a message, shown in a place for sixteen, or why there are none.
+fn shown_at<'a>(
+    message: &[u8],
+    place: usize,
+    room: &'a mut [u8],
+) -> Result<(u16, &'a [u8]), Refusal>
+    requires { length room.old ≡ 16 }
+    ensures ok { IfOk result (λ parts. octets_at message.now place ≡ Ok parts.1.now) }
+    ensures port { IfOk result (λ parts. IsOkAnd (address_at message.now place)
+        (λ a. parts.0 ≡ xor_port a.port)) }
+    ensures err { IfErr result (λ refusal. octets_at message.now place ≡ Err refusal) }
+{
+    let (port, octets) = hidden_at(message, place)?;
+    let shown = &mut room[..octets.len()];
+    shown.copy_from_slice(octets);
+    xor_with(shown, &key_in(message));
+    Ok((port ^ PORT_KEY, shown))
+}
+
+/// Copies the octets of the address in the attribute at a place of a message to the front of the buffer and its port to the
+/// caller's, and answers how many octets there are or the number of the refusal.
+pub fn address_at(message: &[u8], place: usize, out: &mut [u8], port: &mut u16) -> i64
+    ensures answer { result ≡ written_number (fitted (octets_at message.now place)
+        (length out.old)) }
+    ensures written { out.new ≡ buffer_after (fitted (octets_at message.now place)
+        (length out.old)) out.old }
+    ensures port { port.new ≡ port_after (fitted (octets_at message.now place) (length out.old))
+        (address_at message.now place) port.old }
+{
+    let mut room = [0; 16];
+    match shown_at(message, place, &mut room) {
+        Ok((shown, octets)) => {
+            if out.len() < octets.len() {
+                return Refusal::BufferTooSmall.code();
+            }
+            *port = shown;
+            fill(out, octets)
+        }
+        Err(refusal) => refusal.code(),
+    }
+}
+
+/// The same of an address that is not hidden.
+pub fn plain_at(message: &[u8], place: usize, out: &mut [u8], port: &mut u16) -> i64
+    ensures answer { result ≡ written_number (fitted (plain_octets (address_at message.now place))
+        (length out.old)) }
+    ensures written { out.new ≡ buffer_after (fitted (plain_octets (address_at message.now place))
+        (length out.old)) out.old }
+    ensures port { port.new ≡ plain_port_after
+        (fitted (plain_octets (address_at message.now place)) (length out.old))
+        (address_at message.now place) port.old }
+{
+    match hidden_at(message, place) {
+        Ok((plain, octets)) => {
+            if out.len() < octets.len() {
+                return Refusal::BufferTooSmall.code();
+            }
+            *port = plain;
             fill(out, octets)
         }
         Err(refusal) => refusal.code(),

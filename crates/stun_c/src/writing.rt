@@ -13,7 +13,7 @@ ghost use Rattle.stun_types.specs.Writing.{is_set_apart, integrity_kind, with_at
 ghost use Rattle.stun_c.specs.Answers.{fitted, written_number, buffer_after};
 ghost use Rattle.stun_c.specs.Codes.{algorithm_numbered};
 ghost use Rattle.stun_c.specs.code.Room.{HasRoom};
-ghost use Rattle.stun_c.specs.Writing.{begun, base_refusal, fit_refusal, adding_refusal, signing_refusal, added, added_error, error_argument_refusal, signed, is_closed, shows_kind};
+ghost use Rattle.stun_c.specs.Writing.{begun, base_refusal, fit_refusal, adding_refusal, signing_refusal, added, added_number, added_error, error_argument_refusal, signed, is_closed, shows_kind};
 
 use crate::buffer::fill;
 use crate::codes::{Refusal, algorithm_numbered};
@@ -50,7 +50,7 @@ fn is_closed(message: &Message<'_>) -> bool
 }
 
 /// Whether the message has a visible attribute of this type.
-fn shows_kind(message: &Message<'_>, kind: AttributeType) -> bool
+pub fn shows_kind(message: &Message<'_>, kind: AttributeType) -> bool
     ensures { result ≡ shows_kind kind.0 message.now }
 {
     message
@@ -77,7 +77,7 @@ pub fn base_message(buffer: &[u8], count: usize) -> Result<Message<'_>, Refusal>
 }
 
 /// Whether a value of so many bytes fits after a message with so much room: the length field first, then the room.
-fn fits(message: &Message<'_>, room: usize, value_length: usize) -> Result<(), Refusal>
+pub fn fits(message: &Message<'_>, room: usize, value_length: usize) -> Result<(), Refusal>
     ensures ok { OnOk result (fit_refusal message.now room value_length ≡ None) }
     ensures header { OnOk result (20 ≤ length message.now) }
     ensures room { OnOk result (attribute_length value_length ≤ room) }
@@ -120,7 +120,7 @@ fn addable(
 }
 
 /// Sets the length field of a message.
-fn set_length(message: &mut [u8], data_length: u16)
+pub fn set_length(message: &mut [u8], data_length: u16)
     requires { 20 ≤ length message.old }
     ensures { message.new ≡ with_length message.old data_length }
 {
@@ -128,7 +128,7 @@ fn set_length(message: &mut [u8], data_length: u16)
 }
 
 /// Writes the header of an attribute.
-fn write_header(header: &mut [u8], kind: AttributeType, value_length: usize)
+pub fn write_header(header: &mut [u8], kind: AttributeType, value_length: usize)
     requires whole { length header.old ≡ 4 }
     requires short { value_length ≤ max_length }
     ensures { header.new ≡ big_bytes 2 kind.0 ++ big_bytes 2 value_length }
@@ -138,14 +138,14 @@ fn write_header(header: &mut [u8], kind: AttributeType, value_length: usize)
 }
 
 /// Writes zeros.
-fn write_zeros(padding: &mut [u8])
+pub fn write_zeros(padding: &mut [u8])
     ensures { padding.new ≡ replicate (length padding.old) 0 }
 {
     padding.fill(0);
 }
 
 /// Writes an attribute with its header and its padding to the front of a buffer that has room for it.
-fn spell(buffer: &mut [u8], kind: AttributeType, value: &[u8])
+pub fn spell(buffer: &mut [u8], kind: AttributeType, value: &[u8])
     requires short { length value.now ≤ max_length }
     requires room { attribute_length (length value.now) ≤ length buffer.old }
     ensures { buffer.new ≡ spelled_attribute (record { kind = kind.0; value = value.now })
@@ -162,7 +162,7 @@ fn spell(buffer: &mut [u8], kind: AttributeType, value: &[u8])
 
 /// Raises the length field of the message at the front of the buffer and writes the attribute after it. The answer is
 /// where that ends.
-fn append(buffer: &mut [u8], count: usize, kind: AttributeType, value: &[u8]) -> i64
+pub(crate) fn append(buffer: &mut [u8], count: usize, kind: AttributeType, value: &[u8]) -> i64
     requires { HasRoom count (length value.now) (length buffer.old) }
     ensures answer { result ≡ pos (count + attribute_length (length value.now)) }
     ensures written { buffer.new ≡ with_attribute (take count buffer.old)
@@ -187,6 +187,18 @@ pub fn add(buffer: &mut [u8], count: usize, kind: AttributeType, value: &[u8]) -
         Ok(()) => append(buffer, count, kind, value),
         Err(refusal) => refusal.code(),
     }
+}
+
+/// The same of a type that must be a number of 16 bits.
+pub fn add_numbered(buffer: &mut [u8], count: usize, kind: u32, value: &[u8]) -> i64
+    ensures answer { result ≡ written_number (added_number buffer.old count kind value.now) }
+    ensures written { buffer.new ≡ buffer_after
+        (added_number buffer.old count kind value.now) buffer.old }
+{
+    if kind >= 65536 {
+        return Refusal::BadArgument.code();
+    }
+    add(buffer, count, AttributeType::new(kind as u16), value)
 }
 
 /// Writes the integrity attribute of a text to the front of a buffer that has room for it.
@@ -328,7 +340,7 @@ pub fn begin(class: u32, method: u32, id: &[u8], out: &mut [u8]) -> i64
 }
 
 /// Writes the value of an ERROR-CODE.
-fn write_error(value: &mut [u8], code: u16, reason: &[u8])
+pub fn write_error(value: &mut [u8], code: u16, reason: &[u8])
     requires code { code < 700 }
     requires room { length value.old ≡ 4 + length reason.now }
     ensures { value.new ≡ error_value (record { code = code; reason = reason.now }) }

@@ -5,11 +5,8 @@ use Rattle.stun_base.specs.Attributes.{FINGERPRINT}
 use Rattle.stun_inspect.specs.declared.fingerprint.Fingerprint.{Fingerprint}
 use Rattle.stun_inspect.specs.declared.fingerprint.Fingerprint.TheVariants.{Right, Wrong, Misplaced}
 use Rattle.stun_inspect.specs.declared.telling.Told.{Told}
-use Rattle.stun_inspect.specs.Crc32.{crc32}
-
--- the number with which the CRC-32 of a message is XORed
-abbrev pub FINGERPRINT_XOR : ℕ
-FINGERPRINT_XOR = 0x5354554E
+use Rattle.stun_extra.specs.Crc32.{crc32}
+use Rattle.stun_extra.specs.Fingerprint.{FINGERPRINT_XOR}
 
 -- whether the attribute of this value at this place has the four bytes of a CRC-32, and the message ends with it
 abbrev pub is_in_place : List ℕ → ℕ → List ℕ → Bool

@@ -2,10 +2,6 @@
 use Rattle.std.specs.Prelude.{ℕ, Bool, List, length, drop, nat_le, nat_lt, ◌==◌, ◌&&◌}
 use Rattle.byteorder.specs.Endian.{big_number}
 
--- the most bytes of an input
-abbrev pub INPUT_LIMIT : ℕ
-INPUT_LIMIT = 1048576
-
 -- whether bytes are taken as they are: their first two bits are zero, and the magic cookie follows type and length
 -- (RFC 8489, section 5)
 abbrev pub is_raw : List ℕ → Bool

@@ -1,4 +1,5 @@
--- What each command prints where it has an answer.
+-- What each command prints where it has an answer, over a reader and a writer that tell contracts
+-- their bytes. Real standard input and output do not.
 use Rattle.std.specs.Prelude.{◌≡◌, ◌≢◌, ℕ, List, [], ◌∷◌, ◌++◌, codes, true, Option, Some, None, Result, IfSome, IfOk}
 use Rattle.std.specs.Io.KnownBytes.{Appends}
 use Rattle.hex.specs.Hex.{encode_lower}
@@ -8,11 +9,11 @@ use Rattle.stun_inspect.specs.declared.command.Command.{Command}
 use Rattle.stun_inspect.specs.declared.command.Command.TheVariants.{Help, Version, Decode, Verify, Key, Userhash, Nonce}
 use Rattle.stun_inspect.specs.declared.command.User.{User}
 use Rattle.stun_inspect.specs.declared.failure.Failure.{Failure}
-use Rattle.stun_inspect.specs.declared.status.Status.{Status}
-use Rattle.stun_inspect.specs.declared.status.Status.TheVariants.{Good}
+use Rattle.stun_cli.specs.declared.status.Status.{Status}
+use Rattle.stun_cli.specs.declared.status.Status.TheVariants.{Good}
 use Rattle.stun_inspect.specs.Decode.{PrintsDecoded}
 use Rattle.stun_inspect.specs.Input.{is_raw}
-use Rattle.stun_inspect.specs.Verdict.{verdict_of}
+use Rattle.stun_cli.specs.Verdict.{verdict_of}
 use Rattle.stun_inspect.specs.Verify.{PrintsVerdict}
 
 -- the key for each algorithm of a user at a realm, or of a password alone (RFC 8489, sections 9.1.1 and 9.2.2)

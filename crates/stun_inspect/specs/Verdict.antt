@@ -1,60 +1,16 @@
--- What `verify` says of bytes under keys, and how it says it.
-use Rattle.std.specs.Prelude.{ℕ, List, [], ◌∷◌, ◌++◌, codes, Option, Some, None}
-use Rattle.stun_base.specs.declared.error.StunParseError.{StunParseError}
-use Rattle.stun_base.specs.declared.error.StunParseError.TheVariants.{Truncated, NotStun, TooLarge, MissingAttribute, InvalidAttributeData}
-use Rattle.stun_base.specs.declared.error.ValidateError.{ValidateError}
-use Rattle.stun_base.specs.declared.error.ValidateError.TheVariants.{Parse, IntegrityFailed}
-use Rattle.stun_base.specs.declared.algorithm.IntegrityAlgorithm.{IntegrityAlgorithm}
+-- How `verify` says what holds of a message.
+use Rattle.std.specs.Prelude.{ℕ, List, [], ◌∷◌, ◌++◌, codes}
 use Rattle.stun_base.specs.declared.algorithm.IntegrityAlgorithm.TheVariants.{Sha1, Sha256}
-use Rattle.stun_types.specs.Message.{refusal}
-use Rattle.stun_types.specs.Integrity.{verified_by, integrity_refusal}
-use Rattle.stun_inspect.specs.declared.verdict.Verdict.{Verdict}
-use Rattle.stun_inspect.specs.declared.verdict.Verdict.TheVariants.{Valid, OtherDigest, NoIntegrity, MalformedIntegrity, NotAMessage}
-use Rattle.stun_inspect.specs.declared.status.Status.{Status}
-use Rattle.stun_inspect.specs.declared.status.Status.TheVariants.{Good, Bad}
+use Rattle.stun_cli.specs.declared.verdict.Verdict.{Verdict}
+use Rattle.stun_cli.specs.declared.verdict.Verdict.TheVariants.{Valid, OtherDigest, NoIntegrity, MalformedIntegrity, NotAMessage, BadInput}
+use Rattle.stun_cli.specs.Verdict.{refusal_line}
 
--- where no digest verifies: an integrity attribute is missing or malformed, or its digest is another
-abbrev pub verdict_without_digest : ValidateError → Verdict
-verdict_without_digest (Parse (MissingAttribute _)) = NoIntegrity
-verdict_without_digest (Parse _) = MalformedIntegrity
-verdict_without_digest IntegrityFailed = OtherDigest
-
--- on a message: the algorithm whose digest verifies, if one does
-abbrev pub verdict_on_integrity : Option IntegrityAlgorithm → ValidateError → Verdict
-verdict_on_integrity (Some algorithm) error = Valid algorithm
-verdict_on_integrity None error = verdict_without_digest error
-
--- on bytes: what refuses them as a message, if anything does
-abbrev pub verdict_on_refusal : Option StunParseError → Verdict → Verdict
-verdict_on_refusal (Some error) verdict = NotAMessage error
-verdict_on_refusal None verdict = verdict
-
--- the verdict on bytes under a key for each algorithm
-abbrev pub verdict_of : List ℕ → (IntegrityAlgorithm → List ℕ) → Verdict
-verdict_of bytes keys = verdict_on_refusal (refusal bytes) (verdict_on_integrity (verified_by keys bytes) (integrity_refusal bytes))
-
--- the words for a refusal
-abbrev pub refusal_text : StunParseError → List ℕ
-refusal_text Truncated = codes "truncated"
-refusal_text NotStun = codes "not stun"
-refusal_text TooLarge = codes "too large"
-refusal_text (MissingAttribute _) = codes "missing attribute"
-refusal_text InvalidAttributeData = codes "malformed attribute"
-
--- the words for a verdict
-abbrev pub text_of : Verdict → List ℕ
-text_of (Valid Sha1) = codes "valid MESSAGE-INTEGRITY"
-text_of (Valid Sha256) = codes "valid MESSAGE-INTEGRITY-SHA256"
-text_of OtherDigest = codes "invalid: the digest is another"
-text_of NoIntegrity = codes "invalid: no integrity attribute is visible"
-text_of MalformedIntegrity = codes "invalid: the integrity attribute is malformed"
-text_of (NotAMessage error) = codes "not a message: " ++ refusal_text error
-
--- the line for a verdict
+-- the line for a verdict; that on an input without bytes is none of a message
 abbrev pub line_of : Verdict → List ℕ
-line_of verdict = text_of verdict ++ 10 ∷ []
-
--- the status that goes with a verdict
-abbrev pub status_of : Verdict → Status
-status_of (Valid _) = Good
-status_of verdict = Bad
+line_of (Valid Sha1) = codes "valid MESSAGE-INTEGRITY" ++ 10 ∷ []
+line_of (Valid Sha256) = codes "valid MESSAGE-INTEGRITY-SHA256" ++ 10 ∷ []
+line_of OtherDigest = codes "invalid: the digest is another" ++ 10 ∷ []
+line_of NoIntegrity = codes "invalid: no integrity attribute is visible" ++ 10 ∷ []
+line_of MalformedIntegrity = codes "invalid: the integrity attribute is malformed" ++ 10 ∷ []
+line_of (NotAMessage error) = refusal_line error
+line_of BadInput = codes "bad input" ++ 10 ∷ []

@@ -1,9 +1,10 @@
 -- What `verify` prints.
 use Rattle.std.specs.Prelude.{◌≡◌, ℕ, List, ◌++◌, Option}
 use Rattle.std.specs.Io.KnownBytes.{Appends}
-use Rattle.stun_inspect.specs.declared.status.Status.{Status}
-use Rattle.stun_inspect.specs.declared.verdict.Verdict.{Verdict}
-use Rattle.stun_inspect.specs.Verdict.{line_of, status_of}
+use Rattle.stun_cli.specs.declared.status.Status.{Status}
+use Rattle.stun_cli.specs.declared.verdict.Verdict.{Verdict}
+use Rattle.stun_cli.specs.Verdict.{status_of}
+use Rattle.stun_inspect.specs.Verdict.{line_of}
 
 -- the verdict's line is printed, and perhaps notes after it; the status goes with the verdict
 abbrev pub PrintsVerdict : Verdict → Status → Option (List ℕ) → Option (List ℕ) → Type 0

@@ -5,44 +5,32 @@ ghost use Rattle.stun_base.specs.Keys.OfCredentials.{keys_of};
 ghost use Rattle.stun_inspect.specs.Decode.{PrintsDecoded};
 ghost use Rattle.stun_inspect.specs.Input.{is_raw};
 ghost use Rattle.stun_inspect.specs.Run.{Answers, PrintsDigits, PrintsText, keys_for};
-ghost use Rattle.stun_inspect.specs.Verdict.{verdict_of};
+ghost use Rattle.stun_cli.specs.Verdict.{verdict_of};
 ghost use Rattle.stun_inspect.specs.Verify.{PrintsVerdict};
 
 use crate::command::{Command, User, Who};
 use crate::decode::describe;
-use crate::failure::{BadInput, Failure, Wanted};
-use crate::input::read_to_end;
-use crate::layout::read_message;
+use crate::each::{Decoding, Verifying, tell_input};
+use crate::failure::{BadInput, Failure, INPUT_LIMIT, Wanted};
+use crate::layout::{is_raw, within_limit};
 use crate::notes::notes_on;
-use crate::output::write_text;
-use crate::status::Status;
+use crate::usage::{HELP, VERSION};
 use crate::value::push_security_bits;
-use crate::verdict::{refusal_line, verdict_on};
+use crate::verdict::{line, verdict_on};
 use std::alloc::{AllocError, Allocator};
-use std::io::{Read, Write};
+use std::io::Write;
+use stun_cli::input::{CountedRead, read_to_end};
+use stun_cli::output::write_text;
+use stun_cli::status::Status;
+use stun_cli::verdict::refusal_line;
 use stun_types::attribute::Userhash;
 use stun_types::message::{
     IntegrityAlgorithm, LongTermCredentials, Message, MessageIntegrityCredentials,
     ShortTermCredentials, long_term_key,
 };
 
-/// What `--help` prints.
-const HELP: &str = "stun_inspect decode                            a message, attribute by attribute
-stun_inspect verify PASSWORD                   its integrity under a password
-stun_inspect verify NAME REALM PASSWORD        its integrity under a long-term key
-stun_inspect key sha1|sha256 NAME REALM PASSWORD
-stun_inspect userhash NAME REALM
-stun_inspect nonce NONCE                       the security bits of a nonce
-A message comes from standard input: raw, in hexadecimal, in base64, or as xxd, tcpdump -x
-or Wireshark dump it. The password - is the first line of standard input.
-Status: 0 good, 1 not a message or invalid, 2 not judged.
-";
-
-/// What `--version` prints.
-const VERSION: &str = "stun_inspect 0.1.0\n";
-
 /// Runs a command, and answers how it ended.
-pub fn run_command<R: Read, W: Write, A: Allocator + Copy>(
+pub fn run_command<R: CountedRead, W: Write, A: Allocator + Copy>(
     alloc: A,
     command: Command<'_>,
     reader: &mut R,
@@ -91,8 +79,8 @@ fn print_digits<W: Write, A: Allocator + Copy>(
     print(writer, line.as_bytes())
 }
 
-/// Prints each attribute of the message that the reader has.
-fn decode_input<R: Read, W: Write, A: Allocator + Copy>(
+/// Prints each attribute of each message that the reader has.
+fn decode_input<R: CountedRead, W: Write, A: Allocator + Copy>(
     alloc: A,
     reader: &mut R,
     writer: &mut W,
@@ -101,13 +89,28 @@ fn decode_input<R: Read, W: Write, A: Allocator + Copy>(
         is_raw input ≡ true
         → PrintsDecoded input status (W.contents writer.old) (W.contents writer.new))) }
 {
-    let input = read_to_end(alloc, reader)?;
-    let bytes = read_message(alloc, input.as_slice())?;
-    decode(alloc, bytes.as_slice(), writer)
+    let input = read_to_end(alloc, reader, INPUT_LIMIT)?;
+    decode_all(alloc, input.as_slice(), writer)
 }
 
-/// Prints whether the digest of the message that the reader has verifies.
-fn verify_input<R: Read, W: Write, A: Allocator + Copy>(
+/// Prints each attribute of each message that an input has.
+fn decode_all<W: Write, A: Allocator + Copy>(
+    alloc: A,
+    input: &[u8],
+    writer: &mut W,
+) -> Result<Status, Failure>
+    ensures { is_raw input.now ≡ true → IfOk result (λ status.
+        PrintsDecoded input.now status (W.contents writer.old) (W.contents writer.new)) }
+{
+    if is_raw(input) {
+        within_limit(input)?;
+        return decode(alloc, input, writer);
+    }
+    tell_input(alloc, &Decoding, input, writer)
+}
+
+/// Prints whether the digest of each message that the reader has verifies.
+fn verify_input<R: CountedRead, W: Write, A: Allocator + Copy>(
     alloc: A,
     who: Who<'_>,
     reader: &mut R,
@@ -118,16 +121,65 @@ fn verify_input<R: Read, W: Write, A: Allocator + Copy>(
         → PrintsVerdict (verdict_of input (keys_for who.entry.user who.entry.password.now)) status
         (W.contents writer.old) (W.contents writer.new))) }
 {
-    let input = read_to_end(alloc, reader)?;
+    let input = read_to_end(alloc, reader, INPUT_LIMIT)?;
     let found = password_of(who.password, input.as_slice())?;
     let (password, rest) = found;
-    let bytes = read_message(alloc, rest)?;
-    let credentials = credentials_of(alloc, who.user, password)?;
-    verify(alloc, bytes.as_slice(), who.user, &credentials, writer)
+    verify_all(alloc, who.user, password, rest, writer)
+}
+
+/// Prints whether the digest of each message that an input has verifies.
+fn verify_all<W: Write, A: Allocator + Copy>(
+    alloc: A,
+    user: Option<User<'_>>,
+    password: &str,
+    input: &[u8],
+    writer: &mut W,
+) -> Result<Status, Failure>
+    ensures { is_raw input.now ≡ true → IfOk result (λ status.
+        PrintsVerdict (verdict_of input.now (keys_for user.entry password.now)) status
+        (W.contents writer.old) (W.contents writer.new)) }
+{
+    let credentials = credentials_of(alloc, user, password)?;
+    verify_each(alloc, user, &credentials, input, writer)
+}
+
+/// Prints whether the digest of each message that an input has verifies under these credentials.
+fn verify_each<W: Write, A: Allocator + Copy>(
+    alloc: A,
+    user: Option<User<'_>>,
+    credentials: &MessageIntegrityCredentials<A>,
+    input: &[u8],
+    writer: &mut W,
+) -> Result<Status, Failure>
+    ensures { is_raw input.now ≡ true → IfOk result (λ status.
+        PrintsVerdict (verdict_of input.now (keys_of credentials.now)) status
+        (W.contents writer.old) (W.contents writer.new)) }
+{
+    if is_raw(input) {
+        within_limit(input)?;
+        return verify(alloc, input, user, credentials, writer);
+    }
+    tell_input(alloc, &Verifying { user, credentials }, input, writer)
+}
+
+/// Prints whether the digest of each message of a file verifies. The password `-` is the first line
+/// of the other reader.
+pub fn verify_file<R: CountedRead, F: CountedRead, W: Write, A: Allocator + Copy>(
+    alloc: A,
+    who: Who<'_>,
+    reader: &mut R,
+    file: &mut F,
+    writer: &mut W,
+) -> Result<Status, Failure> {
+    let given = password_input(alloc, who.password, reader)?;
+    let found = password_of(who.password, given.as_slice())?;
+    let (password, _) = found;
+    let input = read_to_end(alloc, file, INPUT_LIMIT)?;
+    verify_all(alloc, who.user, password, input.as_slice(), writer)
 }
 
 /// Prints the long-term key of a user.
-fn print_key<R: Read, W: Write, A: Allocator + Copy>(
+fn print_key<R: CountedRead, W: Write, A: Allocator + Copy>(
     alloc: A,
     algorithm: IntegrityAlgorithm,
     user: User<'_>,
@@ -139,11 +191,7 @@ fn print_key<R: Read, W: Write, A: Allocator + Copy>(
         PrintsDigits (long_term_key algorithm user.entry.name.now user.entry.realm.now password.now)
         status (W.contents writer.old) (W.contents writer.new)) }
 {
-    let input = if password == "-" {
-        read_to_end(alloc, reader)?
-    } else {
-        Vec::new(alloc)
-    };
+    let input = password_input(alloc, password, reader)?;
     let found = password_of(password, input.as_slice())?;
     let (password, _) = found;
     let key = long_term_key(alloc, algorithm, user.name, user.realm, password);
@@ -173,11 +221,11 @@ pub fn decode<W: Write, A: Allocator + Copy>(
 }
 
 /// Prints whether the message's digest verifies, and then what else differs from the user.
-pub fn verify<W: Write, A: Allocator + Copy>(
+pub fn verify<W: Write, A: Allocator + Copy, B: Allocator>(
     alloc: A,
     bytes: &[u8],
     user: Option<User<'_>>,
-    credentials: &MessageIntegrityCredentials<A>,
+    credentials: &MessageIntegrityCredentials<B>,
     writer: &mut W,
 ) -> Result<Status, Failure>
     ensures { IfOk result (λ status. PrintsVerdict
@@ -186,7 +234,7 @@ pub fn verify<W: Write, A: Allocator + Copy>(
 {
     let notes = notes_on(alloc, bytes, user)?;
     let verdict = verdict_on(bytes, credentials);
-    write_text(writer, verdict.line().as_bytes())?;
+    write_text(writer, line(verdict).as_bytes())?;
     write_text(writer, notes.as_bytes())?;
     Ok(verdict.status())
 }
@@ -210,6 +258,18 @@ fn credentials_of<A: Allocator + Copy>(
             Ok(MessageIntegrityCredentials::LongTerm(key))
         }
     }
+}
+
+/// The input whose first line a password is, for the word `-`.
+fn password_input<R: CountedRead, A: Allocator + Copy>(
+    alloc: A,
+    word: &str,
+    reader: &mut R,
+) -> Result<Vec<u8, A>, Failure> {
+    if word == "-" {
+        return Ok(read_to_end(alloc, reader, INPUT_LIMIT)?);
+    }
+    Ok(Vec::new(alloc))
 }
 
 /// The password, and the rest of the input: for the word `-` the first line of the input, without

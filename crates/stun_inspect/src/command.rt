@@ -15,6 +15,14 @@ pub enum Command<'a> {
     Nonce(&'a str),
 }
 
+/// What was asked for.
+#[derive(Clone, Copy)]
+pub struct Asked<'a> {
+    pub command: Command<'a>,
+    /// The file that is read in the place of standard input.
+    pub file: Option<&'a str>,
+}
+
 /// Whose credentials are meant. The password `-` is the first line of standard input.
 #[derive(Clone, Copy, PartialEq, Eq)]
 pub struct Who<'a> {
@@ -31,17 +39,27 @@ pub struct User<'a> {
     pub realm: &'a str,
 }
 
-/// The command that the words are, if they are one.
-pub fn command_of(words: &[String]) -> Option<Command<'_>> {
+/// What the words ask for, if they are those of a command.
+pub fn asked_of(words: &[String]) -> Option<Asked<'_>> {
     let (command, others) = words.split_first()?;
     match command.as_str() {
-        "--help" => others.is_empty().then_some(Command::Help),
-        "--version" => others.is_empty().then_some(Command::Version),
-        "decode" => others.is_empty().then_some(Command::Decode),
+        "decode" => decode_of(others),
         "verify" => verify_of(others),
-        "key" => key_of(others),
-        "userhash" => userhash_of(others),
-        "nonce" => match others {
+        other => Some(Asked {
+            command: command_of(other, others)?,
+            file: None,
+        }),
+    }
+}
+
+/// The command of this name that reads no message.
+fn command_of<'a>(name: &str, words: &'a [String]) -> Option<Command<'a>> {
+    match name {
+        "-h" | "--help" => words.is_empty().then_some(Command::Help),
+        "--version" => words.is_empty().then_some(Command::Version),
+        "key" => key_of(words),
+        "userhash" => userhash_of(words),
+        "nonce" => match words {
             [nonce] => Some(Command::Nonce(nonce.as_str())),
             _ => None,
         },
@@ -49,18 +67,39 @@ pub fn command_of(words: &[String]) -> Option<Command<'_>> {
     }
 }
 
-fn verify_of(words: &[String]) -> Option<Command<'_>> {
+fn decode_of(words: &[String]) -> Option<Asked<'_>> {
+    let file = match words {
+        [] => None,
+        [file] => Some(file.as_str()),
+        _ => return None,
+    };
+    Some(Asked {
+        command: Command::Decode,
+        file,
+    })
+}
+
+fn verify_of(words: &[String]) -> Option<Asked<'_>> {
     match words {
-        [password] => Some(Command::Verify(Who {
-            user: None,
-            password: password.as_str(),
-        })),
-        [name, realm, password] => Some(Command::Verify(Who {
-            user: Some(user_of(name, realm)),
-            password: password.as_str(),
-        })),
+        [password] => verify(None, password, None),
+        [password, file] => verify(None, password, Some(file.as_str())),
+        [name, realm, password] => verify(Some(user_of(name, realm)), password, None),
+        [name, realm, password, file] => {
+            verify(Some(user_of(name, realm)), password, Some(file.as_str()))
+        }
         _ => None,
     }
+}
+
+fn verify<'a>(
+    user: Option<User<'a>>,
+    password: &'a str,
+    file: Option<&'a str>,
+) -> Option<Asked<'a>> {
+    Some(Asked {
+        command: Command::Verify(Who { user, password }),
+        file,
+    })
 }
 
 fn key_of(words: &[String]) -> Option<Command<'_>> {

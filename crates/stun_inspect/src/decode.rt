@@ -1,6 +1,6 @@
 //! What `decode` says of a message.
-ghost use Rattle.std.specs.Prelude.{IfOk, string_bytes};
-ghost use Rattle.stun_inspect.specs.Decode.{AreLinesOn, Describes, IsLineOn};
+ghost use Rattle.std.specs.Prelude.{◌≡◌, IfOk, length, string_bytes};
+ghost use Rattle.stun_inspect.specs.Decode.{AreLinesOn, Describes, IsLineOn, NAME_LENGTH};
 
 use crate::fingerprint::ending_of;
 use crate::registry::{Form, attribute, attribute_name, method_name};
@@ -9,7 +9,8 @@ use crate::value::{push_digits, push_value};
 use std::alloc::{AllocError, Allocator};
 use stun_types::message::{Message, MessageClass, TransactionId};
 
-/// What is printed of a message: its class, its method and its id, and then a line on each attribute.
+/// What is printed of a message: its class, its method and its id, and then a line on each
+/// attribute.
 pub fn describe<A: Allocator + Copy>(
     alloc: A,
     message: &Message<'_>,
@@ -41,7 +42,10 @@ fn header_text<A: Allocator + Copy>(
     let class = class_name(message.class());
     let method = message.method().value();
     let name = method_name(method);
-    let mut text = format!(in alloc; "class {class}\nmethod 0x{method:03x} {name}\nid ")?;
+    let mut text = format!(in alloc;
+        "{:<28} {class}\n{:<28} {name} 0x{method:03x}\n{:<28} ",
+        "class", "method", "id"
+    )?;
     let id = message.transaction_id().as_u128().to_be_bytes();
     push_digits(&mut text, &id[4..])?;
     text.push('\n')?;
@@ -74,33 +78,63 @@ fn line_on<A: Allocator + Copy>(
 ) -> Result<String<A>, AllocError>
     ensures { IfOk result (λ line. IsLineOn message.now told.now (string_bytes line)) }
 {
-    let rest = rest_of_line(alloc, told, id)?;
-    let place = told.place;
     let kind = told.attribute.get_type();
-    let ending = ending_of(message, told);
-    let line = format!(in alloc; "{place} {kind} {rest}{ending}\n")?;
-    Ok(line)
-}
-
-/// What a line says of an attribute after its place and the number of its type: the type's name, the
-/// length, what hides it, and the value.
-fn rest_of_line<A: Allocator + Copy>(
-    alloc: A,
-    told: &Told<'_>,
-    id: TransactionId,
-) -> Result<String<A>, AllocError> {
-    let length = told.attribute.length();
-    let (name, form) = match attribute(told.attribute.get_type().value()) {
+    let (name, form) = match attribute(kind.value()) {
         Some(registered) => (registered.name, registered.form),
         None => ("unregistered", Form::Bytes),
     };
-    let mut rest = format!(in alloc; "{name}, {length} bytes, ")?;
-    match told.hidden_by {
-        None => rest.push_str("visible: ")?,
-        Some(hider) => {
-            let hider = attribute_name(hider.value());
-            write!(rest, "hidden by {hider}: ")?;
+    let name = column_of(alloc, name)?;
+    let rest = rest_of_line(alloc, told, form, id)?;
+    let place = told.place;
+    let ending = ending_of(message, told);
+    let line = format!(in alloc; "{name} {kind} at {place} {rest}{ending}\n")?;
+    Ok(line)
+}
+
+/// The letters of a name's column, as many as the longest name has.
+const NAME_LENGTH: usize = 28;
+
+/// The column of a name, with blanks after it.
+fn column_of<A: Allocator + Copy>(alloc: A, name: &str) -> Result<String<A>, AllocError>
+    ensures { IfOk result (λ column. length (string_bytes column) ≡ NAME_LENGTH) }
+{
+    let mut column = [b' '; NAME_LENGTH];
+    for (place, byte) in name.bytes().enumerate() {
+        if place < NAME_LENGTH {
+            column[place] = byte;
         }
+    }
+    match str::from_utf8(&column) {
+        Ok(text) => String::from_str(alloc, text),
+        Err(_) => String::from_str(alloc, "                            "),
+    }
+}
+
+/// The blanks that fill a column of five digits after a place.
+fn blanks_after(place: usize) -> &'static str {
+    match place {
+        0..=9 => "    ",
+        10..=99 => "   ",
+        100..=999 => "  ",
+        1000..=9999 => " ",
+        _ => "",
+    }
+}
+
+/// What a line says of an attribute after its name, its type and its place: the length, what hides
+/// it, and the value.
+fn rest_of_line<A: Allocator + Copy>(
+    alloc: A,
+    told: &Told<'_>,
+    form: Form,
+    id: TransactionId,
+) -> Result<String<A>, AllocError> {
+    let length = told.attribute.length();
+    let blanks = blanks_after(told.place);
+    let mut rest = format!(in alloc; "{blanks}{length:>5} bytes  ")?;
+    if let Some(hider) = told.hidden_by {
+        let hider = attribute_name(hider.value());
+        write!(rest, "hidden by {hider}: ")?;
     }
     push_value(&mut rest, form, told.attribute.value(), id)?;
     Ok(rest)

@@ -1,38 +1,77 @@
-//! Dumps with a column of offsets: those of `xxd`, `tcpdump -x` and Wireshark.
+//! Dumps with a column of offsets: those of `xxd`, `hexdump -C`, `od -A x -t x1`, `tcpdump -x` and
+//! Wireshark.
+ghost use Rattle.std.specs.Prelude.{◌≡◌, ◌≢◌, ◌<◌, ℕ, length, get_or, option_copied};
+ghost use Rattle.std.specs.Prelude.{IfSome, IfNone};
+ghost use Rattle.stun_inspect.specs.Dump.{IsFirstBlank, is_before_byte};
+ghost use Rattle.stun_inspect.specs.Dump.{offset_digits, without_prefix};
 
 use crate::digits::{bad_input, byte_of, digit, push};
 use crate::failure::{Failure, Wanted};
+use crate::layout::{Spelled, push_spelled};
 use std::alloc::Allocator;
+use std::mem;
 
-/// The offset at the front of a row, and what follows it: four to eight digits, with `0x` or without
-/// it, and a colon and a blank, or two blanks.
+/// The place of the first blank of a row, which ends its first word.
+pub fn first_blank(row: &[u8]) -> Option<usize>
+    ensures some { IfSome result (λ place. IsFirstBlank row.now place) }
+    ensures none { IfNone result ((i : ℕ) → i < length row.now → get_or row.now i 0 ≢ 32) }
+{
+    row.iter().position(|byte| *byte == b' ')
+}
+
+/// The digits of an offset, where the first word of a row is one: all of a word that ends in a
+/// colon but that colon, and but `0x` before them; or a whole word after whose blank another blank
+/// follows, or which has six letters and after it a word of two, as `od` has them. A colon that
+/// comes later, as one in the column of characters, ends no offset.
+pub fn offset_digits<'a>(word: &'a [u8], rest: &[u8]) -> Option<&'a [u8]>
+    ensures { option_copied result ≡ offset_digits word.now rest.now }
+{
+    if !word.is_empty() && word[word.len() - 1] == b':' {
+        Some(without_prefix(&word[..word.len() - 1]))
+    } else if !rest.is_empty() && rest[0] == b' ' {
+        Some(word)
+    } else if is_before_byte(word, rest) {
+        Some(word)
+    } else {
+        None
+    }
+}
+
+/// Whether a word has six letters, and the word after it has two.
+fn is_before_byte(word: &[u8], rest: &[u8]) -> bool
+    ensures { result ≡ is_before_byte word.now rest.now }
+{
+    word.len() == 6 && (rest.len() == 2 || rest.len() > 2 && rest[2] == b' ')
+}
+
+/// The digits after `0x`, where that comes first.
+fn without_prefix(digits: &[u8]) -> &[u8]
+    ensures { result.now ≡ without_prefix digits.now }
+{
+    if digits.len() >= 2 && digits[0] == b'0' && digits[1] == b'x' {
+        &digits[2..]
+    } else {
+        digits
+    }
+}
+
+/// The offset at the front of a row, and what follows the blank after it.
 fn offset_of(row: &str) -> Option<(usize, &str)> {
     let row = row.trim_start();
-    if let Some((front, rest)) = row.split_once(':') {
-        if !rest.starts_with(' ') {
-            return None;
-        }
-        let digits = match front.strip_prefix("0x") {
-            Some(digits) => digits,
-            None => front,
-        };
-        return Some((number_of(digits)?, rest));
-    }
-    let (front, rest) = row.split_once(' ')?;
-    if !rest.starts_with(' ') {
-        return None;
-    }
-    Some((number_of(front)?, rest))
+    let blank = first_blank(row.as_bytes())?;
+    let (word, rest) = (row.get(..blank)?, row.get(blank + 1..)?);
+    let digits = offset_digits(word.as_bytes(), rest.as_bytes())?;
+    Some((number_of(digits)?, rest))
 }
 
 /// The number of four to eight hexadecimal digits.
-fn number_of(digits: &str) -> Option<usize> {
+fn number_of(digits: &[u8]) -> Option<usize> {
     if digits.len() < 4 || digits.len() > 8 {
         return None;
     }
     let mut number: usize = 0;
-    for byte in digits.bytes() {
-        number = (number << 4) | usize::from(digit(byte)?);
+    for byte in digits {
+        number = (number << 4) | usize::from(digit(*byte)?);
     }
     Some(number)
 }
@@ -47,33 +86,152 @@ pub fn has_dump(text: &str) -> bool {
     false
 }
 
-/// The bytes of a dump. Lines before its first row and blank lines are skipped. The offset of each row
-/// is the number of bytes before it.
-pub fn read_dump<A: Allocator>(alloc: A, text: &str) -> Result<Vec<u8, A>, Failure> {
-    let mut bytes = Vec::new(alloc);
+/// The bytes of each dump, which begins with a row of the offset 0. Lines before a dump and blank
+/// lines are skipped. The offset of each row is the number of bytes before it. A line after the
+/// last row may be that number.
+pub fn read_dumps<A: Allocator + Copy>(
+    alloc: A,
+    text: &str,
+) -> Result<Vec<Spelled<A>, A>, Failure> {
+    let mut dumps = Dumps {
+        dumps: Vec::new(alloc),
+        bytes: Vec::new(alloc),
+        first: 1,
+        stray: None,
+    };
     let mut number: usize = 0;
     for line in text.split('\n') {
         number = number.saturating_add(1);
-        match offset_of(line) {
-            Some((offset, rest)) if offset == bytes.len() => {
-                let column = line.len().saturating_sub(rest.len());
-                read_row(&mut bytes, rest, number, column)?;
-            }
-            _ => {
-                if !bytes.is_empty() && !line.trim_start().is_empty() {
-                    return Err(bad_input(number, 1, Wanted::Offset(bytes.len())));
+        dumps.take_line(alloc, line, number)?;
+    }
+    dumps.end(number)
+}
+
+/// What was read of dumps.
+#[derive(Drop)]
+struct Dumps<A: Allocator> {
+    /// Those before the last one.
+    dumps: Vec<Spelled<A>, A>,
+    /// The bytes of the last one.
+    bytes: Vec<u8, A>,
+    /// The line of its first row.
+    first: usize,
+    /// The first line after its last row that is none of a dump.
+    stray: Option<usize>,
+}
+
+impl<A: Allocator + Copy> Dumps<A> {
+    fn take_line(&mut self, alloc: A, line: &str, number: usize) -> Result<(), Failure> {
+        let found = offset_of(line);
+        if let Some((0, _)) = found {
+            self.begin(alloc, number)?;
+        }
+        match found {
+            Some((offset, rest)) => self.take_row(line, offset, rest, number),
+            None => {
+                let is_skipped = line.trim_start().is_empty() || self.bytes.is_empty();
+                if !is_skipped && self.stray.is_none() && !is_end(line, self.bytes.len()) {
+                    self.stray = Some(number);
                 }
+                Ok(())
             }
         }
     }
-    if bytes.is_empty() {
-        return Err(bad_input(number, 1, Wanted::Bytes));
+
+    /// Takes a row of this offset. It fails where the offset is not the number of the bytes before
+    /// it, or another line is.
+    fn take_row(
+        &mut self,
+        line: &str,
+        offset: usize,
+        rest: &str,
+        number: usize,
+    ) -> Result<(), Failure> {
+        let wanted = Wanted::Offset(self.bytes.len());
+        match self.stray {
+            Some(stray) => Err(bad_input(stray, 1, wanted)),
+            None if offset == self.bytes.len() => {
+                let before = line.len().saturating_sub(rest.len());
+                read_row_of(&mut self.bytes, line, rest, number, before)
+            }
+            None if self.bytes.is_empty() => Ok(()),
+            None => Err(bad_input(number, 1, wanted)),
+        }
     }
-    Ok(bytes)
+
+    /// Begins the next dump.
+    fn begin(&mut self, alloc: A, number: usize) -> Result<(), Failure> {
+        if !self.bytes.is_empty() {
+            let bytes = mem::replace(&mut self.bytes, Vec::new(alloc));
+            push_spelled(&mut self.dumps, self.first, bytes)?;
+        }
+        self.first = number;
+        self.stray = None;
+        Ok(())
+    }
+
+    /// The dumps, after the last line of the text.
+    fn end(self, number: usize) -> Result<Vec<Spelled<A>, A>, Failure> {
+        let Dumps {
+            mut dumps,
+            bytes,
+            first,
+            stray,
+        } = self;
+        if let Some(stray) = stray {
+            return Err(bad_input(stray, 1, Wanted::Offset(bytes.len())));
+        }
+        if bytes.is_empty() {
+            return Err(bad_input(number, 1, Wanted::Bytes));
+        }
+        push_spelled(&mut dumps, first, bytes)?;
+        Ok(dumps)
+    }
+}
+
+/// Whether a line is the number of a dump's bytes alone, with which `hexdump` and `od` end.
+fn is_end(line: &str, length: usize) -> bool {
+    let line = line.trim_end();
+    line.len() >= 6 && number_of(line.as_bytes()) == Some(length)
+}
+
+/// The place of the characters in a row of `hexdump -C`.
+const CHARACTERS: usize = 60;
+
+/// Appends the bytes of a row. Of `hexdump -C` they stand between two blanks and a bar at a fixed
+/// place, of others up to two blanks.
+fn read_row_of<A: Allocator>(
+    bytes: &mut Vec<u8, A>,
+    line: &str,
+    rest: &str,
+    number: usize,
+    before: usize,
+) -> Result<(), Failure> {
+    match canonical_row(line) {
+        Some(row) => read_row(bytes, row, number, 10, Gap::InRow),
+        None => read_row(bytes, rest, number, before, Gap::AtEnd),
+    }
+}
+
+/// The digits of a row of `hexdump -C`: eight digits and two blanks stand before them, and a bar at
+/// a fixed place after them.
+fn canonical_row(line: &str) -> Option<&str> {
+    let _offset = number_of(line.get(..8)?.as_bytes())?;
+    match (line.get(8..10)?, line.as_bytes().get(CHARACTERS)?) {
+        ("  ", b'|') => line.get(10..CHARACTERS),
+        _ => None,
+    }
+}
+
+/// What two blanks are in a row.
+#[derive(Clone, Copy)]
+enum Gap {
+    InRow,
+    AtEnd,
 }
 
 /// How far the digits of a row were read.
-#[derive(Clone, Copy, Debug, PartialEq, Eq)]
+#[derive(Clone, Copy)]
 enum Column {
     /// Before the first digit.
     Front,
@@ -94,7 +252,7 @@ enum Step {
 }
 
 /// Takes the next byte of a row.
-fn next_of(at: Column, byte: u8) -> Step {
+fn next_of(at: Column, byte: u8, gap: Gap) -> Step {
     match digit(byte) {
         Some(low) => match at {
             Column::High(high) => Step::Byte(byte_of(high, low)),
@@ -105,23 +263,28 @@ fn next_of(at: Column, byte: u8) -> Step {
             _ if !byte.is_ascii_whitespace() => Step::Wrong(Wanted::Digit),
             Column::Front => Step::To(Column::Front),
             Column::Byte => Step::To(Column::Blank),
-            Column::Blank => Step::End,
+            Column::Blank => match gap {
+                Gap::InRow => Step::To(Column::Blank),
+                Gap::AtEnd => Step::End,
+            },
         },
     }
 }
 
-/// Appends the bytes of a row, up to two blanks, after which its characters may follow.
+/// Appends the bytes of a row, up to two blanks where these end it, after which its characters may
+/// follow.
 fn read_row<A: Allocator>(
     bytes: &mut Vec<u8, A>,
     row: &str,
     line: usize,
     before: usize,
+    gap: Gap,
 ) -> Result<(), Failure> {
     let mut column = before;
     let mut at = Column::Front;
     for byte in row.bytes() {
         column = column.saturating_add(1);
-        match next_of(at, byte) {
+        match next_of(at, byte, gap) {
             Step::To(next) => at = next,
             Step::Byte(read) => {
                 push(bytes, read)?;

@@ -1,17 +1,27 @@
 //! Why a command has no answer.
 
+use captures::damage::Damage;
 use std::alloc::AllocError;
 use std::fmt;
 
+/// The most bytes of an input.
+pub const INPUT_LIMIT: usize = 67_108_864;
+
 /// Why a command has no answer.
-#[derive(Clone, Copy, Debug, PartialEq, Eq)]
+#[derive(Clone, Copy)]
 pub enum Failure {
     /// A read or a write failed.
     Io,
     /// An allocation failed.
     Memory,
+    /// The file cannot be opened.
+    File,
+    /// The input has too many bytes, or too little of them comes in a read.
+    NoEnd,
     /// The input is none that the command reads.
     Input(BadInput),
+    /// The capture cannot be read further.
+    Capture(Damage),
 }
 
 /// Where an input is none that is read, and what was looked for there.
@@ -40,8 +50,6 @@ pub enum Wanted {
     Offset(usize),
     /// The end of a message of 65552 bytes.
     EndOfMessage,
-    /// The end of an input of 1048576 bytes.
-    EndOfInput,
     /// A password in UTF-8.
     Password,
 }
@@ -52,16 +60,36 @@ impl From<AllocError> for Failure {
     }
 }
 
+impl From<stun_cli::failure::Failure> for Failure {
+    fn from(failure: stun_cli::failure::Failure) -> Failure {
+        match failure {
+            stun_cli::failure::Failure::Io => Failure::Io,
+            stun_cli::failure::Failure::Memory => Failure::Memory,
+            stun_cli::failure::Failure::NoEnd => Failure::NoEnd,
+        }
+    }
+}
+
+impl From<captures::damage::Failure> for Failure {
+    fn from(failure: captures::damage::Failure) -> Failure {
+        match failure {
+            captures::damage::Failure::Memory => Failure::Memory,
+            captures::damage::Failure::Damage(damage) => Failure::Capture(damage),
+        }
+    }
+}
+
 impl fmt::Display for Wanted {
     fn fmt<W: fmt::Write>(&self, f: &mut fmt::Formatter<W>) -> fmt::Result {
         match self {
             Wanted::Bytes => f.write_str("the bytes of a message"),
-            Wanted::Text => f.write_str("text, or a message, which has 2112a442 at its byte 4"),
+            Wanted::Text => {
+                f.write_str("text, a capture, or a message, which has 2112a442 at its byte 4")
+            }
             Wanted::Digit => f.write_str("a hexadecimal digit"),
             Wanted::SecondDigit => f.write_str("the second hexadecimal digit of a byte"),
             Wanted::Offset(offset) => write!(f, "the offset {offset:04x} of a row, or the end"),
             Wanted::EndOfMessage => f.write_str("the end of a message of at most 65552 bytes"),
-            Wanted::EndOfInput => f.write_str("the end of an input of at most 1048576 bytes"),
             Wanted::Password => f.write_str("a line with a password in UTF-8"),
         }
     }
@@ -72,6 +100,11 @@ impl fmt::Display for Failure {
         match self {
             Failure::Io => f.write_str("a read or a write failed"),
             Failure::Memory => f.write_str("an allocation failed"),
+            Failure::File => f.write_str("the file cannot be opened"),
+            Failure::NoEnd => {
+                f.write_str("the input does not end within 67108864 bytes and 1048576 reads")
+            }
+            Failure::Capture(damage) => write!(f, "{damage}"),
             Failure::Input(bad) => {
                 let BadInput {
                     line,

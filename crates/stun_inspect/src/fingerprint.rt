@@ -2,9 +2,9 @@
 ghost use Rattle.std.specs.Prelude.{◌≡◌};
 ghost use Rattle.stun_inspect.specs.Fingerprint.{ending_of, fingerprint_of, text_of};
 
-use crate::crc32::crc32;
 use crate::telling::Told;
 use byteorder::{BigEndian, ByteOrder};
+use stun_extra::crc32::crc32;
 use stun_types::attribute::AttributeType;
 
 /// The number with which the CRC-32 of a message is XORed.

@@ -1,18 +1,28 @@
-//! The layouts in which an input may spell a message.
+//! The layouts in which an input may spell messages.
 ghost use Rattle.std.specs.Prelude.{◌≡◌, ◌≤◌, IfOk, true, length};
 ghost use Rattle.stun_types.specs.Limits.{LENGTH_LIMIT};
 ghost use Rattle.stun_inspect.specs.Input.{is_raw};
 
 use crate::digits::read_plain;
-use crate::dump::{has_dump, read_dump};
+use crate::dump::{has_dump, read_dumps};
 use crate::failure::{BadInput, Failure, Wanted};
-use crate::packet::payload;
+use crate::lines::{has_lines, read_lines};
 use base64::DecodeAllocError;
 use base64::engine::general_purpose::STANDARD;
 use byteorder::{BigEndian, ByteOrder};
+use captures::internet::Carried;
+use captures::link::{ETHERNET, RAW, carried};
 use std::alloc::{AllocError, Allocator};
 use stun_base::header::MAGIC_COOKIE;
 use stun_types::limits::LENGTH_LIMIT;
+
+/// What a part of a text spells.
+#[derive(Drop)]
+pub struct Spelled<A: Allocator> {
+    /// The line at which it begins, counted from 1.
+    pub line: usize,
+    pub bytes: Vec<u8, A>,
+}
 
 /// Whether bytes are taken as they are: the first two bits are zero, and the magic cookie follows.
 pub fn is_raw(bytes: &[u8]) -> bool
@@ -23,29 +33,24 @@ pub fn is_raw(bytes: &[u8]) -> bool
         && BigEndian::read_u32(&bytes[4..]) == MAGIC_COOKIE
 }
 
-/// The bytes that an input spells, which may be a message: the input itself where it begins as a
-/// message, else those of a dump with offsets, of hexadecimal digits, or of base64. Where they are a
-/// packet that carries a message over UDP, these are the message's.
+/// What may be a message of these bytes: all of them where they begin as one, else what they carry
+/// over UDP, where they are a packet.
 ///
-/// It fails where an allocation fails, and where the input spells no bytes or more than 65552.
-pub fn read_message<A: Allocator + Copy>(alloc: A, input: &[u8]) -> Result<Vec<u8, A>, Failure>
-    ensures limit { IfOk result (λ bytes. length bytes.items ≤ LENGTH_LIMIT) }
-    ensures raw { is_raw input.now ≡ true → IfOk result (λ bytes. bytes.items ≡ input.now) }
+/// It fails where that is more than 65552 bytes.
+pub fn message_of(bytes: &[u8]) -> Result<&[u8], Failure>
+    ensures limit { IfOk result (λ message. length message.now ≤ LENGTH_LIMIT) }
+    ensures raw { is_raw bytes.now ≡ true → IfOk result (λ message. message.now ≡ bytes.now) }
 {
-    if is_raw(input) {
-        return within_limit(alloc, input);
+    if is_raw(bytes) {
+        return within_limit(bytes);
     }
-    let bytes = read_text(alloc, input)?;
-    if is_raw(bytes.as_slice()) {
-        return within_limit(alloc, bytes.as_slice());
-    }
-    within_limit(alloc, payload(bytes.as_slice()))
+    within_limit(payload(bytes))
 }
 
-/// A copy of the bytes, where they are no more than a message may have.
-fn within_limit<A: Allocator>(alloc: A, bytes: &[u8]) -> Result<Vec<u8, A>, Failure>
-    ensures limit { IfOk result (λ copy. length copy.items ≤ LENGTH_LIMIT) }
-    ensures same { IfOk result (λ copy. copy.items ≡ bytes.now) }
+/// The bytes, where they are no more than a message may have.
+pub fn within_limit(bytes: &[u8]) -> Result<&[u8], Failure>
+    ensures limit { IfOk result (λ same. length same.now ≤ LENGTH_LIMIT) }
+    ensures same { IfOk result (λ same. same.now ≡ bytes.now) }
 {
     if bytes.len() > LENGTH_LIMIT {
         return Err(Failure::Input(BadInput {
@@ -54,19 +59,58 @@ fn within_limit<A: Allocator>(alloc: A, bytes: &[u8]) -> Result<Vec<u8, A>, Fail
             wanted: Wanted::EndOfMessage,
         }));
     }
-    Ok(Vec::from_slice(alloc, bytes)?)
+    Ok(bytes)
 }
 
-/// The bytes that a text spells.
-fn read_text<A: Allocator + Copy>(alloc: A, input: &[u8]) -> Result<Vec<u8, A>, Failure> {
+/// What a packet carries over UDP, where the bytes are one: of IPv4 or IPv6, or a frame of
+/// Ethernet. Else the bytes themselves.
+fn payload(bytes: &[u8]) -> &[u8] {
+    if let Some(Carried::Udp(datagram)) = carried(RAW, bytes) {
+        return datagram.payload;
+    }
+    match carried(ETHERNET, bytes) {
+        Some(Carried::Udp(datagram)) => datagram.payload,
+        _ => bytes,
+    }
+}
+
+/// What an input spells, which is no raw message: its dumps with offsets, its lines where each has
+/// a message, or all of it in hexadecimal digits or base64.
+pub fn read_text<A: Allocator + Copy>(
+    alloc: A,
+    input: &[u8],
+) -> Result<Vec<Spelled<A>, A>, Failure> {
     let Ok(text) = str::from_utf8(input) else {
         return Err(bad_text(input));
     };
     if has_dump(text) {
-        return read_dump(alloc, text);
+        return read_dumps(alloc, text);
     }
+    if has_lines(alloc, text)? {
+        return read_lines(alloc, text);
+    }
+    let bytes = read_digits(alloc, text)?;
+    let mut spelled = Vec::new(alloc);
+    push_spelled(&mut spelled, 1, bytes)?;
+    Ok(spelled)
+}
+
+/// Appends what a part of a text spells.
+pub fn push_spelled<A: Allocator + Copy>(
+    spelled: &mut Vec<Spelled<A>, A>,
+    line: usize,
+    bytes: Vec<u8, A>,
+) -> Result<(), Failure> {
+    match spelled.push(Spelled { line, bytes }) {
+        Ok(()) => Ok(()),
+        Err(_) => Err(Failure::Memory),
+    }
+}
+
+/// The bytes that a text spells in hexadecimal digits, or else in base64.
+pub fn read_digits<A: Allocator + Copy>(alloc: A, text: &str) -> Result<Vec<u8, A>, Failure> {
     match read_plain(alloc, text) {
-        Err(Failure::Input(bad)) => match read_base64(alloc, input)? {
+        Err(Failure::Input(bad)) => match read_base64(alloc, text.as_bytes())? {
             Some(bytes) => Ok(bytes),
             None => Err(Failure::Input(bad)),
         },

@@ -5,41 +5,40 @@ ghost use Rattle.std.specs.Prelude.{◌≡◌, ◌≢◌};
 
 mod answers;
 mod command;
-mod crc32;
 mod decode;
 mod digits;
 mod dump;
+mod each;
 mod failure;
 mod fingerprint;
-mod input;
+mod further_value;
 mod layout;
+mod lines;
 mod notes;
-mod output;
-mod packet;
 mod registry;
-mod status;
+mod tally;
 mod telling;
-#[cfg(test)]
-mod tests;
+mod usage;
 mod value;
 mod verdict;
 
-use answers::run_command;
-use command::command_of;
+use answers::{run_command, verify_file};
+use command::{Asked, Command, asked_of};
 use failure::Failure;
-use output::write_text;
-use status::Status;
-use std::alloc::{AllocError, Allocator};
-use std::io::{ErrorKind, Read, Write};
+use std::alloc::Allocator;
+use std::io::{ErrorKind, Write};
 use std::process::ExitCode;
-use std::{env, io};
-
-/// What is written for wrong words.
-const USAGE: &str =
-    "usage: stun_inspect decode | verify PASSWORD | verify NAME REALM PASSWORD | key sha1|sha256 NAME REALM PASSWORD | userhash NAME REALM | nonce NONCE | --help | --version\n";
+use std::rt::Files;
+use std::{fs, io};
+use stun_cli::input::{Counted, CountedRead};
+use stun_cli::output::write_text;
+use stun_cli::status::Status;
+use stun_cli::words::words_of;
+use usage::usage_of;
 
 /// Runs the command that the words name. Why it has no answer is written to `errors`.
-fn run<R: Read, W: Write, E: Write, A: Allocator + Copy>(
+fn run<F: Files, R: CountedRead, W: Write, E: Write, A: Allocator + Copy>(
+    files: &F,
     alloc: A,
     words: &[String],
     reader: &mut R,
@@ -48,16 +47,38 @@ fn run<R: Read, W: Write, E: Write, A: Allocator + Copy>(
 ) -> Status
     ensures silent { result ≢ Status.NotJudged → errors.new ≡ errors.old }
 {
-    let Some(command) = command_of(words) else {
-        let _ = write_text(errors, USAGE.as_bytes());
+    let Some(asked) = asked_of(words) else {
+        let _ = write_text(errors, usage_of(words).as_bytes());
         return Status::NotJudged;
     };
-    match run_command(alloc, command, reader, writer) {
+    match run_asked(files, alloc, asked, reader, writer) {
         Ok(status) => status,
         Err(failure) => {
             let _ = tell_failure(alloc, failure, errors);
             Status::NotJudged
         }
+    }
+}
+
+/// Runs a command on the file that is named, or on the reader.
+fn run_asked<F: Files, R: CountedRead, W: Write, A: Allocator + Copy>(
+    files: &F,
+    alloc: A,
+    asked: Asked<'_>,
+    reader: &mut R,
+    writer: &mut W,
+) -> Result<Status, Failure> {
+    let Some(path) = asked.file else {
+        return run_command(alloc, asked.command, reader, writer);
+    };
+    let mut file = match fs::open(files, path) {
+        Ok(file) => Counted::new(file),
+        Err(error) if error.kind() == ErrorKind::OutOfMemory => return Err(Failure::Memory),
+        Err(_) => return Err(Failure::File),
+    };
+    match asked.command {
+        Command::Verify(who) => verify_file(alloc, who, reader, &mut file, writer),
+        command => run_command(alloc, command, &mut file, writer),
     }
 }
 
@@ -67,19 +88,7 @@ fn tell_failure<E: Write, A: Allocator>(
     errors: &mut E,
 ) -> Result<(), Failure> {
     let line = format!(in alloc; "stun_inspect: {failure}\n")?;
-    write_text(errors, line.as_bytes())
-}
-
-/// The words after the program's name, or none where one of them is no text.
-fn words_of(rt: &(impl std::rt::Env + AllocGlobal)) -> Result<Vec<String>, AllocError> {
-    match env::args(rt) {
-        Ok(mut words) => {
-            words.next();
-            words.collect(rt.alloc())
-        }
-        Err(error) if error.kind() == ErrorKind::OutOfMemory => Err(AllocError),
-        Err(_) => Ok(Vec::new(rt.alloc())),
-    }
+    Ok(write_text(errors, line.as_bytes())?)
 }
 
 fn main(rt: HostRuntime) -> ExitCode {
@@ -87,9 +96,10 @@ fn main(rt: HostRuntime) -> ExitCode {
         return Status::NotJudged.code();
     };
     run(
+        &rt,
         rt.alloc(),
         words.as_slice(),
-        &mut rt.reader(),
+        &mut Counted::new(rt.reader()),
         &mut io::writer(&rt),
         &mut rt.stderr(),
     )

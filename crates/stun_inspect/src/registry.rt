@@ -9,6 +9,10 @@ pub enum Form {
     XorAddress,
     /// A text in UTF-8.
     Text,
+    /// The same, of at most 763 bytes (section 14.14).
+    Software,
+    /// The same, of at most 255 bytes (section 14.16).
+    Domain,
     /// A nonce, which is a text that may carry security bits (sections 9.2 and 14.10).
     Nonce,
     /// A code and a phrase (section 14.8).
@@ -19,10 +23,24 @@ pub enum Form {
     Algorithm,
     /// Password algorithms (section 14.11).
     Algorithms,
-    /// A number of 32 bits.
-    Number,
+    /// A priority (RFC 8445, section 16.1).
+    Priority,
+    /// A tie-breaker (RFC 8445, section 16.1).
+    TieBreaker,
     /// An empty value: the attribute is a flag.
     Flag,
+    /// The number of a channel (RFC 8656, section 18.1).
+    Channel,
+    /// Seconds (RFC 8656, section 18.2).
+    Lifetime,
+    /// The family of an address (RFC 8656, sections 18.6 and 18.11).
+    Family,
+    /// Whether the next port is to be reserved (RFC 8656, section 18.7).
+    EvenPort,
+    /// A protocol over IP (RFC 8656, section 18.8).
+    Transport,
+    /// What names a reserved port (RFC 8656, section 18.10).
+    Token,
     /// Bytes.
     Bytes,
 }
@@ -56,24 +74,24 @@ fn required(number: u16) -> Option<Registered> {
         0x0008 => entry("MESSAGE-INTEGRITY", Form::Bytes),
         0x0009 => entry("ERROR-CODE", Form::Error),
         0x000A => entry("UNKNOWN-ATTRIBUTES", Form::Types),
-        0x000C => entry("CHANNEL-NUMBER", Form::Bytes),
-        0x000D => entry("LIFETIME", Form::Number),
+        0x000C => entry("CHANNEL-NUMBER", Form::Channel),
+        0x000D => entry("LIFETIME", Form::Lifetime),
         0x0012 => entry("XOR-PEER-ADDRESS", Form::XorAddress),
         0x0013 => entry("DATA", Form::Bytes),
         0x0014 => entry("REALM", Form::Text),
         0x0015 => entry("NONCE", Form::Nonce),
         0x0016 => entry("XOR-RELAYED-ADDRESS", Form::XorAddress),
-        0x0017 => entry("REQUESTED-ADDRESS-FAMILY", Form::Bytes),
-        0x0018 => entry("EVEN-PORT", Form::Bytes),
-        0x0019 => entry("REQUESTED-TRANSPORT", Form::Bytes),
+        0x0017 => entry("REQUESTED-ADDRESS-FAMILY", Form::Family),
+        0x0018 => entry("EVEN-PORT", Form::EvenPort),
+        0x0019 => entry("REQUESTED-TRANSPORT", Form::Transport),
         0x001A => entry("DONT-FRAGMENT", Form::Flag),
         0x001B => entry("ACCESS-TOKEN", Form::Bytes),
         0x001C => entry("MESSAGE-INTEGRITY-SHA256", Form::Bytes),
         0x001D => entry("PASSWORD-ALGORITHM", Form::Algorithm),
         0x001E => entry("USERHASH", Form::Bytes),
         0x0020 => entry("XOR-MAPPED-ADDRESS", Form::XorAddress),
-        0x0022 => entry("RESERVATION-TOKEN", Form::Bytes),
-        0x0024 => entry("PRIORITY", Form::Number),
+        0x0022 => entry("RESERVATION-TOKEN", Form::Token),
+        0x0024 => entry("PRIORITY", Form::Priority),
         0x0025 => entry("USE-CANDIDATE", Form::Flag),
         0x0026 => entry("PADDING", Form::Bytes),
         0x0027 => entry("RESPONSE-PORT", Form::Bytes),
@@ -85,18 +103,18 @@ fn required(number: u16) -> Option<Registered> {
 /// The attributes that may be ignored.
 fn optional(number: u16) -> Option<Registered> {
     match number {
-        0x8000 => entry("ADDITIONAL-ADDRESS-FAMILY", Form::Bytes),
+        0x8000 => entry("ADDITIONAL-ADDRESS-FAMILY", Form::Family),
         0x8001 => entry("ADDRESS-ERROR-CODE", Form::Bytes),
         0x8002 => entry("PASSWORD-ALGORITHMS", Form::Algorithms),
-        0x8003 => entry("ALTERNATE-DOMAIN", Form::Text),
+        0x8003 => entry("ALTERNATE-DOMAIN", Form::Domain),
         0x8004 => entry("ICMP", Form::Bytes),
-        0x8022 => entry("SOFTWARE", Form::Text),
+        0x8022 => entry("SOFTWARE", Form::Software),
         0x8023 => entry("ALTERNATE-SERVER", Form::Address),
         0x8025 => entry("TRANSACTION_TRANSMIT_COUNTER", Form::Bytes),
         0x8027 => entry("CACHE-TIMEOUT", Form::Bytes),
         0x8028 => entry("FINGERPRINT", Form::Bytes),
-        0x8029 => entry("ICE-CONTROLLED", Form::Bytes),
-        0x802A => entry("ICE-CONTROLLING", Form::Bytes),
+        0x8029 => entry("ICE-CONTROLLED", Form::TieBreaker),
+        0x802A => entry("ICE-CONTROLLING", Form::TieBreaker),
         0x802B => entry("RESPONSE-ORIGIN", Form::Address),
         0x802C => entry("OTHER-ADDRESS", Form::Address),
         0x802D => entry("ECN-CHECK STUN", Form::Bytes),

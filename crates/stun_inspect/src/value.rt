@@ -1,12 +1,17 @@
 //! The values of attributes as text.
 
-use crate::registry::{Form, attribute_name, error_name};
+use crate::further_value::{
+    push_channel, push_domain, push_even_port, push_family, push_flag, push_lifetime,
+    push_plain_address, push_priority, push_software, push_tie_breaker, push_token, push_transport,
+    push_types, push_xored_address,
+};
+use crate::registry::{Form, error_name};
 use std::alloc::{AllocError, Allocator};
-use std::net::{IpAddr, Ipv4Addr, Ipv6Addr, SocketAddr};
+use std::net::SocketAddr;
 use stun_auth::auth::NonceSecurityBits;
 use stun_types::attribute::{
     AttributeType, ErrorCode, PasswordAlgorithm, PasswordAlgorithmValue, PasswordAlgorithms,
-    RawAttribute, XorMappedAddress,
+    RawAttribute,
 };
 use stun_types::message::TransactionId;
 use stun_types::prelude::AttributeFromRaw;
@@ -19,16 +24,25 @@ pub fn push_value<A: Allocator + Copy>(
     id: TransactionId,
 ) -> Result<(), AllocError> {
     let is_read = match form {
-        Form::Address => push_address(text, plain_address(value))?,
-        Form::XorAddress => push_address(text, xored_address(value, id))?,
+        Form::Address => push_plain_address(text, value)?,
+        Form::XorAddress => push_xored_address(text, value, id)?,
         Form::Text => push_text(text, value)?,
+        Form::Software => push_software(text, value)?,
+        Form::Domain => push_domain(text, value)?,
         Form::Nonce => push_nonce(text, value)?,
         Form::Error => push_error(text, value)?,
         Form::Types => push_types(text, value)?,
         Form::Algorithm => push_algorithm(text, value)?,
         Form::Algorithms => push_algorithms(text, value)?,
-        Form::Number => push_number(text, value)?,
+        Form::Priority => push_priority(text, value)?,
+        Form::TieBreaker => push_tie_breaker(text, value)?,
         Form::Flag => push_flag(text, value)?,
+        Form::Channel => push_channel(text, value)?,
+        Form::Lifetime => push_lifetime(text, value)?,
+        Form::Family => push_family(text, value)?,
+        Form::EvenPort => push_even_port(text, value)?,
+        Form::Transport => push_transport(text, value)?,
+        Form::Token => push_token(text, value)?,
         Form::Bytes => push_digits(text, value)?,
     };
     if !is_read {
@@ -112,42 +126,11 @@ pub fn push_security_bits<A: Allocator + Copy>(
     }
 }
 
-/// The address and port of a value (RFC 8489, section 14.1).
-fn plain_address(value: &[u8]) -> Option<SocketAddr> {
-    match value {
-        [_, 1, high, low, a, b, c, d] => {
-            let ip = IpAddr::V4(Ipv4Addr::new(*a, *b, *c, *d));
-            Some(SocketAddr::new(ip, u16::from_be_bytes([*high, *low])))
-        }
-        [_, 2, high, low, octets @ ..] => {
-            if octets.len() != 16 {
-                return None;
-            }
-            let mut ipv6 = [0; 16];
-            ipv6.copy_from_slice(octets);
-            let ip = IpAddr::V6(Ipv6Addr::from_octets(ipv6));
-            Some(SocketAddr::new(ip, u16::from_be_bytes([*high, *low])))
-        }
-        _ => None,
-    }
-}
-
-/// The address and port that a value hides (RFC 8489, section 14.2).
-fn xored_address(value: &[u8], id: TransactionId) -> Option<SocketAddr> {
-    let raw = RawAttribute::new(AttributeType::XOR_MAPPED_ADDRESS, value);
-    match XorMappedAddress::from_raw(raw) {
-        Ok(address) => Some(address.addr(id)),
-        Err(_) => None,
-    }
-}
-
-fn push_address<A: Allocator + Copy>(
+/// Appends an address and a port.
+pub fn push_address<A: Allocator + Copy>(
     text: &mut String<A>,
-    address: Option<SocketAddr>,
+    address: SocketAddr,
 ) -> Result<bool, AllocError> {
-    let Some(address) = address else {
-        return Ok(false);
-    };
     write!(text, "{address}")?;
     Ok(true)
 }
@@ -160,33 +143,6 @@ fn push_error<A: Allocator + Copy>(text: &mut String<A>, value: &[u8]) -> Result
     let name = error_name(code);
     write!(text, "{code} {name}, ")?;
     push_quoted(text, error.reason())?;
-    Ok(true)
-}
-
-fn push_types<A: Allocator + Copy>(text: &mut String<A>, value: &[u8]) -> Result<bool, AllocError> {
-    if value.len() % 2 != 0 {
-        return Ok(false);
-    }
-    if value.is_empty() {
-        text.push_str("none")?;
-    }
-    let mut high = None;
-    let mut is_first = true;
-    for byte in value {
-        match high {
-            None => high = Some(*byte),
-            Some(first) => {
-                let number = u16::from_be_bytes([first, *byte]);
-                let name = attribute_name(number);
-                if !is_first {
-                    text.push_str(", ")?;
-                }
-                write!(text, "0x{number:04x} {name}")?;
-                is_first = false;
-                high = None;
-            }
-        }
-    }
     Ok(true)
 }
 
@@ -228,25 +184,5 @@ fn push_algorithms<A: Allocator + Copy>(
             text.push_str(algorithm_name(algorithm))?;
         }
     }
-    Ok(true)
-}
-
-fn push_number<A: Allocator + Copy>(
-    text: &mut String<A>,
-    value: &[u8],
-) -> Result<bool, AllocError> {
-    let [a, b, c, d] = value else {
-        return Ok(false);
-    };
-    let number = u32::from_be_bytes([*a, *b, *c, *d]);
-    write!(text, "{number}")?;
-    Ok(true)
-}
-
-fn push_flag<A: Allocator + Copy>(text: &mut String<A>, value: &[u8]) -> Result<bool, AllocError> {
-    if !value.is_empty() {
-        return Ok(false);
-    }
-    text.push_str("set")?;
     Ok(true)
 }

@@ -8,7 +8,7 @@ use Rattle.std.specs.declared.result.Result.{Result}
 use Rattle.std.specs.declared.cmp.Ordering.{Ordering}
 use Rattle.std.specs.declared.cmp.Ordering.TheVariants.{Less, Equal, Greater}
 use Rattle.std.specs.FinMap as fin
-use Rattle.std.specs.FinMap.{get-insert}
+use Rattle.std.specs.FinMap.{get-insert, get-remove}
 use Rattle.std.specs.declared.net.socket_addr.SocketAddr.{SocketAddr}
 use Rattle.stun_base.specs.Address.{address_cmp, same_address}
 use Rattle.stun_base.specs.declared.error.StunParseError.{StunParseError}
@@ -61,6 +61,13 @@ elsewhere places (Some p) b a change h = get-insert address_total places b (chan
 pub here : (places : fin.FinMap address_cmp PlaceSeen) (o : Option PlaceSeen) (a : SocketAddr) (change : PlaceSeen → PlaceSeen) → fin.get places a ≡ o → fin.get (at_place o places a change) a ≡ option_map change o
 here places None a change h = h
 here places (Some p) a change h = get-insert address_total places a (change p) a ∙ ap (λ t. cond t (Some (change p)) (fin.get places a)) ((eq_by_cmp_equiv address_total).refl a)
+
+-- a place that is removed is gone there, and stays elsewhere
+removed_here : (places : fin.FinMap address_cmp PlaceSeen) (a : SocketAddr) → fin.get (fin.remove places a) a ≡ None
+removed_here places a = get-remove address_total places a a ∙ ap (λ b. cond b None (fin.get places a)) ((eq_by_cmp_equiv address_total).refl a)
+
+removed_elsewhere : (places : fin.FinMap address_cmp PlaceSeen) (b a : SocketAddr) → same_address b a ≡ false → fin.get (fin.remove places b) a ≡ fin.get places a
+removed_elsewhere places b a h = get-remove address_total places b a ∙ ap (λ t. cond t None (fin.get places a)) (swapped a b ∙ h)
 
 -- where no place is left, none stood
 pub none_left : (needs : Bool) (left : PlaceSeen) (stood : Option PlaceSeen) → cond needs (Some left) stood ≡ None → stood ≡ None
@@ -124,6 +131,10 @@ own_place a (Call.RemoveClient b) s h =
     subst P (sym same) (here s.places (fin.get s.places a) a (with_client None) refl)
 own_place a (Call.SetExpiry expiry) s h = refl
 own_place a (Call.ForgetExpired now) s h = get-places_kept now s.places a
+own_place a (Call.Forget b) s h =
+    let same : b ≡ a = one_address b a h in
+    let P : SocketAddr → Type 0 = λ x. fin.get (after_call s (Call.Forget x)).places a ≡ None in
+    subst P (sym same) (removed_here s.places a)
 
 -- an own call does to what an address can tell what it does to the server
 pub own_step : (a : SocketAddr) (call : ServerCall) (s : ServerSeen) → concerns a call ≡ true → sight (after_call s call) a ≡ sight_after (sight s a) call
@@ -145,6 +156,7 @@ other_step a (Call.SetAnonymous feature) s h = cc
 other_step a (Call.RemoveClient b) s h = ap (λ (o : Option PlaceSeen). record (sight s a) { place = o }) (elsewhere s.places (fin.get s.places b) b a (with_client None) h)
 other_step a (Call.SetExpiry expiry) s h = cc
 other_step a (Call.ForgetExpired now) s h = cc
+other_step a (Call.Forget b) s h = ap (λ (o : Option PlaceSeen). record (sight s a) { place = o }) (removed_elsewhere s.places b a h)
 
 -- the reply to an own call is a function of what the address can tell
 own_reply : (a : SocketAddr) (call : ServerCall) (s t : ServerSeen) → concerns a call ≡ true → sight s a ≡ sight t a → reply s call ≡ reply t call
@@ -162,6 +174,7 @@ own_reply a (Call.SetAnonymous feature) s t h alike = refl
 own_reply a (Call.RemoveClient b) s t h alike = refl
 own_reply a (Call.SetExpiry expiry) s t h alike = refl
 own_reply a (Call.ForgetExpired now) s t h alike = refl
+own_reply a (Call.Forget b) s t h alike = refl
 
 -- ---- a list of calls
 

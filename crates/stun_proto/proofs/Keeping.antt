@@ -1,6 +1,6 @@
 -- An address keeps some nonce of the settings after calls that leave its place: the nonce may end, and another one be made.
 use Rattle.std.proofs.Common.{◌≡◌, ◌≤◌, ◌<◌, ◌+◌, ℕ, suc, List, [], ◌∷◌, Option, Some, None, Bool, true, false, refl, sym, ◌∙◌, ap, Ok, Err, arith}
-use Rattle.std.specs.Prelude.{cond, nat_le, nat_lt, ◌&&◌}
+use Rattle.std.specs.Prelude.{cond, nat_le, nat_lt, not, ◌&&◌}
 use Rattle.std.specs.Option.{is_none, is_some}
 use Rattle.std.proofs.Math.Nat.{le-min}
 use Rattle.std.proofs.lemmas.Bool.{le-ltb, leb-true, leb-false}
@@ -141,6 +141,7 @@ module _ (users : Registered) (feature : Feature) (expiry : ℕ) (bound : ℕ) (
         (with_client None p, refl, removed_kept p (sym (ap (λ b. cond b removable true) own) ∙ h) k)
     own_keeps (Call.SetExpiry time) p k own h = cc
     own_keeps (Call.ForgetExpired now) p k own h = with_place _ (p, forgetting_kept removable refl p k now h, k)
+    own_keeps (Call.Forget forgotten) p k own h = let clash : false ≡ true = sym (ap not own) ∙ h in cc
 
     -- the address has such a place
     abbrev pub Keeps : ServerSeen → Type 0

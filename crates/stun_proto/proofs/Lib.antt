@@ -5,7 +5,6 @@ pub mod Answered
 pub mod AppendedLemmas
 pub mod Chosen
 pub mod Counting
-pub mod DrawnWords
 pub mod DriveLemmas
 pub mod Driven
 pub mod Existence

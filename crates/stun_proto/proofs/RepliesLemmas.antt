@@ -78,6 +78,7 @@ own_place_told a (Call.SetAnonymous feature) s h = refl
 own_place_told a (Call.RemoveClient b) s h = refl
 own_place_told a (Call.SetExpiry expiry) s h = refl
 own_place_told a (Call.ForgetExpired now) s h = refl
+own_place_told a (Call.Forget b) s h = refl
 
 abbrev with_place : Sight → ServerCall → Option PlaceSeen → Sight
 with_place s call place = record {

@@ -26,6 +26,7 @@ taken deal a (Call.SetAnonymous feature) h = refl
 taken deal a (Call.RemoveClient address) h = dealt deal address a (one_address address a h)
 taken deal a (Call.SetExpiry expiry) h = refl
 taken deal a (Call.ForgetExpired now) h = refl
+taken deal a (Call.Forget address) h = dealt deal address a (one_address address a h)
 
 -- so the address has the same calls of its own there
 own_share : (deal : SocketAddr → ℕ) (a : SocketAddr) (calls : List ServerCall) → own a (share deal (deal a) calls) ≡ own a calls

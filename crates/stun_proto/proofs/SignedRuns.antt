@@ -28,7 +28,7 @@ use Rattle.stun_auth.specs.Server.{Sight}
 use Rattle.stun_auth.specs.ServerSigning.{server_signed}
 use Rattle.stun_auth.specs.Signed.{Added, IsBuilt, IsSmall, IsText, IsUnsigned, ReadsAs, added_at, added_by_client, added_by_server, added_for, added_if_kept, added_under, added_under_key, added_without_client, additions_of, error_attribute, is_listed, nothing, only_if, plain_name, hashed_name}
 use Rattle.stun_proto.specs.Negotiation.{asked, error, failure, request, responded, success}
-use Rattle.stun_proto.specs.Signing.{page_of}
+use Rattle.stun_auth.specs.Additions.{page_of}
 use Rattle.stun_proto.specs.Renewal.{IsAsked, IsTold}
 use Rattle.stun_proto.proofs.Signed.{IsBare, IsFailure, IsRequest, IsSuccess, SignedIsRead, SigningSucceeds}
 

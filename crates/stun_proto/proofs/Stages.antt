@@ -17,7 +17,7 @@ use Rattle.stun_proto.specs.code.Sides.{IsRun}
 use Rattle.stun_proto.specs.Negotiation.{Meeting, asked, challenge_answered, challenged, ended, failure, first_answered, negotiated, responded, second_asked, succeeded, success}
 use Rattle.stun_proto.specs.Serving.{after_calls}
 use Rattle.stun_proto.specs.Sides.{sides_after_challenge, sides_after_second, sides_after_success, sides, sides_of}
-use Rattle.stun_proto.specs.Signing.{page_of}
+use Rattle.stun_auth.specs.Additions.{page_of}
 use Rattle.stun_proto.specs.declared.replay.negotiation.NegotiateError.{NegotiateError}
 use Rattle.stun_proto.specs.declared.replay.negotiation.Outcome.{Outcome}
 use Rattle.stun_proto.specs.declared.replay.negotiation.Outcome.TheVariants.{AlreadyValidated, ClientRefused, ServerRefused}

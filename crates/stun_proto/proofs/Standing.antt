@@ -1,6 +1,6 @@
 -- A nonce that stands at an address does so after calls that leave it.
 use Rattle.std.proofs.Common.{◌≡◌, ℕ, suc, List, [], ◌∷◌, Option, Some, None, Bool, true, false, refl, sym, ◌∙◌, ap, Ok, Err, arith}
-use Rattle.std.specs.Prelude.{cond, nat_le, nat_lt, ◌&&◌}
+use Rattle.std.specs.Prelude.{cond, nat_le, nat_lt, not, ◌&&◌}
 use Rattle.std.specs.Option.{is_none, option_map}
 use Rattle.std.proofs.lemmas.Bool.{le-ltb, leb-true}
 use Rattle.std.specs.declared.net.socket_addr.SocketAddr.{SocketAddr}
@@ -122,6 +122,7 @@ module _ (users : Registered) (feature : Feature) (expiry : ℕ) (address : Sock
       (None, refl, λ never. cc)
   own_leaves (Call.SetExpiry time) known knows own h = cc
   own_leaves (Call.ForgetExpired now) known knows own h = with_place _ (known, not_forgotten removable refl known knows now h, knows)
+  own_leaves (Call.Forget forgotten) known knows own h = let clash : false ≡ true = sym (ap not own) ∙ h in cc
 
   call_leaves : (s : ServerSeen) (call : ServerCall) → leaves_nonce address end removable call ≡ true → Stands s → Stands (after_call s call)
   call_leaves s call h stands =

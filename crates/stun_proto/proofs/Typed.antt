@@ -26,7 +26,7 @@ use Rattle.stun_auth.specs.Server.{Sight}
 use Rattle.stun_auth.specs.ServerSigning.{server_signed}
 use Rattle.stun_auth.specs.Signed.{Added, added_by_client, added_by_server, additions_of, error_attribute, if_there}
 use Rattle.stun_proto.specs.Negotiation.{asked, error, failure, request, success}
-use Rattle.stun_proto.specs.Signing.{page_of}
+use Rattle.stun_auth.specs.Additions.{page_of}
 use Rattle.stun_proto.specs.code.Signed.{signed_page}
 
 -- ---- the types of additions

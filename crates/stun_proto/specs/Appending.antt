@@ -1,5 +1,6 @@
--- A message in the place of another that agrees with it up to its deciding integrity attribute (RFC 8489, sections 14.5 to 14.7):
--- whoever appends to a signed request changes nothing, but by a MESSAGE-INTEGRITY-SHA256 after a MESSAGE-INTEGRITY.
+-- A message in the place of another that agrees with it up to its deciding integrity attribute (RFC
+-- 8489, sections 14.5 to 14.7): whoever appends to a signed request changes no reply and nothing
+-- that is kept, but by a MESSAGE-INTEGRITY-SHA256 after a MESSAGE-INTEGRITY.
 use Rattle.std.specs.Prelude.{◌≡◌, ℕ, List, ◌∷◌, ◌++◌, None}
 use Rattle.std.specs.declared.alloc.Global.{Global}
 use Rattle.std.specs.declared.net.socket_addr.SocketAddr.{SocketAddr}

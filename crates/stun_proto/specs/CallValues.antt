@@ -19,6 +19,7 @@ pub data CallValue : Type 0 where
   RemoveClient : SocketAddr → CallValue
   SetExpiry : Duration → CallValue
   ForgetExpired : ℕ → CallValue
+  Forget : SocketAddr → CallValue
 
 abbrev pub value_of : ServerCall → CallValue
 value_of (Call.Validate from now message words) = Validate from now message.items words
@@ -31,6 +32,7 @@ value_of (Call.SetAnonymous feature) = SetAnonymous feature
 value_of (Call.RemoveClient address) = RemoveClient address
 value_of (Call.SetExpiry expiry) = SetExpiry expiry
 value_of (Call.ForgetExpired now) = ForgetExpired now
+value_of (Call.Forget address) = Forget address
 
 -- what is shown of a call: which it is, and none of its values, a password being one
 abbrev pub call_shown : ServerCall → List ℕ
@@ -44,3 +46,4 @@ call_shown (Call.SetAnonymous feature) = codes "SetAnonymous(..)"
 call_shown (Call.RemoveClient address) = codes "RemoveClient(..)"
 call_shown (Call.SetExpiry expiry) = codes "SetExpiry(..)"
 call_shown (Call.ForgetExpired now) = codes "ForgetExpired(..)"
+call_shown (Call.Forget address) = codes "Forget(..)"

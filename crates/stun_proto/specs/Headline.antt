@@ -1,5 +1,6 @@
--- The three sentences of this library, in the words of RFC 8489. Each definition that says one is in an `ensures` of the public
--- call that its comment names, so the check of that call proves it. The table at the end says where each word is defined.
+-- The three sentences of this library. Each definition that says one is in an `ensures` of the
+-- public call that its comment names, so the check of that call proves it. The sentences are of
+-- whole runs by these calls. The table at the end says where each word is defined.
 use Rattle.std.specs.Prelude.{ℕ, ◌≡◌, ◌≤◌, ◌⊎◌, List, ◌∷◌, ◌++◌, filter, length, Some, None}
 use Rattle.std.specs.List.{AllByRecursion}
 use Rattle.std.specs.declared.net.socket_addr.SocketAddr.{SocketAddr}
@@ -46,8 +47,8 @@ use Rattle.stun_proto.specs.Steps.{Step, is_of}
 abbrev pub ValidatesOneCall : Sight → ℕ → List ℕ → Reading → Answer → Type 0
 ValidatesOneCall = one.ValidatesAccepted
 
--- Every list of calls: `serve`, clause `headline`, with `read` = `message_read` and `run` = `replies`. How `replies` is defined need not
--- be read: `validated` and `isolated` say what it comes to
+-- Every list of calls: `serve`, clause `headline`, with `read` = `message_read` and `run` =
+-- `replies`. Whom the server validates is said by `validated` without `replies`
 pub record ValidatesEachCall (read : Reads) (run : ServerSeen → List ServerCall → List Reply) (start : ServerSeen) (calls : List ServerCall) (given : List Reply) : Type 0 where
   -- the replies are those of the run
   pub replied : given ≡ run start calls
@@ -59,9 +60,10 @@ pub record ValidatesEachCall (read : Reads) (run : ServerSeen → List ServerCal
 
 -- ---- 2. The client (sections 9.2.3 to 9.2.5)
 
--- A client that has read nothing yet and is ready: it has the credentials of a registered user, no two registered users share a hash,
--- its address is new to the server, the calls between its messages are those of other addresses alone, and its second request
--- comes while the nonce is current. Its realm and its user name have at most 763 and 513 bytes, no less than sections 14.9 and 14.3 allow
+-- A client that has read nothing yet and is ready: it has the credentials of a registered user, no
+-- two registered users share a hash, its address is new to the server, the calls between its
+-- messages are those of other addresses alone, and its second request comes while the nonce is
+-- current. Its realm and its user name have at most 763 and 513 bytes (sections 14.9 and 14.3)
 pub record IsReadyClient (state : ClientState) (m : Meeting) (who : NameAndPassword) (server : ServerSeen) : Type 0 where
   pub new : state ≡ initial
   pub ready : IsReady m who server
@@ -72,9 +74,12 @@ pub record IsReadyClient (state : ClientState) (m : Meeting) (who : NameAndPassw
 abbrev pub EndsWith : Result Outcome NegotiateError → Outcome → Type 0
 EndsWith result outcome = (result ≡ Ok outcome) ⊎ (result ≡ Err Memory)
 
--- How the meeting of such a client ends: `negotiate`, clause `headline`, says that `IsReadyClient` gives `EndsAtStrongest`
+-- How the meeting of such a client ends, with nobody in between: `negotiate`, clause `headline`,
+-- says that `IsReadyClient` gives `EndsAtStrongest`, which is of the outcome alone. That both sides
+-- made the steps of the meeting, and how they are left, say its clauses `steps` and `strongest`
 pub record EndsAtStrongest (m : Meeting) (server : ServerSeen) (result : Result Outcome NegotiateError) : Type 0 where
-  -- the server validates its second request with the strongest algorithm that both support, and the client the response
+  -- the outcome is `Validated`, by the strongest algorithm that both support: the server accepted
+  -- the second request, and the client its success
   pub validated : (a : IntegrityAlgorithm) → IsStrongestShared m.settings.supported (listed server.registered.algorithms) a
       → (HashIsRefused m.settings.feature server.feature → ⊥) → EndsWith result (Validated a)
   -- where they share none, or the client must hash its name and the server takes no hash, the client gives up
@@ -84,9 +89,10 @@ pub record EndsAtStrongest (m : Meeting) (server : ServerSeen) (result : Result 
 
 -- ---- 3. The agent (sections 6.2.1 and 6.2.2)
 
--- A request that is asked once and is undisturbed: its bytes begin with the header of a request (section 5) and this id, the agent
--- may send to its destination, no request of the id is outstanding when the run begins, no other event asks for the id, and up to the
--- end of its plan no response of the id comes from its address, and no call cancels or changes it
+-- A request that one event asks for and that is undisturbed: its bytes begin with the header of a
+-- request (section 5) and this id, the agent may send to its destination, no request of the id is
+-- outstanding when the run begins, no other event asks for the id, and up to the end of its plan no
+-- response of the id comes from its address, and no call cancels or changes it
 pub record IsAskedOnce (a : Requester) (id start : ℕ) (bytes : List ℕ) (to : SocketAddr) (earlier later : List (ℕ × AgentEvent)) : Type 0 where
   pub header : header_refusal bytes ≡ None
   pub class : class_in bytes ≡ Request
@@ -98,8 +104,11 @@ pub record IsAskedOnce (a : Requester) (id start : ℕ) (bytes : List ℕ) (to :
   pub not_again : AllByRecursion (λ e. Asks id e.1 → ⊥) later
   pub undisturbed : IsUndisturbed id to (planned_end a.transport a.settings start) later
 
--- All steps of this id in the run are those of its plan, up to and including `until`: it is sent at its start plus the sum of its first
--- k timeouts, for each k, and at no other moment, and times out once, where `until` reaches its end. `drive`, clause `headline`
+-- All steps of this id in the list that is answered are those of its plan, up to and including
+-- `until`: it is sent at its start plus the sum of its first k timeouts, for each k up to its
+-- number of slots, and at no other moment, and times out once, where `until` reaches its end.
+-- `drive`, clause `headline`. That the list is what an agent did that was polled at exactly the
+-- moments it names is said by its clause `run`
 abbrev pub SendsByPlan : ℕ → Requester → List (ℕ × AgentEvent) → List Step → Type 0
 SendsByPlan until a events steps =
     (id start : ℕ) (bytes : Vec ℕ) (to : SocketAddr) (earlier later : List (ℕ × AgentEvent))

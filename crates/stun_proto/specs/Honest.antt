@@ -1,4 +1,4 @@
--- What an honest client and its server come to (RFC 8489, section 9.2).
+-- What a ready client and its server come to, where no signing is refused (RFC 8489, section 9.2).
 use Rattle.std.specs.Prelude.{◌≡◌, ℕ, ◌≤◌, List, length, true, Option, Some, None, IsOk}
 use Rattle.std.specs.Option.{is_some, option_and_then}
 use Rattle.std.specs.declared.result.Result.TheVariants.{Ok}
@@ -38,7 +38,7 @@ pub record IsReady (m : Meeting) (who : NameAndPassword) (server : ServerSeen) :
   -- the second request is read while the nonce is current
   pub in_time : m.second.now ≤ moment_after m.first.now server.expiry
 
--- it is honest where no signing is refused either
+-- `honest` is short for: it is ready, and no signing of the meeting is refused
 pub record IsHonest (m : Meeting) (who : NameAndPassword) (server : ServerSeen) : Type 0 where
   pub ready : IsReady m who server
   pub signed : IsOk (negotiated m initial server).ending
@@ -66,7 +66,8 @@ ComesTo from who None met = GivesUp met
 abbrev pub strongest : Meeting → ServerSeen → Option IntegrityAlgorithm
 strongest m server = best m.settings.supported (listed server.registered.algorithms) m.settings.feature server.feature
 
--- an honest client and its server come to the strongest algorithm of both, where there is one; else the client gives up
+-- a client that is honest in this sense and its server come to the strongest algorithm of both,
+-- where there is one; else the client gives up
 abbrev pub StrongestIsAgreed : Type 0
 StrongestIsAgreed = (m : Meeting) (who : NameAndPassword) (server : ServerSeen)
     → AreTexts server.registered.realm who.username → IsHonest m who server

@@ -17,7 +17,7 @@ use Rattle.stun_proto.specs.declared.replay.call.ServerCall.TheVariants as Call
 use Rattle.stun_proto.specs.Signing.{if_signed, place_offered, signing}
 use Rattle.stun_proto.specs.Serving.{Reply, registered_after, feature_after, expiry_after, replies}
 
--- whether a call is one of the address, or one that concerns every address: on users and settings, and forgetting
+-- whether a call is one of the address, or one that concerns every address: on users and settings, and forgetting what has expired
 abbrev pub concerns : SocketAddr → ServerCall → Bool
 concerns a (Call.Validate from now message words) = same_address from a
 concerns a (Call.Sign to message) = same_address to a
@@ -29,6 +29,7 @@ concerns a (Call.SetAnonymous feature) = true
 concerns a (Call.RemoveClient address) = same_address address a
 concerns a (Call.SetExpiry expiry) = true
 concerns a (Call.ForgetExpired now) = true
+concerns a (Call.Forget address) = same_address address a
 
 -- the calls of an address and all calls that concern every address, in their order
 abbrev pub own : SocketAddr → List ServerCall → List ServerCall
@@ -60,6 +61,7 @@ own_place_after s (Call.SetAnonymous feature) = s.place
 own_place_after s (Call.RemoveClient address) = option_map (with_client None) s.place
 own_place_after s (Call.SetExpiry expiry) = s.place
 own_place_after s (Call.ForgetExpired now) = place_kept now s.place
+own_place_after s (Call.Forget address) = None
 
 -- what a call of its own, or one that concerns every address, makes of what an address can tell
 abbrev pub sight_after : Sight → ServerCall → Sight

@@ -18,7 +18,7 @@ pub mod Serving
 pub mod Signing
 -- sentence 2: what a client and a server can agree on (section 9.2)
 pub mod Best
--- sentence 2: what an honest client and its server come to
+-- sentence 2: what a ready client and its server come to
 pub mod Honest
 -- a client and a server that meet, step by step over the bytes of their messages
 pub mod Negotiation
@@ -48,7 +48,5 @@ pub mod Stopped
 pub mod CallValues
 -- an event as a value: what its equality compares
 pub mod EventValues
--- words that are handed in, as a source of random words
-pub mod Words
 -- what no clause of a public call says: codings of models, views of structs, steps of the code
 pub mod code

@@ -23,7 +23,7 @@ use Rattle.stun_auth.specs.Server.{Sight}
 use Rattle.stun_auth.specs.ServerSigning.{after_signing, server_signed}
 use Rattle.stun_auth.specs.Signed.{error_attribute}
 use Rattle.stun_auth.specs.Validation.{Answer, ServerSeen, after_message, answer, sight}
-use Rattle.stun_proto.specs.Signing.{page_of}
+use Rattle.stun_auth.specs.Additions.{page_of}
 use Rattle.stun_proto.specs.Serving.{after_calls}
 use Rattle.stun_proto.specs.declared.replay.call.ServerCall.{ServerCall}
 use Rattle.stun_proto.specs.declared.replay.negotiation.Outcome.{Outcome}

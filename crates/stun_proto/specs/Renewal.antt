@@ -1,5 +1,5 @@
 -- A nonce that has run out, and the one that takes its place (RFC 8489, sections 9.2.4 and 9.2.5).
-use Rattle.std.specs.Prelude.{◌≡◌, ℕ, ◌<◌, ◌≤◌, nat_le, ◌&&◌, List, Bool, true, false, if◌then◌else◌, Some}
+use Rattle.std.specs.Prelude.{◌≡◌, ℕ, ◌<◌, ◌≤◌, nat_le, not, ◌&&◌, List, Bool, true, false, if◌then◌else◌, Some}
 use Rattle.std.specs.List.{All}
 use Rattle.std.specs.Str.{bytes_eq}
 use Rattle.std.specs.declared.net.socket_addr.SocketAddr.{SocketAddr}
@@ -95,7 +95,8 @@ pub record IsTold (s : Sight) (telling : Page) : Type 0 where
 -- ---- the law
 
 -- whether a call leaves users, settings and the nonce of an address: messages from there are read up to its end. Where the client there
--- may be removed, expired nonces are forgotten up to that end alone, and else at any moment, since a place with a client is kept
+-- may be removed, expired nonces are forgotten up to that end alone, and else at any moment, since a place with a client is kept. The
+-- address itself is not forgotten
 abbrev pub leaves_nonce : SocketAddr → ℕ → Bool → ServerCall → Bool
 leaves_nonce a end removable (Call.Validate from now message words) = if same_address from a then nat_le now end else true
 leaves_nonce a end removable (Call.Sign to message) = true
@@ -107,10 +108,11 @@ leaves_nonce a end removable (Call.SetAnonymous feature) = false
 leaves_nonce a end removable (Call.RemoveClient address) = if same_address address a then removable else true
 leaves_nonce a end removable (Call.SetExpiry expiry) = false
 leaves_nonce a end removable (Call.ForgetExpired now) = if removable then nat_le now end else true
+leaves_nonce a end removable (Call.Forget address) = not (same_address address a)
 
 -- whether a call leaves users, settings and the place of an address, whatever nonce is kept there: messages from there are read at any
 -- moment, also after the nonce's end, which make another. Where the client there may be removed, expired nonces are forgotten up to
--- that end alone, and no moment is past the last one
+-- that end alone, and no moment is past the last one. The address itself is not forgotten
 abbrev pub leaves_place : SocketAddr → ℕ → Bool → ServerCall → Bool
 leaves_place a end removable (Call.Validate from now message words) = true
 leaves_place a end removable (Call.Sign to message) = true
@@ -122,6 +124,7 @@ leaves_place a end removable (Call.SetAnonymous feature) = false
 leaves_place a end removable (Call.RemoveClient address) = if same_address address a then removable else true
 leaves_place a end removable (Call.SetExpiry expiry) = false
 leaves_place a end removable (Call.ForgetExpired now) = if removable then nat_le now end && nat_le now last_moment else true
+leaves_place a end removable (Call.Forget address) = not (same_address address a)
 
 abbrev pub LeavePlace : SocketAddr → ℕ → Bool → List ServerCall → Type 0
 LeavePlace a end removable calls = All (λ call. leaves_place a end removable call ≡ true) calls

@@ -76,7 +76,7 @@ place_by_signing s None = s.place
 place_by_signing s (Some m) = place_offered s (is_response m.class)
 
 -- what a call makes of an address's place: a message that needs a nonce, a response that was signed, the call that removes its
--- client, and the one that forgets expired nonces where no client is known
+-- client, the one that forgets expired nonces where no client is known, and the one that forgets the address
 abbrev pub place_by_reply : Reads → Sight → ServerCall → Reply → Option PlaceSeen
 place_by_reply read s (Call.Validate from now message words) r = place_by_message s now words (read message.items) r
 place_by_reply read s (Call.Sign to message) r = if is_signed r then place_by_signing s (read message.items) else s.place
@@ -88,6 +88,7 @@ place_by_reply read s (Call.SetAnonymous feature) r = s.place
 place_by_reply read s (Call.RemoveClient address) r = option_map (with_client None) s.place
 place_by_reply read s (Call.SetExpiry expiry) r = s.place
 place_by_reply read s (Call.ForgetExpired now) r = place_kept now s.place
+place_by_reply read s (Call.Forget address) r = None
 
 -- what a call of its own, or one that concerns every address, makes of what an address can tell
 abbrev pub sight_by_reply : Reads → Sight → ServerCall → Reply → Sight

@@ -13,7 +13,7 @@ use Rattle.stun_auth.specs.declared.server_reason.LongTermServerAuthErrorReason.
 use Rattle.stun_auth.specs.declared.server_reason.LongTermServerValidation.TheVariants as Validation
 use Rattle.stun_auth.specs.Additions.{Page}
 use Rattle.stun_auth.specs.Algorithms.{only, with_algorithm}
-use Rattle.stun_auth.specs.Forgetting.{places_kept}
+use Rattle.stun_auth.specs.Forgetting.{places_kept, without_place}
 use Rattle.stun_auth.specs.Nonces.{MINIMUM_EXPIRY}
 use Rattle.stun_auth.specs.Places.{PlacesSeen, with_change, with_client}
 use Rattle.stun_base.specs.MessageType.{class_in, is_response}
@@ -82,6 +82,7 @@ registered_after r (Call.SetAnonymous feature) = r
 registered_after r (Call.RemoveClient address) = r
 registered_after r (Call.SetExpiry expiry) = r
 registered_after r (Call.ForgetExpired now) = r
+registered_after r (Call.Forget address) = r
 
 -- whether names may be hashed
 abbrev pub feature_after : Feature → ServerCall → Feature
@@ -95,6 +96,7 @@ feature_after f (Call.SetAnonymous feature) = feature
 feature_after f (Call.RemoveClient address) = f
 feature_after f (Call.SetExpiry expiry) = f
 feature_after f (Call.ForgetExpired now) = f
+feature_after f (Call.Forget address) = f
 
 -- whether a nonce would last for less than a server takes
 abbrev pub is_too_short : Duration → Bool
@@ -112,6 +114,7 @@ expiry_after e (Call.SetAnonymous feature) = e
 expiry_after e (Call.RemoveClient address) = e
 expiry_after e (Call.SetExpiry expiry) = if is_too_short expiry then e else as_nanos expiry
 expiry_after e (Call.ForgetExpired now) = e
+expiry_after e (Call.Forget address) = e
 
 -- the places, where the bytes are a message
 abbrev pub places_unless : Option StunParseError → PlacesSeen → PlacesSeen → PlacesSeen
@@ -133,6 +136,7 @@ places_after s (Call.SetAnonymous feature) = s.places
 places_after s (Call.RemoveClient address) = with_change s.places address (with_client None)
 places_after s (Call.SetExpiry expiry) = s.places
 places_after s (Call.ForgetExpired now) = places_kept now s.places
+places_after s (Call.Forget address) = (without_place s address).places
 
 -- ---- one call
 
@@ -148,6 +152,7 @@ reply s (Call.SetAnonymous feature) = Done
 reply s (Call.RemoveClient address) = Done
 reply s (Call.SetExpiry expiry) = if is_too_short expiry then TooShort else Done
 reply s (Call.ForgetExpired now) = Done
+reply s (Call.Forget address) = Done
 
 abbrev pub after_call : ServerSeen → ServerCall → ServerSeen
 after_call s call = record {

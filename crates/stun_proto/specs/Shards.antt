@@ -19,6 +19,7 @@ takes deal k (Call.SetAnonymous feature) = true
 takes deal k (Call.RemoveClient address) = deal address == k
 takes deal k (Call.SetExpiry expiry) = true
 takes deal k (Call.ForgetExpired now) = true
+takes deal k (Call.Forget address) = deal address == k
 
 -- the calls that it takes, in their order
 abbrev pub share : (SocketAddr → ℕ) → ℕ → List ServerCall → List ServerCall

@@ -11,16 +11,12 @@ use Rattle.stun_types.specs.Message.{LENGTH_LIMIT}
 use Rattle.stun_types.specs.Visible.{visible}
 use Rattle.stun_types.specs.Walk.{attributes_of}
 use Rattle.stun_types.specs.Writing.{attribute_refusal}
-use Rattle.stun_auth.specs.Additions.{Page}
+use Rattle.stun_auth.specs.Additions.{Page, page_of}
 use Rattle.stun_auth.specs.Places.{with_offer}
 use Rattle.stun_base.specs.MessageType.{class_in, is_response}
 use Rattle.stun_auth.specs.Seen.{PlaceSeen}
 use Rattle.stun_auth.specs.Server.{Sight}
 use Rattle.stun_auth.specs.ServerSigning.{server_signed}
-
--- a message in a writer that grows to the longest message
-abbrev pub page_of : List ℕ → Page
-page_of message = record { bytes = message; room = LENGTH_LIMIT - length message }
 
 abbrev pub message_unless : Option StunWriteError → List ℕ → Result (List ℕ) StunWriteError
 message_unless None message = Ok message

@@ -29,7 +29,7 @@ ghost use Rattle.stun_proto.specs.Stopped.{StoppedRunsEnd, StoppedRunsGoOn, Stop
 ghost use Rattle.stun_proto.specs.declared.replay.event.AgentEvent.{AgentEvent as TheEvent};
 
 use crate::replay::{
-    AgentEvent, AgentStep, NegotiateError, Outcome, ServerCall, ServerReply, Stopped, WordSource,
+    AgentEvent, AgentStep, NegotiateError, Outcome, ServerCall, ServerReply, Stopped,
 };
 use std::alloc::{AllocError, Allocator};
 use stun_auth::laws as auth_laws;
@@ -62,7 +62,9 @@ pub fn runs_count_steps()
     ensures { RunsCountSteps }
 {}
 
-/// Whoever drives an agent in this way, a request that is asked once and is undisturbed is sent by its plan, and times out once.
+/// Whoever drives an agent in this way, polling it at the moments that it names, a request that one
+/// event asks for and that is undisturbed is sent by its plan, and times out once, as far as the
+/// run goes.
 pub fn runs_send_by_plan()
     ensures { (until : ℕ) (a b : Agent) (events : List (ℕ × TheEvent)) (steps : List Step)
         → until ≤ last_moment → IsAscending a.transactions → AreInOrder until 0 events
@@ -121,8 +123,9 @@ pub fn shards_serve_as_one()
     ensures { ShardsServeAsOne }
 {}
 
-/// An honest client is accepted with its second request and with the strongest algorithm that both sides support; the server
-/// knows it then, and it the server. Where there is none, it gives up and keeps nothing (RFC 8489, section 9.2).
+/// A client that is ready, where no signing is refused (`IsHonest`), is accepted with its second
+/// request and with the strongest algorithm that both sides support; the server knows it then, and
+/// it the server. Where there is none, it gives up and keeps nothing (RFC 8489, section 9.2).
 ///
 /// This is a law over the steps of a meeting, which are computed over the bytes of its messages.
 pub fn strongest_is_agreed()
@@ -134,8 +137,8 @@ pub fn strongest_is_agreed()
     auth_laws::sides_add_by_attribute();
 }
 
-/// No signing of a meeting is refused where realm and user name fit their attributes, 763 and 513 bytes (RFC 8489, sections 14.3
-/// and 14.9): then a client is honest that meets the other premises.
+/// No signing of the meeting of a ready client (`IsReady`) is refused where realm and user name fit
+/// their attributes, 763 and 513 bytes (RFC 8489, sections 14.3 and 14.9).
 pub fn short_names_are_signed()
     ensures { ShortNamesAreSigned }
 {
@@ -214,13 +217,6 @@ pub fn copied_outcomes(
     ensures { result ≡ Ok (outcome.now, error.now, stopped.now) }
 {
     Ok((outcome.clone()?, error.clone()?, stopped.clone()?))
-}
-
-/// Sources are equal where the same words are left.
-pub fn is_same_source(one: &WordSource, other: &WordSource) -> bool
-    ensures { IsTrue result ↔ (one.now ≡ other.now) }
-{
-    one == other
 }
 
 /// Steps of an agent are equal where moments, ids, addresses, bytes and answers are.

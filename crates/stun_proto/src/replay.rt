@@ -10,7 +10,6 @@ mod serving;
 mod signing;
 mod step_log;
 mod turn;
-mod words;
 
 // The laws on meetings are here too, beside `negotiate`.
 pub use crate::laws::{nonce_is_renewed, short_names_are_signed, strongest_is_agreed};
@@ -19,4 +18,4 @@ pub use driven::drive;
 pub use event::{AgentEvent, AgentStep, Stopped};
 pub use negotiation::{NegotiateError, Outcome, negotiate};
 pub use serving::serve;
-pub use words::WordSource;
+pub use stun_base::words::WordSource;

@@ -1,4 +1,5 @@
 pub mod AsBox
+mod Enough
 mod Errors
 mod Exports
 mod Reasons

@@ -1,5 +1,6 @@
 -- The addresses that callers give and get: 4 octets or 16 in network order, and a port.
 use Rattle.std.specs.Prelude.{ℕ, List, ◌++◌, take, replicate, ◌==◌, if◌then◌else◌, Option, Some, None}
+use Rattle.std.specs.Option.{option_map}
 use Rattle.std.specs.Net.Addr.{segments_of, octets_of}
 use Rattle.std.specs.declared.net.socket_addr.SocketAddr.{SocketAddr}
 use Rattle.std.specs.declared.net.socket_addr.SocketAddr.TheVariants.{V4, V6}
@@ -23,3 +24,12 @@ socket_address a =
 abbrev pub address_of : SocketAddr → Address
 address_of (V4 a) = record { octets = a.ip.octets ++ replicate 12 0; port = a.port; length = 4 }
 address_of (V6 a) = record { octets = octets_of a.ip.segments; port = a.port; length = 16 }
+
+-- where a walk over addresses begins, as a caller means it: at the first of all where the length is 0; nothing where it is none
+abbrev pub start_told : Address → Option (Option SocketAddr)
+start_told a = if a.length == 0 then Some None else option_map (λ address. Some address) (socket_address a)
+
+-- where it goes on, as a caller gets it: of length 0 at its end
+abbrev pub start_for : Option SocketAddr → Address
+start_for None = record { octets = replicate 16 0; port = 0; length = 0 }
+start_for (Some address) = address_of address

@@ -1,5 +1,5 @@
 -- What the calls on an agent answer and leave, by the definitions of its library (RFC 8489, section 6.2).
-use Rattle.std.specs.Prelude.{ℕ, List, ◌++◌, length, drop, min, nat_lt, ◌==◌, if◌then◌else◌, Option, Some, None, Result, Ok, Err}
+use Rattle.std.specs.Prelude.{ℕ, Bool, List, ◌++◌, length, drop, min, nat_lt, ◌==◌, ◌&&◌, ◌||◌, if◌then◌else◌, Option, Some, None, Result, Ok, Err}
 use Rattle.std.specs.Option.{option_map_or}
 use Rattle.std.specs.declared.net.socket_addr.SocketAddr.{SocketAddr}
 use Rattle.byteorder.specs.Endian.{big_bytes, big_number}
@@ -8,7 +8,7 @@ use Rattle.stun_agent.specs.Agent.{Agent}
 use Rattle.stun_agent.specs.Peers.{is_peer}
 use Rattle.stun_agent.specs.Statistics as counts
 use Rattle.stun_agent.specs.Timing.{Settings}
-use Rattle.stun_agent.specs.Transactions.{Transaction, at, changed}
+use Rattle.stun_agent.specs.Transactions.{Transaction, at, changed, configured}
 use Rattle.stun_agent.specs.declared.agent.StunAgentPollRet.{StunAgentPollRet}
 use Rattle.stun_agent.specs.declared.agent.StunAgentPollRet.TheVariants.{TransactionTimedOut, TransactionCancelled, WaitUntil}
 use Rattle.stun_agent.specs.declared.error.StunError.{StunError}
@@ -23,7 +23,7 @@ use Rattle.stun_state.specs.declared.address.Address.{Address}
 use Rattle.stun_state.specs.declared.agent.Statistics.{Statistics}
 use Rattle.stun_state.specs.declared.agent.Timeouts.{Timeouts}
 use Rattle.stun_state.specs.declared.codes.Refusal.{Refusal}
-use Rattle.stun_state.specs.declared.codes.Refusal.TheVariants.{AlreadyInProgress, BadArgument, BufferTooSmall, ProtocolViolation, OutOfMemory}
+use Rattle.stun_state.specs.declared.codes.Refusal.TheVariants.{AlreadyInProgress, BadArgument, BufferTooSmall, NoWait, ProtocolViolation, OutOfMemory}
 
 -- the refusal for an agent's error. An agent answers none of the last four
 abbrev pub refusal_of_agent : StunError → Refusal
@@ -55,17 +55,29 @@ made (Some transport) (Some local) = Ok (counting_agent transport local)
 abbrev pub settings_of : Timeouts → Settings
 settings_of t = record { initial = t.initial; maximum = t.longest; transmissions = t.transmissions; last_wait = t.last }
 
+-- whether a request with these time-outs is sent again without a wait, so that all its transmissions come at one moment: there is
+-- more than one, and the first wait or the longest is 0
+abbrev pub has_no_wait : Timeouts → Bool
+has_no_wait t = nat_lt 1 t.transmissions && ((t.initial == 0) || (t.longest == 0))
+
+-- an answer, unless it is to be given to such time-outs
+abbrev pub unless_no_wait : {V : Type 0} → Timeouts → Result V Refusal → Result V Refusal
+unless_no_wait t (Err refusal) = Err refusal
+unless_no_wait t (Ok value) = if has_no_wait t then Err NoWait else Ok value
+
 -- the agent that sends to this address alone, if it is one
 abbrev pub bound_to : Option SocketAddr → Agent → Result Agent Refusal
 bound_to None a = Err BadArgument
 bound_to (Some remote) a = Ok (record a { remote_addr = Some remote })
 
 -- the same, and where the length is 0 to every address
+abbrev pub bound_if_given : Address → Agent → Result Agent Refusal
+bound_if_given remote a = if remote.length == 0 then Ok a else bound_to (socket_address remote) a
+
+-- the agent with these time-outs, where they have a wait
 abbrev pub made_with : Result Agent Refusal → Address → Timeouts → Result Agent Refusal
 made_with (Err refusal) remote timeouts = Err refusal
-made_with (Ok a) remote timeouts =
-    if remote.length == 0 then Ok (record a { settings = settings_of timeouts })
-    else bound_to (socket_address remote) (record a { settings = settings_of timeouts })
+made_with (Ok a) remote timeouts = unless_no_wait timeouts (bound_if_given remote (record a { settings = settings_of timeouts }))
 
 -- ---- messages
 
@@ -167,6 +179,10 @@ peer_found (Some id) a before = peer_told (at id a.transactions) before
 abbrev pub with_changed : (Transaction → Transaction) → Option ℕ → Agent → Agent
 with_changed change None a = a
 with_changed change (Some id) a = agent.with_transactions a (changed change id a.transactions)
+
+-- the agent whose request of an id has other time-outs, where they have a wait
+abbrev pub kept_after_configuring : Timeouts → Option ℕ → Agent → Agent
+kept_after_configuring t id a = if has_no_wait t then a else with_changed (configured (settings_of t)) id a
 
 -- ---- what was counted
 

@@ -5,7 +5,7 @@ use Rattle.std.specs.declared.net.socket_addr.SocketAddr.{SocketAddr}
 use Rattle.stun_base.specs.declared.error.StunParseError.{StunParseError}
 use Rattle.stun_state.specs.Codes.{refusal_of_parse}
 use Rattle.stun_state.specs.declared.codes.Refusal.{Refusal}
-use Rattle.stun_state.specs.declared.codes.Refusal.TheVariants.{Truncated, NotStun, TooLarge, IntegrityFailed, BadArgument, NotText, TextTooLong, BufferTooSmall, NotAllowed, Closed, AttributeExists, MessageTooLong, MissingAttribute, MalformedAttribute, OutOfMemory, EmptyHandle, FullHandle, AlreadyInProgress, ProtocolViolation, Unauthorized, BadRequest, StaleNonce, UnsupportedFeature}
+use Rattle.stun_state.specs.declared.codes.Refusal.TheVariants.{Truncated, NotStun, TooLarge, IntegrityFailed, BadArgument, NotText, TextTooLong, BufferTooSmall, NotAllowed, Closed, AttributeExists, MessageTooLong, MissingAttribute, MalformedAttribute, OutOfMemory, EmptyHandle, FullHandle, AlreadyInProgress, ProtocolViolation, Unauthorized, BadRequest, StaleNonce, UnsupportedFeature, NoWait}
 
 -- the first fact holds, or the second where the refusal is that an allocation failed
 abbrev pub ForRefusal : Refusal → Type 0 → Type 0 → Type 0
@@ -32,6 +32,7 @@ ForRefusal Unauthorized P Q = P
 ForRefusal BadRequest P Q = P
 ForRefusal StaleNonce P Q = P
 ForRefusal UnsupportedFeature P Q = P
+ForRefusal NoWait P Q = P
 
 -- the first fact holds, or the second where an allocation failed
 abbrev pub OrMemory : {V : Type 0} → Result V Refusal → Type 0 → Type 0 → Type 0
@@ -57,6 +58,15 @@ at_address (Some address) answer = answer address
 abbrev pub after_address : {V : Type 0} → Option SocketAddr → V → (SocketAddr → V) → V
 after_address None before after = before
 after_address (Some address) before after = after address
+
+-- the same of where a walk begins
+abbrev pub at_start : {V : Type 0} → Option (Option SocketAddr) → (Option SocketAddr → Result V Refusal) → Result V Refusal
+at_start None answer = Err BadArgument
+at_start (Some start) answer = answer start
+
+abbrev pub after_start : {V : Type 0} → Option (Option SocketAddr) → V → (Option SocketAddr → V) → V
+after_start None before after = before
+after_start (Some start) before after = after start
 
 -- an answer of nothing, where what was given is something
 abbrev pub done_if_given : {V : Type 0} → Option V → Result (Unit {0}) Refusal

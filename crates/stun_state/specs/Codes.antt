@@ -15,7 +15,7 @@ use Rattle.stun_base.specs.declared.error.StunParseError.TheVariants as Parse
 use Rattle.stun_base.specs.declared.error.StunWriteError.{StunWriteError}
 use Rattle.stun_base.specs.declared.error.StunWriteError.TheVariants as Write
 use Rattle.stun_state.specs.declared.codes.Refusal.{Refusal}
-use Rattle.stun_state.specs.declared.codes.Refusal.TheVariants.{Truncated, NotStun, TooLarge, IntegrityFailed, BadArgument, NotText, TextTooLong, BufferTooSmall, NotAllowed, Closed, AttributeExists, MessageTooLong, MissingAttribute, MalformedAttribute, OutOfMemory, EmptyHandle, FullHandle, AlreadyInProgress, ProtocolViolation, Unauthorized, BadRequest, StaleNonce, UnsupportedFeature}
+use Rattle.stun_state.specs.declared.codes.Refusal.TheVariants.{Truncated, NotStun, TooLarge, IntegrityFailed, BadArgument, NotText, TextTooLong, BufferTooSmall, NotAllowed, Closed, AttributeExists, MessageTooLong, MissingAttribute, MalformedAttribute, OutOfMemory, EmptyHandle, FullHandle, AlreadyInProgress, ProtocolViolation, Unauthorized, BadRequest, StaleNonce, UnsupportedFeature, NoWait}
 
 -- the number of a refusal
 abbrev pub code_of : Refusal → ℤ
@@ -42,6 +42,7 @@ code_of Unauthorized = neg_ℤ (pos 22)
 code_of BadRequest = neg_ℤ (pos 23)
 code_of StaleNonce = neg_ℤ (pos 24)
 code_of UnsupportedFeature = neg_ℤ (pos 25)
+code_of NoWait = neg_ℤ (pos 26)
 
 -- the refusal for an error of reading
 abbrev pub refusal_of_parse : StunParseError → Refusal
@@ -81,6 +82,11 @@ refusal_of_client AtClient.OutOfMemory = OutOfMemory
 abbrev pub algorithm_number : IntegrityAlgorithm → ℕ
 algorithm_number Sha1 = 1
 algorithm_number Sha256 = 2
+
+-- the same, and 0 of none
+abbrev pub algorithm_or_none : Option IntegrityAlgorithm → ℕ
+algorithm_or_none None = 0
+algorithm_or_none (Some algorithm) = algorithm_number algorithm
 
 -- the algorithms of a number whose bits are theirs
 abbrev pub algorithms_numbered : ℕ → Option AlgorithmSet

@@ -1,7 +1,5 @@
--- Which calls keep nothing more, so that no failed allocation is answered; and which may keep or write something, so that one
--- may be.
-use Rattle.std.specs.Prelude.{◌≡◌, ◌≤◌, ⊤, ◌+◌, ◌||◌, not, is_some, Bool, true, ℕ, List, length, take, Option, Some, None, MatchOption, Ok}
-use Rattle.std.specs.Option.{IsSomeAnd}
+-- Which calls keep nothing more, so that no failed allocation is answered; and which may keep something, so that one may be.
+use Rattle.std.specs.Prelude.{◌≡◌, ⊤, ◌||◌, not, is_some, Bool, true, ℕ, List, Option, Some, None, MatchOption, Ok}
 use Rattle.std.specs.declared.net.socket_addr.SocketAddr.{SocketAddr}
 use Rattle.stun_agent.specs.Agent.{Agent, takes_message}
 use Rattle.stun_agent.specs.Peers.{is_peer}
@@ -9,13 +7,10 @@ use Rattle.stun_types.specs.Message.{refusal}
 use Rattle.stun_auth.specs.Client.{ClientSide}
 use Rattle.stun_auth.specs.ClientStep.{IsResend}
 use Rattle.stun_auth.specs.Reading.{reading_of}
-use Rattle.stun_auth.specs.ServerSigning.{server_growth}
 use Rattle.stun_auth.specs.Validation.{ChangesNothing, ServerSeen, sight}
-use Rattle.stun_base.specs.MessageType.{class_in, is_response}
 use Rattle.stun_state.specs.Agent.{requested}
 use Rattle.stun_state.specs.Answers.{at_address}
 use Rattle.stun_state.specs.Client.{step}
-use Rattle.stun_state.specs.Signing.{base_refusal}
 
 -- whether naming an address adds none to those that an agent keeps: it is none, or is kept already
 abbrev pub naming_adds_none : Agent → Option SocketAddr → Bool
@@ -40,13 +35,3 @@ AsksAgain c bytes = (refusal bytes ≡ None) × IsResend (step c bytes).answer
 -- a request to an address is taken, so that it must be kept
 abbrev pub IsRequestTaken : Agent → List ℕ → Option SocketAddr → Type 0
 IsRequestTaken a bytes to = at_address to (requested a bytes) ≡ Ok tt
-
--- the first `count` bytes of a buffer are a message to which an attribute can be added, so that it may be signed
-abbrev pub MayBeSigned : List ℕ → ℕ → Type 0
-MayBeSigned buffer count = base_refusal buffer count ≡ None
-
--- the same, and the buffer has room for it once it is signed for an address
-abbrev pub MayBeSignedFor : ServerSeen → List ℕ → ℕ → Option SocketAddr → Type 0
-MayBeSignedFor s buffer count to =
-    MayBeSigned buffer count × IsSomeAnd to (λ to.
-    length (take count buffer) + server_growth (sight s to) (is_response (class_in (take count buffer))) ≤ length buffer)

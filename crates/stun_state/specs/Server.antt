@@ -1,12 +1,14 @@
 -- What the calls on a server answer and leave, by the definitions of its authenticator (RFC 8489, section 9.2.4).
-use Rattle.std.specs.Prelude.{ℕ, ℤ, List, ◌++◌, length, drop, max, nat_lt, if◌then◌else◌, Option, Some, None, Result, Ok, Err, option_and_then}
+use Rattle.std.specs.Prelude.{ℕ, ℤ, List, ◌++◌, length, drop, max, nat_lt, if◌then◌else◌, is_some, Option, Some, None, Result, Ok, Err, option_and_then}
 use Rattle.std.specs.FinMap as map
+use Rattle.std.specs.Option.{option_map}
 use Rattle.std.specs.declared.net.socket_addr.SocketAddr.{SocketAddr}
 use Rattle.stun_base.specs.declared.algorithm.IntegrityAlgorithm.{IntegrityAlgorithm}
 use Rattle.stun_types.specs.Message.{refusal}
 use Rattle.stun_auth.specs.declared.algorithm_set.AlgorithmSet.{AlgorithmSet}
 use Rattle.stun_auth.specs.declared.feature.Feature.{Feature}
 use Rattle.stun_auth.specs.declared.server_reason.LongTermServerValidation.TheVariants.{Validated}
+use Rattle.stun_auth.specs.ForgettingSteps.{next_address}
 use Rattle.stun_auth.specs.Nonces.{MINIMUM_EXPIRY}
 use Rattle.stun_auth.specs.Places.{with_change, with_client}
 use Rattle.stun_auth.specs.Reading.{reading_of}
@@ -41,6 +43,10 @@ without_named refusal s name = kept_if_refused refusal s (record s { registered 
 
 abbrev pub without_client : ServerSeen → SocketAddr → ServerSeen
 without_client s address = record s { places = with_change s.places address (with_client None) }
+
+-- what a step of forgetting answers that looks at so many addresses: 1 where another goes on, and 0 at the end
+abbrev pub step_answer : ServerSeen → ℕ → Option SocketAddr → Result ℕ Refusal
+step_answer s most from = Ok (if is_some (next_address s from most) then 1 else 0)
 
 -- ---- messages
 
@@ -77,11 +83,35 @@ client_told room (Some c) =
     if nat_lt room (length c.name) then Err BufferTooSmall
     else Ok (Some (record { name_length = length c.name; algorithm = c.algorithm }))
 
+-- the buffer with a text at its front, where it has room for it
+abbrev pub with_text : List ℕ → List ℕ → List ℕ
+with_text buffer text = if nat_lt (length buffer) (length text) then buffer else text ++ drop (length text) buffer
+
 -- the buffer with the name at its front
 abbrev pub name_written : List ℕ → Option ClientSeen → List ℕ
 name_written buffer None = buffer
-name_written buffer (Some c) = if nat_lt (length buffer) (length c.name) then buffer else c.name ++ drop (length c.name) buffer
+name_written buffer (Some c) = with_text buffer c.name
 
 -- the same at an address as a caller gives it
 abbrev pub client_found : ServerSeen → Address → ℕ → Result (Option Known) Refusal
 client_found s address room = at_address (socket_address address) (λ a. client_told room (client_at s a))
+
+-- ---- nonces
+
+-- the last nonce that was made for an address
+abbrev pub nonce_at : ServerSeen → SocketAddr → Option (List ℕ)
+nonce_at s address = option_map (λ (p : PlaceSeen). p.nonce) (map.get s.places address)
+
+-- how long it is, or 0 of none, where a buffer of so many bytes has room for it
+abbrev pub nonce_told : ℕ → Option (List ℕ) → Result ℕ Refusal
+nonce_told room None = Ok 0
+nonce_told room (Some nonce) = if nat_lt room (length nonce) then Err BufferTooSmall else Ok (length nonce)
+
+-- the buffer with it at its front
+abbrev pub nonce_written : List ℕ → Option (List ℕ) → List ℕ
+nonce_written buffer None = buffer
+nonce_written buffer (Some nonce) = with_text buffer nonce
+
+-- the same at an address as a caller gives it
+abbrev pub nonce_found : ServerSeen → Address → ℕ → Result ℕ Refusal
+nonce_found s address room = at_address (socket_address address) (λ a. nonce_told room (nonce_at s a))

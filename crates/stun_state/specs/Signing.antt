@@ -8,13 +8,12 @@ use Rattle.stun_types.specs.Message.{refusal}
 use Rattle.stun_types.specs.Visible.{visible}
 use Rattle.stun_types.specs.Limits.{max_length}
 use Rattle.stun_types.specs.Writing.{is_set_apart}
-use Rattle.stun_auth.specs.Additions.{Page, added_all, growth}
+use Rattle.stun_auth.specs.Additions.{Page, added_all, growth, page_of}
 use Rattle.stun_auth.specs.Client.{ClientState}
 use Rattle.stun_auth.specs.ClientSigning.{client_additions}
 use Rattle.stun_base.specs.MessageType.{class_in, is_request, is_response}
 use Rattle.stun_auth.specs.ServerSigning.{after_signing, server_growth, server_signed}
 use Rattle.stun_auth.specs.Validation.{ServerSeen, sight}
-use Rattle.stun_proto.specs.Signing.{page_of}
 use Rattle.stun_state.specs.Addresses.{socket_address}
 use Rattle.stun_state.specs.Answers.{after_address, at_address, message_refusal, unless_refused}
 use Rattle.stun_state.specs.Codes.{refusal_of_write}

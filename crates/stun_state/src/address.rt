@@ -1,7 +1,7 @@
 //! The addresses that callers give and get.
 
 ghost use Rattle.std.specs.Prelude.{◌≡◌, take, IfOk, IfErr, Some, None};
-ghost use Rattle.stun_state.specs.Addresses.{address_of, ipv4, ipv6, socket_address};
+ghost use Rattle.stun_state.specs.Addresses.{address_of, ipv4, ipv6, socket_address, start_for, start_told};
 
 use crate::codes::Refusal;
 use std::net::{Ipv4Addr, Ipv6Addr, SocketAddr, SocketAddrV4, SocketAddrV6};
@@ -45,6 +45,32 @@ impl Address {
             4 => Ok(ipv4(&self.octets, self.port)),
             16 => Ok(ipv6(&self.octets, self.port)),
             _ => Err(Refusal::BadArgument),
+        }
+    }
+
+    /// Where a walk over addresses begins: at the first of all where the length is 0.
+    pub fn start(&self) -> Result<Option<SocketAddr>, Refusal>
+        ensures ok { IfOk result (λ start. start_told self.now ≡ Some start) }
+        ensures err { IfErr result (λ refusal. (start_told self.now ≡ None)
+            × (refusal ≡ Refusal.BadArgument)) }
+    {
+        if self.length == 0 {
+            return Ok(None);
+        }
+        Ok(Some(self.socket()?))
+    }
+
+    /// Where a walk goes on, as a caller gets it: of length 0 at its end.
+    pub fn of_start(start: Option<SocketAddr>) -> Address
+        ensures { result ≡ start_for start }
+    {
+        match start {
+            Some(address) => Address::of(address),
+            None => Address {
+                octets: [0; 16],
+                port: 0,
+                length: 0,
+            },
         }
     }
 

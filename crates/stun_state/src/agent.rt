@@ -1,13 +1,13 @@
 //! What the exports do with an agent (RFC 8489, section 6.2).
 
-ghost use Rattle.std.specs.Prelude.{◌≡◌, ◌≤◌, ◌++◌, ⊤, IsTrue, length, drop, Some, None, IfOk, IfErr, IfSome, OnErr, OnOk};
+ghost use Rattle.std.specs.Prelude.{◌≡◌, ◌≤◌, ◌++◌, ⊤, IsTrue, length, drop, true, false, Some, None, IfOk, IfErr, IfSome, OnErr, OnOk};
 ghost use Rattle.std.specs.Duration.{as_nanos};
 ghost use Rattle.std.specs.Option.{option_map};
 ghost use Rattle.byteorder.specs.Endian.{big_bytes};
 ghost use Rattle.stun_agent.specs.Agent.{after_message, after_poll, after_poll_transmit, after_send, after_send_request, poll_answer, sent_by_poll};
-ghost use Rattle.stun_agent.specs.Transactions.{cancelled, configured, silenced};
+ghost use Rattle.stun_agent.specs.Transactions.{cancelled, silenced};
 ghost use Rattle.stun_state.specs.Addresses.{socket_address};
-ghost use Rattle.stun_state.specs.Agent.{bytes_told, found, handled, id_in, id_told, kept_after_naming, known, made, made_with, moment_told, nanoseconds, peer_found, polled, refusal_of_agent, requested, sent, sent_again, sent_to, settings_of, told, told_of, transport_numbered, with_changed};
+ghost use Rattle.stun_state.specs.Agent.{bytes_told, found, handled, has_no_wait, id_in, id_told, kept_after_configuring, kept_after_naming, known, made, made_with, moment_told, nanoseconds, peer_found, polled, refusal_of_agent, requested, sent, sent_again, sent_to, told, told_of, transport_numbered, unless_no_wait, with_changed};
 ghost use Rattle.stun_state.specs.Answers.{OrMemory, at_address, done_if_given};
 ghost use Rattle.stun_state.specs.Memory.{IsRequestTaken, message_adds_none, naming_adds_none};
 
@@ -115,6 +115,18 @@ pub fn new(alloc: Global, transport: u32, local: &Address) -> Result<StunAgent<G
     )
 }
 
+/// Refuses time-outs with which a request would be sent again without a wait.
+fn check_waits(timeouts: &Timeouts) -> Result<(), Refusal>
+    ensures ok { OnOk result (has_no_wait timeouts.now ≡ false) }
+    ensures err { IfErr result (λ refusal. (has_no_wait timeouts.now ≡ true)
+        × (refusal ≡ Refusal.NoWait)) }
+{
+    if timeouts.transmissions > 1 && (timeouts.initial == 0 || timeouts.longest == 0) {
+        return Err(Refusal::NoWait);
+    }
+    Ok(())
+}
+
 /// The same with other time-outs, and with a remote address where its length is not 0.
 pub fn new_with(
     alloc: Global,
@@ -137,9 +149,12 @@ pub fn new_with(
             Duration::from_nanos(timeouts.last),
         );
     if remote.length == 0 {
+        check_waits(timeouts)?;
         return Ok(builder.build());
     }
-    Ok(builder.remote_addr(remote.socket()?).build())
+    let remote = remote.socket()?;
+    check_waits(timeouts)?;
+    Ok(builder.remote_addr(remote).build())
 }
 
 /// Keeps a request and counts it.
@@ -341,11 +356,12 @@ pub fn configure(
     id: &[u8],
     timeouts: &Timeouts,
 ) -> Result<u32, Refusal>
-    ensures answer { result ≡ found (id_in id.now) agent.old }
-    ensures state { agent.new ≡ with_changed (configured (settings_of timeouts.now))
-        (id_in id.now) agent.old }
+    ensures answer { result ≡ unless_no_wait timeouts.now (found (id_in id.now) agent.old) }
+    ensures state { agent.new ≡ kept_after_configuring timeouts.now (id_in id.now) agent.old }
 {
-    match agent.mut_request_transaction(id_of(id)?) {
+    let id = id_of(id)?;
+    check_waits(timeouts)?;
+    match agent.mut_request_transaction(id) {
         Some(mut request) => {
             request.configure_timeout_with_max(
                 Duration::from_nanos(timeouts.initial),

@@ -1,21 +1,28 @@
 //! What the exports do with a client's authenticator (RFC 8489, sections 9.2.3 and 9.2.5).
 
-ghost use Rattle.std.specs.Prelude.{◌≡◌, ⊤, length, None, Some, Ok, Err, IfErr, IfOk, OnErr, OnOk};
+ghost use Rattle.std.specs.Prelude.{◌≡◌, ◌≤◌, ◌+◌, ◌-◌, true, length, take, None, Some, Ok, Err, IfErr, IfOk, OnErr, OnOk};
+ghost use Rattle.stun_auth.specs.Additions.{WantsMemory, added_all, growth, page_of};
 ghost use Rattle.stun_auth.specs.Client.{new_client};
+ghost use Rattle.stun_auth.specs.ClientSigning.{client_additions, signing_algorithm};
 ghost use Rattle.stun_auth.specs.ClientStep.{IsResend};
-ghost use Rattle.stun_state.specs.Answers.{ForRefusal, OrMemory, done_if_given, texts_refusal};
+ghost use Rattle.stun_base.specs.Header.{BeginsWithHeader};
+ghost use Rattle.stun_base.specs.MessageType.{class_in, is_request};
+ghost use Rattle.stun_types.specs.Limits.{LENGTH_LIMIT as length_limit};
+ghost use Rattle.stun_types.specs.Message.{IsMessage};
+ghost use Rattle.stun_state.specs.Answers.{OrMemory, done_if_given, texts_refusal};
 ghost use Rattle.stun_state.specs.Client.{after_validating, step, validated, validation_answer, with_algorithms, with_credentials, with_feature};
-ghost use Rattle.stun_state.specs.Codes.{algorithms_numbered, feature_numbered};
-ghost use Rattle.stun_state.specs.Memory.{AsksAgain, MayBeSigned};
-ghost use Rattle.stun_state.specs.Signing.{buffer_after, client_signs, length_of, signed_by_client};
+ghost use Rattle.stun_state.specs.Codes.{algorithm_or_none, algorithms_numbered, feature_numbered};
+ghost use Rattle.stun_state.specs.Memory.{AsksAgain};
+ghost use Rattle.stun_state.specs.Signing.{buffer_after, client_signs, fitted, is_too_long, length_of, message_of, signed_by_client};
 
-use crate::codes::{Refusal, feature_numbered};
-use crate::signing::{base_message, fill, is_too_long, writer_of};
+use crate::codes::{Refusal, algorithm_number, feature_numbered};
+use crate::signing::{SHORT, base_message, fill, is_too_long, writer_of};
 use crate::text::{copied, text};
 use std::alloc::Global;
 use stun_auth::auth::{LongTermClientAuth, LongTermClientValidation};
 use stun_base::algorithm::IntegrityAlgorithm;
 use stun_base::credentials::LongTermCredentials;
+use stun_types::limits::LENGTH_LIMIT;
 use stun_types::message::Message;
 use stun_types::prelude::*;
 
@@ -81,42 +88,109 @@ pub fn set_anonymous_username(
 
 /// Signs the message in the first `length` bytes of a buffer. A refusal leaves the buffer.
 pub fn sign(
-    alloc: Global,
     client: &mut LongTermClientAuth<Global>,
     buffer: &mut [u8],
     length: usize,
 ) -> Result<usize, Refusal>
-    ensures answer { OrMemory result (result ≡ length_of
-        (signed_by_client client.old.state buffer.old length))
-        (MayBeSigned buffer.old length) }
-    ensures written { OrMemory result
-        (buffer.new ≡ buffer_after (signed_by_client client.old.state buffer.old length) buffer.old)
-        (buffer.new ≡ buffer.old) }
+    ensures answer { result ≡ length_of (signed_by_client client.old.state buffer.old length) }
+    ensures written { buffer.new ≡ buffer_after
+        (signed_by_client client.old.state buffer.old length) buffer.old }
     ensures state { client.new ≡ client.old }
-    ensures refused { OnErr result (buffer.new ≡ buffer.old) }
 {
     let message = base_message(buffer, length)?;
-    let signed = sign_message(alloc, client, &message)?;
-    fill(buffer, signed.as_slice())
+    let more = client.message_signature_bytes();
+    let is_long = is_too_long(&message, more);
+    if message.as_bytes().len().saturating_add(more) <= SHORT {
+        sign_short(client, buffer, length, is_long)
+    } else {
+        sign_long(client, buffer, length, is_long)
+    }
 }
 
-/// Signs a message.
-fn sign_message(
-    alloc: Global,
+/// Signs a message that is not long then.
+#[inline(never)]
+fn sign_short(
     client: &mut LongTermClientAuth<Global>,
-    message: &Message<'_>,
-) -> Result<Vec<u8, Global>, Refusal>
-    ensures ok { IfOk result (λ signed. client_signs client.old.state message.now
-        ≡ Ok signed.items) }
-    ensures err { IfErr result (λ refusal. ForRefusal refusal
-        (client_signs client.old.state message.now ≡ Err refusal) ⊤) }
+    buffer: &mut [u8],
+    count: usize,
+    is_long: bool,
+) -> Result<usize, Refusal>
+    requires within { count ≤ length buffer.old }
+    requires message { IsMessage (take count buffer.old) }
+    requires limit { length (take count buffer.old) ≤ length_limit }
+    requires long { is_long ≡ is_too_long (take count buffer.old)
+        (growth (client_additions true client.old.state)) }
+    requires short { length (take count buffer.old)
+        + growth (client_additions true client.old.state) ≤ 2048 }
+    ensures answer { result ≡ length_of (fitted
+        (client_signs client.old.state (take count buffer.old)) (length buffer.old)) }
+    ensures written { buffer.new ≡ buffer_after (fitted
+        (client_signs client.old.state (take count buffer.old)) (length buffer.old)) buffer.old }
     ensures state { client.new ≡ client.old }
 {
-    let is_long = is_too_long(message, client.message_signature_bytes());
-    let writer = writer_of(alloc, message)?;
-    match client.sign_outgoing_message(writer) {
+    let mut memory = [0; SHORT];
+    let signed = sign_in(client, &buffer[..count], is_long, &mut memory)?;
+    fill(buffer, signed)
+}
+
+/// Signs a message of any length.
+#[inline(never)]
+fn sign_long(
+    client: &mut LongTermClientAuth<Global>,
+    buffer: &mut [u8],
+    count: usize,
+    is_long: bool,
+) -> Result<usize, Refusal>
+    requires within { count ≤ length buffer.old }
+    requires message { IsMessage (take count buffer.old) }
+    requires limit { length (take count buffer.old) ≤ length_limit }
+    requires long { is_long ≡ is_too_long (take count buffer.old)
+        (growth (client_additions true client.old.state)) }
+    ensures answer { result ≡ length_of (fitted
+        (client_signs client.old.state (take count buffer.old)) (length buffer.old)) }
+    ensures written { buffer.new ≡ buffer_after (fitted
+        (client_signs client.old.state (take count buffer.old)) (length buffer.old)) buffer.old }
+    ensures state { client.new ≡ client.old }
+{
+    let mut memory = [0; LENGTH_LIMIT];
+    let signed = sign_in(client, &buffer[..count], is_long, &mut memory)?;
+    fill(buffer, signed)
+}
+
+/// The signed message, in memory that is enough.
+fn sign_in<'m>(
+    client: &mut LongTermClientAuth<Global>,
+    message: &[u8],
+    is_long: bool,
+    memory: &'m mut [u8],
+) -> Result<&'m [u8], Refusal>
+    requires header { BeginsWithHeader message.now }
+    requires room { length message.now ≤ length memory.old }
+    requires limit { length memory.old ≤ length_limit }
+    requires enough { ¬ (WantsMemory (client_additions
+        (is_request (class_in message.now)) client.old.state) (page_of message.now)
+        (length memory.old - length message.now)) }
+    ensures ok { IfOk result (λ signed. message_of is_long (added_all (client_additions
+        (is_request (class_in message.now)) client.old.state) (page_of message.now))
+        ≡ Ok signed.now) }
+    ensures err { IfErr result (λ refusal. message_of is_long (added_all (client_additions
+        (is_request (class_in message.now)) client.old.state) (page_of message.now))
+        ≡ Err refusal) }
+    ensures state { client.new ≡ client.old }
+{
+    match client.sign_outgoing_message(writer_of(message, memory)) {
         Ok(signed) => Ok(signed.finish()),
         Err(error) => Err(Refusal::of_write(error, is_long)),
+    }
+}
+
+/// The number of the algorithm by which a message would be signed now, or 0 of none.
+pub fn signing_algorithm(client: &LongTermClientAuth<Global>) -> u32
+    ensures { result ≡ algorithm_or_none (signing_algorithm client.now.state) }
+{
+    match client.signing_algorithm() {
+        Some(algorithm) => algorithm_number(algorithm),
+        None => 0,
     }
 }
 

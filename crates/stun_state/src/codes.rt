@@ -58,6 +58,8 @@ pub enum Refusal {
     StaleNonce,
     /// -25: a required algorithm or feature is not supported.
     UnsupportedFeature,
+    /// -26: a request would be sent again without a wait.
+    NoWait,
 }
 
 impl Refusal {
@@ -110,6 +112,7 @@ impl Refusal {
             Refusal::BadRequest => -23,
             Refusal::StaleNonce => -24,
             Refusal::UnsupportedFeature => -25,
+            Refusal::NoWait => -26,
         }
     }
 }

@@ -6,21 +6,23 @@
 
 ghost use Rattle.std.specs.Prelude.{◌≡◌, ◌⊎◌, length, pos, MatchOption, MatchResult, Some, None, Ok, IfNone, IfSome, IsTrue};
 ghost use Rattle.stun_agent.specs.Agent.{after_poll, after_poll_transmit, after_send, poll_answer, sent_by_poll};
-ghost use Rattle.stun_agent.specs.Transactions.{cancelled, configured, silenced};
-ghost use Rattle.stun_auth.specs.Forgetting.{after_forgetting};
-ghost use Rattle.stun_state.specs.Addresses.{socket_address};
-ghost use Rattle.stun_state.specs.Agent.{bytes_told, found, handled, id_in, id_told, kept_after_message, kept_after_naming, kept_after_request, known, made, made_with, moment_told, peer_found, polled, requested, sent, sent_again, sent_to, settings_of, told_of, transport_numbered, with_changed};
-ghost use Rattle.stun_state.specs.Answers.{after_address, at_address, done_if_given, text_refusal, texts_refusal, unless_refused};
+ghost use Rattle.stun_agent.specs.Transactions.{cancelled, silenced};
+ghost use Rattle.stun_auth.specs.ClientSigning.{signing_algorithm};
+ghost use Rattle.stun_auth.specs.Forgetting.{after_forgetting, without_place};
+ghost use Rattle.stun_auth.specs.ForgettingSteps.{after_step, next_address};
+ghost use Rattle.stun_state.specs.Addresses.{socket_address, start_for, start_told};
+ghost use Rattle.stun_state.specs.Agent.{bytes_told, found, handled, id_in, id_told, kept_after_configuring, kept_after_message, kept_after_naming, kept_after_request, known, made, made_with, moment_told, peer_found, polled, requested, sent, sent_again, sent_to, told_of, transport_numbered, unless_no_wait, with_changed};
+ghost use Rattle.stun_state.specs.Answers.{after_address, after_start, at_address, at_start, done_if_given, text_refusal, texts_refusal, unless_refused};
 ghost use Rattle.stun_auth.specs.Client.{new_client};
 ghost use Rattle.stun_auth.specs.Registered.{with_user};
 ghost use Rattle.stun_auth.specs.Validation.{new_server};
 ghost use Rattle.stun_state.specs.Client as on_client;
 ghost use Rattle.stun_state.specs.Client.{after_validating, validated, with_credentials};
-ghost use Rattle.stun_state.specs.Codes.{algorithms_numbered, code_of, feature_numbered};
-ghost use Rattle.stun_state.specs.Memory.{AsksAgain, IsRequestTaken, LeavesServer, MayBeSigned, MayBeSignedFor, message_adds_none, naming_adds_none};
+ghost use Rattle.stun_state.specs.Codes.{algorithm_or_none, algorithms_numbered, code_of, feature_numbered};
+ghost use Rattle.stun_state.specs.Memory.{AsksAgain, IsRequestTaken, LeavesServer, message_adds_none, naming_adds_none};
 ghost use Rattle.stun_state.specs.Numbers.{IsOrOutOfMemory, OrOutOfMemory, client_answer, done_answer, left_by, length_answer, length_told, number_answer, reading_answer};
 ghost use Rattle.stun_state.specs.Server as on_server;
-ghost use Rattle.stun_state.specs.Server.{client_at, client_found, kept_after_validating, name_written, validation_number, with_expiry, without_client, without_named};
+ghost use Rattle.stun_state.specs.Server.{client_at, client_found, kept_after_validating, name_written, nonce_at, nonce_found, nonce_written, step_answer, validation_number, with_expiry, without_client, without_named};
 ghost use Rattle.stun_state.specs.Signing.{buffer_after, kept_after_signing, length_of, signed_by_client, signed_for};
 
 mod address;
@@ -28,6 +30,7 @@ mod agent;
 mod answers;
 mod client;
 mod codes;
+mod desk;
 mod handle;
 mod server;
 mod signing;
@@ -386,9 +389,9 @@ pub extern "C" fn stun_agent_configure(
     ensures empty { IfNone handle.old.agent ((result ≡ code_of Refusal.EmptyHandle)
         × (handle.new.agent ≡ None)) }
     ensures answer { IfSome handle.old.agent (λ kept. result ≡ number_answer
-        (found (id_in id.now) kept.agent)) }
+        (unless_no_wait timeouts.now (found (id_in id.now) kept.agent))) }
     ensures state { IfSome handle.old.agent (λ kept. handle.new.agent ≡ Some (record {
-      agent = with_changed (configured (settings_of timeouts.now)) (id_in id.now) kept.agent;
+      agent = kept_after_configuring timeouts.now (id_in id.now) kept.agent;
     })) }
 {
     let Some(mut kept) = handle.take(alloc) else {
@@ -600,6 +603,26 @@ pub extern "C" fn stun_server_remove_client(
     answer
 }
 
+/// Forgets all that is kept of an address.
+#[unsafe(no_mangle)]
+pub extern "C" fn stun_server_forget(alloc: Global, handle: &mut ServerHandle, at: &Address) -> i64
+    ensures empty { IfNone handle.old.server ((result ≡ code_of Refusal.EmptyHandle)
+        × (handle.new.server ≡ None)) }
+    ensures answer { IfSome handle.old.server (λ _. result ≡ done_answer
+        (done_if_given (socket_address at.now))) }
+    ensures state { IfSome handle.old.server (λ kept. handle.new.server ≡ Some (record {
+      server = after_address (socket_address at.now) kept.server
+          (without_place kept.server);
+    })) }
+{
+    let Some(mut kept) = handle.take(alloc) else {
+        return Refusal::EmptyHandle.code();
+    };
+    let answer = answers::done(server::forget(&mut kept.server, at));
+    handle.put(alloc, kept);
+    answer
+}
+
 /// Forgets each address without a client whose nonce expired before a moment.
 #[unsafe(no_mangle)]
 pub extern "C" fn stun_server_forget_expired(
@@ -620,6 +643,36 @@ pub extern "C" fn stun_server_forget_expired(
     server::forget_expired(&mut kept.server, now);
     handle.put(alloc, kept);
     0
+}
+
+/// Forgets so at no more than a number of addresses, from one on.
+#[unsafe(no_mangle)]
+pub extern "C" fn stun_server_forget_expired_within(
+    alloc: Global,
+    handle: &mut ServerHandle,
+    now: u64,
+    from: &mut Address,
+    most: usize,
+) -> i64
+    ensures empty { IfNone handle.old.server ((result ≡ code_of Refusal.EmptyHandle)
+        × (handle.new.server ≡ None)
+        × (from.new ≡ from.old)) }
+    ensures answer { IfSome handle.old.server (λ kept. result ≡ number_answer
+        (at_start (start_told from.old) (step_answer kept.server most))) }
+    ensures state { IfSome handle.old.server (λ kept. handle.new.server ≡ Some (record {
+      server = after_start (start_told from.old) kept.server
+          (λ start. after_step kept.server now start most);
+    })) }
+    ensures from { IfSome handle.old.server (λ kept. from.new
+        ≡ after_start (start_told from.old) from.old
+        (λ start. start_for (next_address kept.server start most))) }
+{
+    let Some(mut kept) = handle.take(alloc) else {
+        return Refusal::EmptyHandle.code();
+    };
+    let answer = answers::number(server::forget_expired_within(&mut kept.server, now, from, most));
+    handle.put(alloc, kept);
+    answer
 }
 
 /// Who was validated last at an address.
@@ -647,6 +700,32 @@ pub extern "C" fn stun_server_client(
         return Refusal::EmptyHandle.code();
     };
     let answer = answers::client(server::client(&kept.server, at, name), name_length);
+    handle.put(alloc, kept);
+    answer
+}
+
+/// The last nonce that was made for an address.
+#[unsafe(no_mangle)]
+pub extern "C" fn stun_server_nonce(
+    alloc: Global,
+    handle: &mut ServerHandle,
+    at: &Address,
+    nonce: &mut [u8],
+) -> i64
+    ensures empty { IfNone handle.old.server ((result ≡ code_of Refusal.EmptyHandle)
+        × (handle.new.server ≡ None)
+        × (nonce.new ≡ nonce.old)) }
+    ensures answer { IfSome handle.old.server (λ kept. result ≡ length_answer
+        (nonce_found kept.server at.now (length nonce.old))) }
+    ensures nonce { IfSome handle.old.server (λ kept. nonce.new
+        ≡ after_address (socket_address at.now) nonce.old
+        (λ at. nonce_written nonce.old (nonce_at kept.server at))) }
+    ensures same { handle.new.server ≡ handle.old.server }
+{
+    let Some(mut kept) = handle.take(alloc) else {
+        return Refusal::EmptyHandle.code();
+    };
+    let answer = answers::length(server::nonce(&kept.server, at, nonce));
     handle.put(alloc, kept);
     answer
 }
@@ -697,24 +776,19 @@ pub extern "C" fn stun_server_sign(
     ensures empty { IfNone handle.old.server ((result ≡ code_of Refusal.EmptyHandle)
         × (handle.new.server ≡ None)
         × (buffer.new ≡ buffer.old)) }
-    ensures answer { IfSome handle.old.server (λ kept. OrOutOfMemory result
-        buffer.old buffer.new
-        (length_answer (length_of (signed_for kept.server buffer.old length to.now)))
-        (buffer_after (signed_for kept.server buffer.old length to.now) buffer.old)) }
+    ensures answer { IfSome handle.old.server (λ kept. result
+        ≡ length_answer (length_of (signed_for kept.server buffer.old length to.now))) }
+    ensures written { IfSome handle.old.server (λ kept. buffer.new
+        ≡ buffer_after (signed_for kept.server buffer.old length to.now) buffer.old) }
     ensures state { IfSome handle.old.server (λ kept. handle.new.server ≡ Some (record {
       server = left_by result kept.server
           (kept_after_signing kept.server buffer.old length to.now);
     })) }
-
-    // A failed allocation is answered only where the buffer has room for the signed message.
-    ensures room { IfSome handle.old.server (λ kept. (result
-        ≡ length_answer (length_of (signed_for kept.server buffer.old length to.now)))
-        ⊎ MayBeSignedFor kept.server buffer.old length (socket_address to.now)) }
 {
     let Some(mut kept) = handle.take(alloc) else {
         return Refusal::EmptyHandle.code();
     };
-    let answer = answers::length(server::sign(alloc, &mut kept.server, buffer, length, to));
+    let answer = answers::length(server::sign(&mut kept.server, buffer, length, to));
     handle.put(alloc, kept);
     answer
 }
@@ -819,6 +893,23 @@ pub extern "C" fn stun_client_set_anonymous_username(
     answer
 }
 
+/// By which algorithm a message would be signed now.
+#[unsafe(no_mangle)]
+pub extern "C" fn stun_client_signing_algorithm(alloc: Global, handle: &mut ClientHandle) -> i64
+    ensures empty { IfNone handle.old.client ((result ≡ code_of Refusal.EmptyHandle)
+        × (handle.new.client ≡ None)) }
+    ensures answer { IfSome handle.old.client (λ kept. result
+        ≡ pos (algorithm_or_none (signing_algorithm kept.client.state))) }
+    ensures same { handle.new.client ≡ handle.old.client }
+{
+    let Some(mut kept) = handle.take(alloc) else {
+        return Refusal::EmptyHandle.code();
+    };
+    let answer = i64::from(client::signing_algorithm(&kept.client));
+    handle.put(alloc, kept);
+    answer
+}
+
 /// Signs the message at the front of a buffer.
 #[unsafe(no_mangle)]
 pub extern "C" fn stun_client_sign(
@@ -830,21 +921,16 @@ pub extern "C" fn stun_client_sign(
     ensures empty { IfNone handle.old.client ((result ≡ code_of Refusal.EmptyHandle)
         × (handle.new.client ≡ None)
         × (buffer.new ≡ buffer.old)) }
-    ensures answer { IfSome handle.old.client (λ kept. OrOutOfMemory result
-        buffer.old buffer.new
-        (length_answer (length_of (signed_by_client kept.client.state buffer.old length)))
-        (buffer_after (signed_by_client kept.client.state buffer.old length) buffer.old)) }
-
-    // A failed allocation is answered only for a message to which an attribute can be added.
-    ensures begins { IfSome handle.old.client (λ kept. (result
-        ≡ length_answer (length_of (signed_by_client kept.client.state buffer.old length)))
-        ⊎ MayBeSigned buffer.old length) }
+    ensures answer { IfSome handle.old.client (λ kept. result
+        ≡ length_answer (length_of (signed_by_client kept.client.state buffer.old length))) }
+    ensures written { IfSome handle.old.client (λ kept. buffer.new
+        ≡ buffer_after (signed_by_client kept.client.state buffer.old length) buffer.old) }
     ensures same { handle.new.client ≡ handle.old.client }
 {
     let Some(mut kept) = handle.take(alloc) else {
         return Refusal::EmptyHandle.code();
     };
-    let answer = answers::length(client::sign(alloc, &mut kept.client, buffer, length));
+    let answer = answers::length(client::sign(&mut kept.client, buffer, length));
     handle.put(alloc, kept);
     answer
 }

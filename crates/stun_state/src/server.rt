@@ -1,22 +1,27 @@
 //! What the exports do with a server's authenticator (RFC 8489, section 9.2.4).
 
-ghost use Rattle.std.specs.Prelude.{◌≡◌, ◌≤◌, ◌<◌, ◌+◌, ◌^◌, ⊤, nat_lt, true, false, length, take, Some, None, Ok, Err, IfOk, IfErr, OnErr, OnOk};
-ghost use Rattle.stun_auth.specs.Forgetting.{after_forgetting};
+ghost use Rattle.std.specs.Prelude.{◌≡◌, ◌≤◌, ◌<◌, ◌+◌, ◌-◌, ◌^◌, ⊤, nat_lt, true, false, length, take, Some, None, Ok, Err, IfOk, IfErr, OnErr, OnOk};
+ghost use Rattle.stun_auth.specs.Forgetting.{after_forgetting, without_place};
+ghost use Rattle.stun_auth.specs.ForgettingSteps.{after_step, next_address};
 ghost use Rattle.stun_base.specs.MessageType.{class_in, is_response};
 ghost use Rattle.stun_auth.specs.Reading.{reading_of};
 ghost use Rattle.stun_auth.specs.Registered.{with_user};
-ghost use Rattle.stun_auth.specs.ServerSigning.{after_signing, server_growth};
+ghost use Rattle.stun_auth.specs.Additions.{WantsMemory, page_of};
+ghost use Rattle.stun_auth.specs.ServerSigning.{after_signing, server_additions, server_growth, server_signed};
+ghost use Rattle.stun_base.specs.Header.{BeginsWithHeader};
+ghost use Rattle.stun_types.specs.Limits.{LENGTH_LIMIT as length_limit};
 ghost use Rattle.stun_auth.specs.Validation.{ChangesNothing, after_message, answer, new_server, sight};
-ghost use Rattle.stun_state.specs.Addresses.{socket_address};
-ghost use Rattle.stun_state.specs.Answers.{ForRefusal, OrMemory, after_address, at_address, done_if_given, text_refusal, texts_refusal};
+ghost use Rattle.stun_state.specs.Addresses.{socket_address, start_for, start_told};
+ghost use Rattle.stun_state.specs.Answers.{OrMemory, after_address, after_start, at_address, at_start, done_if_given, text_refusal, texts_refusal};
 ghost use Rattle.stun_state.specs.Codes.{algorithms_numbered, feature_numbered};
-ghost use Rattle.stun_state.specs.Memory.{LeavesServer, MayBeSignedFor};
-ghost use Rattle.stun_state.specs.Signing.{buffer_after, is_too_long, length_of, server_signs, signed_by_server};
-ghost use Rattle.stun_state.specs.Server.{after_validating, client_at, client_told, name_written, validated, validation_answer, with_algorithms, with_expiry, with_feature, without_client, without_named};
+ghost use Rattle.stun_state.specs.Memory.{LeavesServer};
+ghost use Rattle.stun_state.specs.Signing.{buffer_after, is_too_long, length_of, message_of, server_signs, signed_by_server};
+ghost use Rattle.stun_state.specs.code.Measured.{IsMeasured};
+ghost use Rattle.stun_state.specs.Server.{after_validating, client_at, client_told, name_written, nonce_at, nonce_told, nonce_written, step_answer, validated, validation_answer, with_algorithms, with_expiry, with_feature, without_client, without_named};
 
 use crate::address::Address;
 use crate::codes::{Refusal, feature_numbered};
-use crate::signing::{base_message, is_response, is_too_long, put, writer_of};
+use crate::signing::{SHORT, base_message, is_response, is_too_long, put, writer_of};
 use crate::text::{copied, text};
 use std::alloc::Global;
 use std::net::SocketAddr;
@@ -25,7 +30,8 @@ use stun_auth::auth::{LongTermServerAuth, LongTermServerValidation};
 use stun_base::algorithm::IntegrityAlgorithm;
 use stun_base::credentials::LongTermCredentials;
 use stun_base::instant::Instant;
-use stun_proto::replay::WordSource;
+use stun_base::words::WordSource;
+use stun_types::limits::LENGTH_LIMIT;
 use stun_types::message::Message;
 use stun_types::prelude::*;
 
@@ -137,11 +143,40 @@ pub fn remove_client(server: &mut LongTermServerAuth<Global>, at: &Address) -> R
     Ok(())
 }
 
+/// Forgets all that is kept of an address.
+pub fn forget(server: &mut LongTermServerAuth<Global>, at: &Address) -> Result<(), Refusal>
+    ensures answer { result ≡ done_if_given (socket_address at.now) }
+    ensures state { server.new ≡ after_address (socket_address at.now) server.old
+        (without_place server.old) }
+{
+    server.forget(at.socket()?);
+    Ok(())
+}
+
 /// Forgets each address without a client whose nonce expired before a moment.
 pub fn forget_expired(server: &mut LongTermServerAuth<Global>, now: u64)
     ensures { server.new ≡ after_forgetting server.old now }
 {
     server.forget_expired(Instant::from_nanos(now));
+}
+
+/// Forgets what `forget_expired` does, at no more than `most` addresses from one on: whether another call is to go on, and where.
+pub fn forget_expired_within(
+    server: &mut LongTermServerAuth<Global>,
+    now: u64,
+    from: &mut Address,
+    most: usize,
+) -> Result<u32, Refusal>
+    ensures answer { result ≡ at_start (start_told from.old) (step_answer server.old most) }
+    ensures state { server.new ≡ after_start (start_told from.old) server.old
+        (λ start. after_step server.old now start most) }
+    ensures from { from.new ≡ after_start (start_told from.old) from.old
+        (λ start. start_for (next_address server.old start most)) }
+{
+    let start = from.start()?;
+    let next = server.forget_expired_within(Instant::from_nanos(now), start, most);
+    *from = Address::of_start(next);
+    Ok(u32::from(next.is_some()))
 }
 
 /// Who was validated last at an address, and the user's name at the front of the buffer.
@@ -170,82 +205,179 @@ pub fn client(
     }))
 }
 
+/// How long the nonce of an address is, or 0 of none, and the nonce at the front of the buffer.
+pub fn nonce(
+    server: &LongTermServerAuth<Global>,
+    at: &Address,
+    buffer: &mut [u8],
+) -> Result<usize, Refusal>
+    ensures answer { result ≡ at_address (socket_address at.now)
+        (λ a. nonce_told (length buffer.old) (nonce_at server.now a)) }
+    ensures written { buffer.new ≡ after_address (socket_address at.now) buffer.old
+        (λ a. nonce_written buffer.old (nonce_at server.now a)) }
+{
+    let address = at.socket()?;
+    let Some(nonce) = server.nonce_for_client(address) else {
+        return Ok(0);
+    };
+    let nonce = nonce.as_bytes();
+    if buffer.len() < nonce.len() {
+        return Err(Refusal::BufferTooSmall);
+    }
+    buffer[..nonce.len()].copy_from_slice(nonce);
+    Ok(nonce.len())
+}
+
 /// Signs the message in the first `length` bytes of a buffer, which goes to an address. A refusal leaves the buffer.
 pub fn sign(
-    alloc: Global,
     server: &mut LongTermServerAuth<Global>,
     buffer: &mut [u8],
     length: usize,
     to: &Address,
 ) -> Result<usize, Refusal>
-    ensures answer { OrMemory result
-        (result ≡ length_of (at_address (socket_address to.now)
-        (signed_by_server server.old buffer.old length)))
-        (MayBeSignedFor server.old buffer.old length (socket_address to.now)) }
-    ensures written { OrMemory result
-        (buffer.new ≡ buffer_after (at_address (socket_address to.now)
-        (signed_by_server server.old buffer.old length)) buffer.old)
-        (buffer.new ≡ buffer.old) }
+    ensures answer { result ≡ length_of (at_address (socket_address to.now)
+        (signed_by_server server.old buffer.old length)) }
+    ensures written { buffer.new ≡ buffer_after (at_address (socket_address to.now)
+        (signed_by_server server.old buffer.old length)) buffer.old }
     ensures state { OnOk result (server.new ≡ after_address (socket_address to.now) server.old
         (λ to. after_signing server.old to (is_response (class_in (take length buffer.old))))) }
-    ensures refused { OnErr result ((server.new ≡ server.old) × (buffer.new ≡ buffer.old)) }
+    ensures refused { OnErr result (server.new ≡ server.old) }
 {
     let to = to.socket()?;
     let message = base_message(buffer, length)?;
-    let signed = sign_message(alloc, server, &message, buffer.len(), to)?;
-    put(buffer, signed.as_slice());
-    Ok(signed.len())
+    let measured = measure(server, &message, buffer.len(), to)?;
+    if measured.whole <= SHORT {
+        sign_short(server, buffer, length, to, measured.is_long)
+    } else {
+        sign_long(server, buffer, length, to, measured.is_long)
+    }
 }
 
-/// Whether a message to an address is too long once it is signed, where a buffer of `room` bytes has room for it then.
+/// How long a message is once it is signed.
+#[derive(Clone, Copy)]
+struct Measured {
+    /// Its bytes, as far as a `usize` reaches.
+    whole: usize,
+    /// Whether the length field cannot tell that.
+    is_long: bool,
+}
+
+/// How long a message to an address is once it is signed, where a buffer of `room` bytes has room for it then.
 fn measure(
     server: &LongTermServerAuth<Global>,
     message: &Message<'_>,
     room: usize,
     to: SocketAddr,
-) -> Result<bool, Refusal>
+) -> Result<Measured, Refusal>
     requires { room < 2 ^ 63 }
     ensures fits { let more = server_growth (sight server.now to)
         (is_response (class_in message.now)) in
         OnOk result (nat_lt room (length message.now + more) ≡ false) }
+    ensures limit { OnOk result (length message.now ≤ length_limit) }
+    ensures whole { let more = server_growth (sight server.now to)
+        (is_response (class_in message.now)) in
+        IfOk result (λ measured. measured.whole ≡ length message.now + more) }
     ensures long { let more = server_growth (sight server.now to)
         (is_response (class_in message.now)) in
-        IfOk result (λ long. long ≡ is_too_long message.now more) }
+        IfOk result (λ measured. measured.is_long ≡ is_too_long message.now more) }
     ensures err { let more = server_growth (sight server.now to)
         (is_response (class_in message.now)) in
         IfErr result (λ refusal. (refusal ≡ Refusal.BufferTooSmall)
         × (nat_lt room (length message.now + more) ≡ true)) }
 {
     let more = server.message_signature_bytes(to, !is_response(message));
-    if room < message.as_bytes().len().saturating_add(more) {
+    let whole = message.as_bytes().len().saturating_add(more);
+    if room < whole {
         return Err(Refusal::BufferTooSmall);
     }
-    Ok(is_too_long(message, more))
+    Ok(Measured {
+        whole,
+        is_long: is_too_long(message, more),
+    })
 }
 
-/// Signs a message to an address, for a buffer of `room` bytes.
-fn sign_message(
-    alloc: Global,
+/// Signs a message that is not long then.
+#[inline(never)]
+fn sign_short(
     server: &mut LongTermServerAuth<Global>,
-    message: &Message<'_>,
-    room: usize,
+    buffer: &mut [u8],
+    count: usize,
     to: SocketAddr,
-) -> Result<Vec<u8, Global>, Refusal>
-    requires { room < 2 ^ 63 }
-    ensures ok { IfOk result (λ signed. server_signs server.old message.now room to
-        ≡ Ok signed.items) }
-    ensures fits { IfOk result (λ signed. length signed.items ≤ room) }
-    ensures err { IfErr result (λ refusal. ForRefusal refusal
-        (server_signs server.old message.now room to ≡ Err refusal)
-        (length message.now + server_growth (sight server.old to)
-        (is_response (class_in message.now)) ≤ room)) }
+    is_long: bool,
+) -> Result<usize, Refusal>
+    requires measured { let message = take count buffer.old in
+        let response = is_response (class_in message) in
+        let more = server_growth (sight server.old to) response in
+        IsMeasured buffer.old count more is_long }
+    requires short { let message = take count buffer.old in
+        length message + server_growth (sight server.old to) (is_response (class_in message))
+        ≤ 2048 }
+    ensures answer { result ≡ length_of
+        (server_signs server.old (take count buffer.old) (length buffer.old) to) }
+    ensures written { buffer.new ≡ buffer_after
+        (server_signs server.old (take count buffer.old) (length buffer.old) to) buffer.old }
+    ensures state { OnOk result (server.new ≡ after_signing server.old to
+        (is_response (class_in (take count buffer.old)))) }
+    ensures refused { OnErr result (server.new ≡ server.old) }
+{
+    let mut memory = [0; SHORT];
+    let signed = sign_in(server, &buffer[..count], to, is_long, &mut memory)?;
+    put(buffer, signed);
+    Ok(signed.len())
+}
+
+/// Signs a message of any length.
+#[inline(never)]
+fn sign_long(
+    server: &mut LongTermServerAuth<Global>,
+    buffer: &mut [u8],
+    count: usize,
+    to: SocketAddr,
+    is_long: bool,
+) -> Result<usize, Refusal>
+    requires measured { let message = take count buffer.old in
+        let response = is_response (class_in message) in
+        let more = server_growth (sight server.old to) response in
+        IsMeasured buffer.old count more is_long }
+    ensures answer { result ≡ length_of
+        (server_signs server.old (take count buffer.old) (length buffer.old) to) }
+    ensures written { buffer.new ≡ buffer_after
+        (server_signs server.old (take count buffer.old) (length buffer.old) to) buffer.old }
+    ensures state { OnOk result (server.new ≡ after_signing server.old to
+        (is_response (class_in (take count buffer.old)))) }
+    ensures refused { OnErr result (server.new ≡ server.old) }
+{
+    let mut memory = [0; LENGTH_LIMIT];
+    let signed = sign_in(server, &buffer[..count], to, is_long, &mut memory)?;
+    put(buffer, signed);
+    Ok(signed.len())
+}
+
+/// The signed message to an address, in memory that is enough.
+fn sign_in<'m>(
+    server: &mut LongTermServerAuth<Global>,
+    message: &[u8],
+    to: SocketAddr,
+    is_long: bool,
+    memory: &'m mut [u8],
+) -> Result<&'m [u8], Refusal>
+    requires header { BeginsWithHeader message.now }
+    requires room { length message.now ≤ length memory.old }
+    requires limit { length memory.old ≤ length_limit }
+    requires enough { ¬ (WantsMemory (server_additions (sight server.old to)
+        (is_response (class_in message.now))) (page_of message.now)
+        (length memory.old - length message.now)) }
+    ensures ok { IfOk result (λ signed. message_of is_long (server_signed (sight server.old to)
+        (is_response (class_in message.now)) (page_of message.now)) ≡ Ok signed.now) }
+    ensures grows { IfOk result (λ signed. length signed.now ≡ length message.now
+        + server_growth (sight server.old to) (is_response (class_in message.now))) }
+    ensures err { IfErr result (λ refusal. message_of is_long (server_signed (sight server.old to)
+        (is_response (class_in message.now)) (page_of message.now)) ≡ Err refusal) }
     ensures state { OnOk result (server.new ≡ after_signing server.old to
         (is_response (class_in message.now))) }
     ensures refused { OnErr result (server.new ≡ server.old) }
 {
-    let is_long = measure(server, message, room, to)?;
-    let writer = writer_of(alloc, message)?;
-    match server.sign_outgoing_message(writer, to) {
+    match server.sign_outgoing_message(writer_of(message, memory), to) {
         Ok(signed) => Ok(signed.finish()),
         Err(error) => Err(Refusal::of_write(error, is_long)),
     }

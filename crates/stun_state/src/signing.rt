@@ -1,18 +1,22 @@
 //! A message in a caller's buffer that is to be signed.
 
-ghost use Rattle.std.specs.Prelude.{◌≡◌, ◌≤◌, ◌++◌, length, take, drop, None, Some, Ok, IfErr, IfOk, OnOk};
+ghost use Rattle.std.specs.Prelude.{◌≡◌, ◌≤◌, ◌-◌, ◌++◌, length, take, drop, None, Some, Ok, IfErr, IfOk, OnOk};
 ghost use Rattle.stun_base.specs.Header.{BeginsWithHeader};
+ghost use Rattle.stun_types.specs.Limits.{LENGTH_LIMIT};
 ghost use Rattle.stun_types.specs.Writing.{is_set_apart};
 ghost use Rattle.stun_base.specs.MessageType.{class_in, is_response};
 ghost use Rattle.stun_state.specs.Signing.{base_refusal, buffer_after, fitted, is_closed, is_too_long, length_of};
 
 use crate::codes::Refusal;
-use std::alloc::{AllocError, Global};
+use crate::desk::Desk;
 use stun_base::attribute_type::AttributeType;
 use stun_base::header::HEADER_LENGTH;
 use stun_types::limits::MAX_LENGTH;
-use stun_types::message::{Message, MessageWriteVec};
+use stun_types::message::Message;
 use stun_types::prelude::*;
+
+/// The bytes of memory for a message that is not long once it is signed, as no datagram is.
+pub const SHORT: usize = 2048;
 
 /// Whether attributes of this type end a message: the two of integrity, and FINGERPRINT.
 fn is_set_apart(kind: AttributeType) -> bool
@@ -36,6 +40,7 @@ fn is_closed(message: &Message<'_>) -> bool
 /// The message at the front of the buffer, where an attribute may be added to it.
 pub fn base_message(buffer: &[u8], count: usize) -> Result<Message<'_>, Refusal>
     ensures ok { IfOk result (λ message. message ≡ take count buffer.now) }
+    ensures within { OnOk result (count ≤ length buffer.now) }
     ensures accepted { OnOk result (base_refusal buffer.now count ≡ None) }
     ensures err { IfErr result (λ refusal. base_refusal buffer.now count ≡ Some refusal) }
 {
@@ -64,21 +69,18 @@ pub fn is_too_long(message: &Message<'_>, more: usize) -> bool
     data_length.saturating_add(more) > MAX_LENGTH
 }
 
-/// The message in a writer, to which attributes can be added.
-pub fn writer_of(
-    alloc: Global,
-    message: &Message<'_>,
-) -> Result<MessageWriteVec<Global>, AllocError>
-    ensures message { IfOk result (λ writer. writer.bytes ≡ message.now) }
-    ensures header { IfOk result (λ writer. BeginsWithHeader writer.bytes) }
+/// A message in a writer over memory, to which attributes can be added.
+pub fn writer_of<'m>(message: &[u8], memory: &'m mut [u8]) -> Desk<'m>
+    requires header { BeginsWithHeader message.now }
+    requires room { length message.now ≤ length memory.old }
+    requires limit { length memory.old ≤ LENGTH_LIMIT }
+    ensures message { result.bytes ≡ message.now }
+    ensures header { BeginsWithHeader result.bytes }
+    ensures reserved { result.reserved ≡ length memory.old - length message.now }
 {
-    let bytes = message.as_bytes();
-    let mut writer = MessageWriteVec::new(alloc);
-    if writer.reserve(bytes.len()).is_err() {
-        return Err(AllocError);
-    }
-    writer.append(bytes);
-    Ok(writer)
+    let mut writer = Desk::new(memory);
+    writer.append(message);
+    writer
 }
 
 /// Copies bytes to the front of a buffer and answers their number, or leaves it where it has fewer bytes.

@@ -1,4 +1,3 @@
 -- Lemmas of the program.
-mod Reading
 mod Writing
 mod VerdictLines

@@ -1,15 +1,19 @@
 -- Which lines are printed: bytes that are no message are refused in three words alone.
-use Rattle.std.proofs.Common.{◌≡◌, ℕ, ◌+◌, lit<, List, length, Bool, true, false, Option, Some, None, refl, sym, subst}
+use Rattle.std.proofs.Common.{◌≡◌, ℕ, ◌+◌, ◌<◌, lit<, List, length, Bool, true, false, Option, Some, None, refl, sym, subst}
+use Rattle.std.proofs.KnownBytes.{Appends-nil}
 use Rattle.std.specs.Prelude.{Contains, nat_lt, ◌==◌, if◌then◌else◌}
 use Rattle.stun_base.specs.Header.{HEADER_LENGTH, is_stun, length_field}
-use Rattle.stun_base.specs.declared.error.StunParseError.TheVariants.{Truncated, NotStun, TooLarge}
+use Rattle.stun_base.specs.declared.error.StunParseError.TheVariants.{Truncated, NotStun, TooLarge, MissingAttribute, InvalidAttributeData}
 use Rattle.stun_base.specs.declared.algorithm.IntegrityAlgorithm.{IntegrityAlgorithm}
 use Rattle.stun_base.specs.declared.algorithm.IntegrityAlgorithm.TheVariants.{Sha1, Sha256}
 use Rattle.stun_types.specs.Integrity.{refusal_of, is_well_formed, verified_algorithm, integrity_refusal, deciding}
 use Rattle.stun_types.specs.Message.{first_refusal}
 use Rattle.stun_types.specs.Walk.{Member, taken, walk}
-use Rattle.stun_tool.specs.declared.verdict.Verdict.{Verdict}
-use Rattle.stun_tool.specs.Verdict.{verdict_on_integrity, verdict_on_refusal, verdict_without_digest, verdict_of, line_of, printed_lines}
+use Rattle.stun_cli.specs.declared.verdict.Verdict.{Verdict}
+use Rattle.stun_cli.specs.declared.verdict.Verdict.TheVariants.{Valid, OtherDigest, NoIntegrity, MalformedIntegrity, NotAMessage, BadInput}
+use Rattle.stun_cli.specs.Output.{AppendsBeginning}
+use Rattle.stun_cli.specs.Verdict.{verdict_on_integrity, verdict_on_refusal, verdict_without_digest}
+use Rattle.stun_tool.specs.Verdict.{verdict_under, line_of, printed_lines}
 
 abbrev IsListed : Verdict → Type 0
 IsListed verdict = Contains printed_lines (line_of verdict)
@@ -39,12 +43,30 @@ on_refusal-listed false true false false true verdict listed = listed
 on_refusal-listed false true false false false verdict listed = (5, lit< tt, refl)
 
 -- the line of the verdict on any bytes
-verdict_of-listed : (bytes password : List ℕ) → IsListed (verdict_of bytes password)
-verdict_of-listed bytes password =
+verdict_under-listed : (bytes password : List ℕ) → IsListed (verdict_under bytes password)
+verdict_under-listed bytes password =
     on_refusal-listed (nat_lt (length bytes) HEADER_LENGTH) (is_stun bytes) (nat_lt (length bytes) (HEADER_LENGTH + length_field bytes))
     (nat_lt (HEADER_LENGTH + length_field bytes) (length bytes)) (HEADER_LENGTH + taken (walk bytes) == length bytes)
     (verdict_on_integrity (verified_algorithm bytes password) (integrity_refusal bytes)) (on_integrity-listed (verified_algorithm bytes password) (deciding bytes))
 
 -- so that verdict has a listed line
-pub verdict_listed : (verdict : Verdict) (bytes password : List ℕ) → verdict ≡ verdict_of bytes password → Contains printed_lines (line_of verdict)
-verdict_listed verdict bytes password is = subst IsListed (sym is) (verdict_of-listed bytes password)
+pub verdict_listed : (verdict : Verdict) (bytes password : List ℕ) → verdict ≡ verdict_under bytes password → Contains printed_lines (line_of verdict)
+verdict_listed verdict bytes password is = subst IsListed (sym is) (verdict_under-listed bytes password)
+
+-- no line is empty
+line-not_empty : (verdict : Verdict) → 0 < length (line_of verdict)
+line-not_empty (Valid Sha1) = lit< tt
+line-not_empty (Valid Sha256) = lit< tt
+line-not_empty OtherDigest = lit< tt
+line-not_empty NoIntegrity = lit< tt
+line-not_empty MalformedIntegrity = lit< tt
+line-not_empty (NotAMessage Truncated) = lit< tt
+line-not_empty (NotAMessage NotStun) = lit< tt
+line-not_empty (NotAMessage TooLarge) = lit< tt
+line-not_empty (NotAMessage (MissingAttribute _)) = lit< tt
+line-not_empty (NotAMessage InvalidAttributeData) = lit< tt
+line-not_empty BadInput = lit< tt
+
+-- so that a writer to which nothing was written holds a beginning of it
+pub nothing_printed : (before : Option (List ℕ)) (verdict : Verdict) → AppendsBeginning before before (line_of verdict)
+nothing_printed before verdict = (0, line-not_empty verdict, Appends-nil before)

@@ -1,16 +1,9 @@
--- What has been written, over several writes.
-use Rattle.std.proofs.Common.{◌≡◌, ℕ, ◌+◌, ◌-◌, List, ◌++◌, length, take, drop, ◌∙◌, sym, ap, subst, arith, Option, Result, Ok, Err, OnOk, OnErr}
-use Rattle.std.proofs.lemmas.List.{take_rest}
-use Rattle.std.proofs.Math.Seq.{take-add, take-length}
+-- What has been written, whether or not a write failed.
+use Rattle.std.proofs.Common.{◌≡◌, ℕ, List, length, take, sym, subst, arith, Option, Result, Ok, Err, OnOk, OnErr}
+use Rattle.std.proofs.Math.Seq.{take-length}
 use Rattle.std.specs.Io.KnownBytes.{Appends}
-use Rattle.stun_tool.specs.Output.{AppendsBeginning}
+use Rattle.stun_cli.specs.Output.{AppendsBeginning}
 use Rattle.stun_tool.specs.code.Output.{AppendsUnlessFailed}
-
--- the first bytes, and then the first bytes of the rest
-pub take-then-more : (text : List ℕ) (written count : ℕ)
-    → take written text ++ take count (take (length text - written) (drop written text)) ≡ take (written + count) text
-take-then-more text written count =
-    ap (λ rest. take written text ++ take count rest) (take_rest text written) ∙ sym (take-add written count text)
 
 -- whichever way writing a text ends, a beginning of it is there
 pub written_unless_failed : {T E : Type 0} (result : Result T E) (before after : Option (List ℕ)) (text : List ℕ)

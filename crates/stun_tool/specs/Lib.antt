@@ -6,9 +6,5 @@ pub mod Check
 pub mod Verdict
 -- what the digits of an input read
 pub mod Input
--- what writing a text leaves
-pub mod Output
--- the exit statuses
-pub mod Status
 -- what no clause of a public call says: codings of models, views of structs, steps of the code
 pub mod code

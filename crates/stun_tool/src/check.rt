@@ -1,44 +1,45 @@
 //! The command `check`.
 ghost use Rattle.std.specs.Prelude.{◌≡◌, ◌≢◌, ◌≤◌, ◌+◌, ◌↔◌, length, IfSome};
 ghost use Rattle.stun_tool.specs.Check.{Prints};
-ghost use Rattle.stun_tool.specs.Input.{most_reads};
+ghost use Rattle.stun_cli.specs.Input.{most_reads};
 
-use crate::input::{CountedRead, Failure, read_to_end};
-use crate::output::write_text;
-use crate::status::Status;
-use crate::verdict::verdict_on_input;
+use crate::verdict::{line, verdict_on_input};
 use std::alloc::Allocator;
 use std::io::Write;
+use stun_cli::input::{CountedRead, read_to_end};
+use stun_cli::output::write_text;
+use stun_cli::status::Status;
 
 /// Reads a message as hexadecimal digits, and prints in a line whether its integrity verifies under the
 /// password, which is the one word and whose bytes are the key (RFC 8489, section 9.1.1).
 ///
 /// Where a read, a write or a growth fails, or the reader's end does not come within 1048576 reads,
 /// it answers `Failed`, and at most a beginning of the line is there.
+#[tactic(auto, using(crate::proofs::VerdictLines::nothing_printed))]
 pub fn check<R: CountedRead, W: Write, A: Allocator + Copy>(
     alloc: A,
     words: &[String],
     reader: &mut R,
     writer: &mut W,
 ) -> Status
-    ensures wrong_words { (result ≡ Status.WrongWords) ↔ (length words.now ≢ 1) }
-    ensures untouched { result ≡ Status.WrongWords → (reader.new ≡ reader.old)
+    ensures wrong_words { (result ≡ Status.NotJudged) ↔ (length words.now ≢ 1) }
+    ensures untouched { result ≡ Status.NotJudged → (reader.new ≡ reader.old)
         × (writer.new ≡ writer.old) }
     ensures prints { IfSome (R.remaining reader.old)
         (λ input. Prints words.now input result (W.contents writer.old) (W.contents writer.new)) }
     ensures asked { R.asked reader.new ≤ R.asked reader.old + most_reads }
 {
     let [password] = words else {
-        return Status::WrongWords;
+        return Status::NotJudged;
     };
-    let Ok(input) = read_to_end(alloc, reader) else {
+    let Ok(input) = read_to_end(alloc, reader, usize::MAX) else {
         return Status::Failed;
     };
     let Ok(verdict) = verdict_on_input(alloc, input.as_slice(), password.as_bytes()) else {
         return Status::Failed;
     };
-    match write_text(writer, verdict.line().as_bytes()) {
+    match write_text(writer, line(verdict).as_bytes()) {
         Ok(()) => verdict.status(),
-        Err(Failure) => Status::Failed,
+        Err(_) => Status::Failed,
     }
 }

@@ -2,9 +2,9 @@
 ghost use Rattle.std.specs.Prelude.{◌≡◌, IfOk, option_map};
 ghost use Rattle.stun_tool.specs.Input.{digits_of, bytes_read};
 
-use crate::input::Failure;
 use hex::FromHexError;
 use std::alloc::{AllocError, Allocator};
+use stun_cli::failure::Failure;
 
 /// The input without its white space: spaces, tabs, line feeds, form feeds and carriage returns.
 fn digits<A: Allocator>(alloc: A, input: &[u8]) -> Result<Vec<u8, A>, AllocError>
@@ -28,7 +28,7 @@ pub fn read_digits<A: Allocator + Copy>(
     let digits = digits(alloc, input)?;
     match hex::decode(alloc, digits.as_slice()) {
         Ok(bytes) => Ok(Some(bytes)),
-        Err(FromHexError::OutOfMemory) => Err(Failure),
+        Err(FromHexError::OutOfMemory) => Err(Failure::Memory),
         Err(_) => Ok(None),
     }
 }

@@ -3,36 +3,32 @@
 
 ghost use Rattle.std.specs.Prelude.{◌≡◌, ◌≢◌, ◌≤◌, ◌+◌, ◌↔◌, length, IfSome, IfNone};
 ghost use Rattle.stun_tool.specs.Check.{Prints};
-ghost use Rattle.stun_tool.specs.Input.{most_reads};
+ghost use Rattle.stun_cli.specs.Input.{most_reads};
 ghost use Rattle.stun_tool.specs.code.Output.{AppendsUnlessFailed};
 ghost use Rattle.stun_tool.specs.code.Run.{words_of_check, words_of_negotiate, words_of_schedule, words_of_serve, usage_line};
 
 mod check;
 mod digits;
-mod input;
 mod names;
 mod negotiate;
-mod output;
 mod schedule;
 mod script;
 mod serve;
-mod status;
-#[cfg(test)]
-mod tests;
 mod verdict;
 mod words;
 
 use check::check;
-use input::{Counted, CountedRead, Failure};
 use negotiate::negotiate;
-use output::write_text;
 use schedule::schedule;
 use serve::serve;
-use status::Status;
 use std::alloc::Global;
-use std::io::{ErrorKind, Write};
+use std::io;
+use std::io::Write;
 use std::process::ExitCode;
-use std::{env, io};
+use stun_cli::input::{Counted, CountedRead};
+use stun_cli::output::write_text;
+use stun_cli::status::Status;
+use stun_cli::words::words_of;
 
 /// What is written for wrong words.
 const USAGE: &str =
@@ -49,22 +45,22 @@ fn run<R: CountedRead, W: Write, E: Write>(
 ) -> Status
     ensures other_command { IfNone (words_of_check words.now)
         (IfNone (words_of_schedule words.now) (IfNone (words_of_negotiate words.now)
-        (IfNone (words_of_serve words.now) (result ≡ Status.WrongWords)))) }
+        (IfNone (words_of_serve words.now) (result ≡ Status.NotJudged)))) }
     ensures wrong_words { IfSome (words_of_check words.now)
-        (λ others. (result ≡ Status.WrongWords) ↔ (length others ≢ 1)) }
+        (λ others. (result ≡ Status.NotJudged) ↔ (length others ≢ 1)) }
     ensures wrong_settings { IfSome (words_of_schedule words.now)
-        (λ others. length others ≢ 5 → length others ≢ 8 → result ≡ Status.WrongWords) }
+        (λ others. length others ≢ 5 → length others ≢ 8 → result ≡ Status.NotJudged) }
     ensures wrong_sides { IfSome (words_of_negotiate words.now)
-        (λ others. length others ≢ 4 → result ≡ Status.WrongWords) }
+        (λ others. length others ≢ 4 → result ≡ Status.NotJudged) }
     ensures wrong_realm { IfSome (words_of_serve words.now)
-        (λ others. (result ≡ Status.WrongWords) ↔ (length others ≢ 1)) }
+        (λ others. (result ≡ Status.NotJudged) ↔ (length others ≢ 1)) }
     ensures unread { IfSome (words_of_schedule words.now) (λ _. reader.new ≡ reader.old)
         × IfSome (words_of_negotiate words.now) (λ _. reader.new ≡ reader.old) }
-    ensures untouched { result ≡ Status.WrongWords → (reader.new ≡ reader.old)
+    ensures untouched { result ≡ Status.NotJudged → (reader.new ≡ reader.old)
         × (writer.new ≡ writer.old) }
-    ensures usage { result ≡ Status.WrongWords
+    ensures usage { result ≡ Status.NotJudged
         → AppendsUnlessFailed (E.contents errors.old) (E.contents errors.new) usage_line }
-    ensures silent { result ≢ Status.WrongWords → errors.new ≡ errors.old }
+    ensures silent { result ≢ Status.NotJudged → errors.new ≡ errors.old }
     ensures prints { IfSome (words_of_check words.now) (λ others. IfSome (R.remaining reader.old)
         (λ input. Prints others input result (W.contents writer.old) (W.contents writer.new))) }
     ensures asked { R.asked reader.new ≤ R.asked reader.old + most_reads }
@@ -82,24 +78,12 @@ fn run<R: CountedRead, W: Write, E: Write>(
         [command, others @ ..] if command.as_str() == "serve" => {
             serve(alloc, others, reader, writer)
         }
-        _ => Status::WrongWords,
+        _ => Status::NotJudged,
     };
-    if status == Status::WrongWords {
+    if status == Status::NotJudged {
         let _ = write_text(errors, USAGE.as_bytes());
     }
     status
-}
-
-/// The words after the program's name, or none where one of them is no text. It fails where an allocation fails.
-fn words_of(rt: &(impl std::rt::Env + AllocGlobal)) -> Result<Vec<String>, Failure> {
-    match env::args(rt) {
-        Ok(mut words) => {
-            words.next();
-            Ok(words.collect(rt.alloc())?)
-        }
-        Err(error) if error.kind() == ErrorKind::OutOfMemory => Err(Failure),
-        Err(_) => Ok(Vec::new(rt.alloc())),
-    }
 }
 
 fn main(rt: HostRuntime) -> ExitCode {

@@ -1,14 +1,15 @@
 //! The command `negotiate`.
 ghost use Rattle.std.specs.Prelude.{◌≡◌, ◌≢◌, length, IfOk, IfSome};
 
-use crate::input::{CountedRead, Failure};
 use crate::names::{algorithm_name, client_reason_name, server_reason_name};
-use crate::output::write_text;
-use crate::status::Status;
 use crate::words::{algorithm, feature};
 use std::alloc::{AllocError, Allocator};
 use std::io::Write;
 use std::net::{IpAddr, Ipv4Addr, SocketAddr};
+use stun_cli::failure::Failure;
+use stun_cli::input::CountedRead;
+use stun_cli::output::write_text;
+use stun_cli::status::Status;
 use stun_proto::auth::{Feature, LongTermClientAuth, LongTermServerAuth};
 use stun_proto::replay::Outcome;
 use stun_proto::{Instant, replay};
@@ -49,19 +50,19 @@ pub fn negotiate<R: CountedRead, W: Write, A: Allocator + Copy>(
     _reader: &mut R,
     writer: &mut W,
 ) -> Status
-    ensures other_count { length words.now ≢ 4 → result ≡ Status.WrongWords }
-    ensures untouched { result ≡ Status.WrongWords → writer.new ≡ writer.old }
+    ensures other_count { length words.now ≢ 4 → result ≡ Status.NotJudged }
+    ensures untouched { result ≡ Status.NotJudged → writer.new ≡ writer.old }
     ensures unread { _reader.new ≡ _reader.old }
 {
     let Some((client, server)) = sides_of(words) else {
-        return Status::WrongWords;
+        return Status::NotJudged;
     };
     let Ok(outcome) = outcome_of(alloc, client, server) else {
         return Status::Failed;
     };
     match print_outcome(alloc, outcome, writer) {
         Ok(status) => status,
-        Err(Failure) => Status::Failed,
+        Err(_) => Status::Failed,
     }
 }
 
@@ -105,8 +106,8 @@ fn outcome_of<A: Allocator + Copy>(
     let mut client = new_client(alloc, client)?;
     let mut server = new_server(alloc, server)?;
     let from = SocketAddr::new(IpAddr::V4(Ipv4Addr::new(10, 0, 0, 1)), 12345);
-    let first = TransactionId::from_u128(1).ok_or(Failure)?;
-    let second = TransactionId::from_u128(2).ok_or(Failure)?;
+    let first = TransactionId::from_u128(1).ok_or(Failure::Memory)?;
+    let second = TransactionId::from_u128(2).ok_or(Failure::Memory)?;
     replay::negotiate(
         alloc,
         &mut client,
@@ -117,7 +118,7 @@ fn outcome_of<A: Allocator + Copy>(
         [[0; 16], [0; 16]],
         [&[], &[]],
     )
-    .map_err(|_| Failure)
+    .map_err(|_| Failure::Memory)
 }
 
 fn credentials<A: Allocator + Copy>(alloc: A) -> Result<LongTermCredentials<A>, AllocError> {
@@ -160,23 +161,17 @@ fn print_outcome<W: Write, A: Allocator>(
     outcome: Outcome,
     writer: &mut W,
 ) -> Result<Status, Failure>
-    ensures { IfOk result (λ status. status ≢ Status.WrongWords) }
+    ensures { IfOk result (λ status. status ≢ Status.NotJudged) }
 {
     let (text, name, status) = match outcome {
-        Outcome::Validated(algorithm) => {
-            ("validated", algorithm_name(algorithm), Status::Answered)
-        }
+        Outcome::Validated(algorithm) => { ("validated", algorithm_name(algorithm), Status::Good) }
         Outcome::AlreadyValidated(algorithm) => (
             "already validated",
             algorithm_name(algorithm),
-            Status::Answered,
+            Status::Good,
         ),
-        Outcome::ServerRefused(reason) => {
-            ("refused", server_reason_name(reason), Status::Refused)
-        }
-        Outcome::ClientRefused(reason) => {
-            ("refused", client_reason_name(reason), Status::Refused)
-        }
+        Outcome::ServerRefused(reason) => { ("refused", server_reason_name(reason), Status::Bad) }
+        Outcome::ClientRefused(reason) => { ("refused", client_reason_name(reason), Status::Bad) }
     };
     let line = format!(in alloc; "{text} {name}\n")?;
     write_text(writer, line.as_bytes())?;

@@ -1,14 +1,15 @@
 //! The command `schedule`.
 ghost use Rattle.std.specs.Prelude.{◌≡◌, ◌≢◌, None, length};
 
-use crate::input::{CountedRead, Failure};
-use crate::output::write_text;
-use crate::status::Status;
 use crate::words::{address, moment, number};
 use std::alloc::{Allocator, Global};
 use std::io::Write;
 use std::net::{IpAddr, Ipv4Addr, SocketAddr};
 use std::time::Duration;
+use stun_cli::failure::Failure;
+use stun_cli::input::CountedRead;
+use stun_cli::output::write_text;
+use stun_cli::status::Status;
 use stun_proto::Instant;
 use stun_proto::agent::StunAgent;
 use stun_proto::replay::{AgentEvent, AgentStep, drive};
@@ -57,12 +58,12 @@ pub fn schedule<R: CountedRead, W: Write>(
     _reader: &mut R,
     writer: &mut W,
 ) -> Status
-    ensures other_count { length words.now ≢ 5 → length words.now ≢ 8 → result ≡ Status.WrongWords }
-    ensures untouched { result ≡ Status.WrongWords → writer.new ≡ writer.old }
+    ensures other_count { length words.now ≢ 5 → length words.now ≢ 8 → result ≡ Status.NotJudged }
+    ensures untouched { result ≡ Status.NotJudged → writer.new ≡ writer.old }
     ensures unread { _reader.new ≡ _reader.old }
 {
     let Some(settings) = settings_of(words) else {
-        return Status::WrongWords;
+        return Status::NotJudged;
     };
     let (Ok(request), Ok(response)) = (
         binding_message(alloc, MessageClass::Request),
@@ -71,13 +72,13 @@ pub fn schedule<R: CountedRead, W: Write>(
         return Status::Failed;
     };
     match print_schedule(alloc, settings, request, response, writer) {
-        Ok(()) => Status::Answered,
-        Err(Failure) => Status::Failed,
+        Ok(()) => Status::Good,
+        Err(_) => Status::Failed,
     }
 }
 
 /// The settings that the words name, if they name some.
-pub fn settings_of(words: &[String]) -> Option<Settings>
+fn settings_of(words: &[String]) -> Option<Settings>
     ensures { length words.now ≢ 5 → length words.now ≢ 8 → result ≡ None }
 {
     let [
@@ -138,7 +139,7 @@ fn response_of(at: &str, from: &str) -> Option<Response> {
 }
 
 /// A line for each step of a request, and of the response if one comes.
-pub fn print_schedule<W: Write, A: Allocator + Copy>(
+fn print_schedule<W: Write, A: Allocator + Copy>(
     alloc: A,
     settings: Settings,
     request: Vec<u8>,
@@ -198,16 +199,16 @@ fn steps_of<A: Allocator + Copy>(
             drive(alloc, &mut agent, &events, Instant::MAX)
         }
     };
-    driven.map_err(|_| Failure)
+    driven.map_err(|_| Failure::Memory)
 }
 
 /// A Binding message of this class with id 1, without attributes.
-pub fn binding_message(alloc: Global, class: MessageClass) -> Result<Vec<u8>, Failure> {
-    let id = TransactionId::from_u128(1).ok_or(Failure)?;
+fn binding_message(alloc: Global, class: MessageClass) -> Result<Vec<u8>, Failure> {
+    let id = TransactionId::from_u128(1).ok_or(Failure::Memory)?;
     let kind = MessageType::from_class_method(class, BINDING);
     match Message::builder(kind, id, MessageWriteVec::new(alloc)) {
         Ok(writer) => Ok(writer.finish()),
-        Err(_) => Err(Failure),
+        Err(_) => Err(Failure::Memory),
     }
 }
 

@@ -1,10 +1,10 @@
 //! The script of `serve`: a call of a server in each line that is not empty.
 
-use crate::input::Failure;
 use crate::words::{address, algorithm, feature, moment, number};
 use hex::FromHexError;
 use std::alloc::{AllocError, Global};
 use std::time::Duration;
+use stun_cli::failure::Failure;
 use stun_proto::replay::ServerCall;
 
 /// What a script is.
@@ -28,7 +28,7 @@ pub fn read_script(alloc: Global, script: &[u8]) -> Result<Script, Failure> {
         match read_line(alloc, line)? {
             Some(call) => {
                 if calls.push(call).is_err() {
-                    return Err(Failure);
+                    return Err(Failure::Memory);
                 }
             }
             None => return Ok(Script::WrongLine(number)),
@@ -71,6 +71,7 @@ fn call_of(
         "remove-client" => Ok(remove_client(arguments)),
         "expiry" => Ok(expiry(arguments)),
         "forget" => Ok(forget(arguments)),
+        "forget-address" => Ok(forget_address(arguments)),
         _ => Ok(None),
     }
 }
@@ -165,6 +166,13 @@ fn forget(arguments: &[&str]) -> Option<ServerCall> {
         return None;
     };
     Some(ServerCall::ForgetExpired(moment(milliseconds)?))
+}
+
+fn forget_address(arguments: &[&str]) -> Option<ServerCall> {
+    let [client] = arguments else {
+        return None;
+    };
+    Some(ServerCall::Forget(address(client)?))
 }
 
 /// Sixteen random words, each spelled by the letter that a nonce has for it.

@@ -1,15 +1,16 @@
 //! The command `serve`.
 ghost use Rattle.std.specs.Prelude.{◌≡◌, ◌≢◌, ◌≤◌, ◌+◌, ◌↔◌, length};
-ghost use Rattle.stun_tool.specs.Input.{most_reads};
+ghost use Rattle.stun_cli.specs.Input.{most_reads};
 
-use crate::input::{CountedRead, Failure, read_to_end};
 use crate::names::{algorithm_name, error_name, server_reason_name};
-use crate::output::write_text;
 use crate::script::{Script, read_script};
-use crate::status::Status;
-use crate::verdict::Verdict;
 use std::alloc::{AllocError, Allocator, Global};
 use std::io::Write;
+use stun_cli::failure::Failure;
+use stun_cli::input::{CountedRead, read_to_end};
+use stun_cli::output::write_text;
+use stun_cli::status::Status;
+use stun_cli::verdict::refusal_line;
 use stun_proto::auth::LongTermServerAuth;
 use stun_proto::replay;
 use stun_proto::replay::{ServerCall, ServerReply};
@@ -26,21 +27,21 @@ pub fn serve<R: CountedRead, W: Write>(
     reader: &mut R,
     writer: &mut W,
 ) -> Status
-    ensures wrong_words { (result ≡ Status.WrongWords) ↔ (length words.now ≢ 1) }
-    ensures untouched { result ≡ Status.WrongWords → (reader.new ≡ reader.old)
+    ensures wrong_words { (result ≡ Status.NotJudged) ↔ (length words.now ≢ 1) }
+    ensures untouched { result ≡ Status.NotJudged → (reader.new ≡ reader.old)
         × (writer.new ≡ writer.old) }
     ensures asked { R.asked reader.new ≤ R.asked reader.old + most_reads }
 {
     let [realm] = words else {
-        return Status::WrongWords;
+        return Status::NotJudged;
     };
-    let Ok(input) = read_to_end(alloc, reader) else {
+    let Ok(input) = read_to_end(alloc, reader, usize::MAX) else {
         return Status::Failed;
     };
     match print_script(alloc, realm.as_str(), input.as_slice(), writer) {
-        Ok(true) => Status::Answered,
-        Ok(false) => Status::Refused,
-        Err(Failure) => Status::Failed,
+        Ok(true) => Status::Good,
+        Ok(false) => Status::Bad,
+        Err(_) => Status::Failed,
     }
 }
 
@@ -65,7 +66,7 @@ fn print_script<W: Write>(
 }
 
 /// Makes the calls at a new server, and prints a line for each reply.
-pub fn print_replies<W: Write, A: Allocator + Copy>(
+fn print_replies<W: Write, A: Allocator + Copy>(
     alloc: A,
     realm: &str,
     calls: &[ServerCall],
@@ -74,7 +75,7 @@ pub fn print_replies<W: Write, A: Allocator + Copy>(
     let realm = String::from_str(alloc, realm)?;
     let mut server = LongTermServerAuth::new(alloc, realm);
     let Ok(replies) = replay::serve(alloc, &mut server, calls) else {
-        return Err(Failure);
+        return Err(Failure::Memory);
     };
     for reply in replies.as_slice() {
         let line = line_of(alloc, reply)?;
@@ -86,9 +87,7 @@ pub fn print_replies<W: Write, A: Allocator + Copy>(
 /// The line for a reply.
 fn line_of<A: Allocator + Copy>(alloc: A, reply: &ServerReply<A>) -> Result<String<A>, AllocError> {
     match reply {
-        ServerReply::NotAMessage(error) => {
-            String::from_str(alloc, Verdict::NotAMessage(*error).line())
-        }
+        ServerReply::NotAMessage(error) => { String::from_str(alloc, refusal_line(*error)) }
         ServerReply::Validated(algorithm) => {
             let name = algorithm_name(*algorithm);
             format!(in alloc; "validated {name}\n")

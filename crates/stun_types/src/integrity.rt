@@ -246,6 +246,23 @@ impl Message<'_> {
         Ok(integrity_algorithm(&attribute))
     }
 
+    /// The same under a key that is prepared: where it is for the algorithm of the digest, two blocks
+    /// fewer are hashed. It does not allocate.
+    pub fn validate_integrity_with_prepared_key<A: Allocator>(
+        &self,
+        key: &PreparedKey<A>,
+    ) -> Result<IntegrityAlgorithm, ValidateError>
+        ensures ok { IfOk result (λ algorithm. verified_algorithm self.now key.now ≡ Some algorithm) }
+        ensures refused { IfErr result (λ error.
+            (verified_algorithm self.now key.now ≡ None) × (error ≡ integrity_refusal self.now)) }
+    {
+        let (place, attribute) = claimed_digest(self)?;
+        if !is_prepared_digest(self.as_bytes(), key, place, &attribute) {
+            return Err(ValidateError::IntegrityFailed);
+        }
+        Ok(integrity_algorithm(&attribute))
+    }
+
     /// The same as `validate_integrity_with_key`, where the caller has found the attribute that decides and its place already:
     /// no attribute is walked. It does not allocate.
     pub fn validate_integrity_at<A: Allocator>(

@@ -5,6 +5,7 @@ mod append;
 pub mod attribute;
 mod attributes_iter;
 pub mod data;
+mod digest_key;
 mod integrity;
 pub mod laws;
 pub mod limits;

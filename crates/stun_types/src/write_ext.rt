@@ -14,6 +14,7 @@ ghost use Rattle.stun_types.specs.Writing.{GainsIntegrity, GainsOne, IsOpen, Ref
 
 use crate::append::append_attribute;
 use crate::attribute::{Attribute, AttributeType, attribute_length};
+use crate::digest_key::DigestKey;
 use crate::limits::MAX_LENGTH;
 use crate::walk::has_attribute;
 use crate::write::MessageWrite;
@@ -22,9 +23,9 @@ use stun_base::algorithm::IntegrityAlgorithm;
 use stun_base::credentials::MessageIntegrityCredentials;
 use stun_base::error::StunWriteError;
 use stun_base::header::{HEADER_LENGTH, MessageHeader};
-use stun_base::hmac::{SHA1_LENGTH, SHA256_LENGTH, hmac_sha1, hmac_sha256};
 use stun_base::key::IntegrityKey;
 use stun_base::message_type::MessageClass;
+use stun_base::prepared_key::PreparedKey;
 use stun_base::transaction_id::TransactionId;
 
 /// Whether only the calls for integrity write attributes of this type, or nobody.
@@ -166,7 +167,8 @@ pub trait MessageWriteExt: MessageWrite {
             × (Self.room self.new ≡ Self.room self.old)) }
         ensures kept { OnErr result (Self.reserved self.old ≤ Self.reserved self.new) }
     {
-        add_integrity(self, credentials.key(algorithm).as_bytes(), algorithm)
+        let key = credentials.key(algorithm);
+        add_integrity(self, &key.as_bytes(), algorithm)
     }
 
     /// Adds the integrity attribute of an algorithm, whose digest is made under this key.
@@ -199,13 +201,43 @@ pub trait MessageWriteExt: MessageWrite {
             × (Self.room self.new ≡ Self.room self.old)) }
         ensures kept { OnErr result (Self.reserved self.old ≤ Self.reserved self.new) }
     {
-        add_integrity(self, key.as_bytes(), algorithm)
+        add_integrity(self, &key.as_bytes(), algorithm)
     }
 
     /// The same under a key that is borrowed, of any length.
     final fn add_message_integrity_with_key_bytes(
         &mut self,
         key: &[u8],
+        algorithm: IntegrityAlgorithm,
+    ) -> Result<(), StunWriteError>
+    where
+        Self: Sized,
+        requires { 20 ≤ length (Self.bytes self.old) }
+        ensures refused { RefusedBy (signing_refusal (Self.bytes self.old)
+            (Self.room self.old) algorithm) result }
+        ensures succeeds { signing_refusal (Self.bytes self.old) (Self.room self.old) algorithm
+            ≡ None
+            → attribute_length (digest_length algorithm) ≤ Self.reserved self.old → IsOk result }
+        ensures bytes { OnOk result (Self.bytes self.new
+            ≡ with_integrity (Self.bytes self.old) algorithm key.now) }
+        ensures added { OnOk result (GainsIntegrity (Self.bytes self.old) (Self.bytes self.new)
+            algorithm key.now) }
+        ensures stands { OnOk result (VerifiesAfter (Self.bytes self.old) (Self.bytes self.new)
+            algorithm key.now) }
+        ensures room { OnOk result (Self.room self.new
+            + attribute_length (digest_length algorithm) ≡ Self.room self.old) }
+        ensures err { OnErr result ((Self.bytes self.new ≡ Self.bytes self.old)
+            × (Self.room self.new ≡ Self.room self.old)) }
+        ensures kept { OnErr result (Self.reserved self.old ≤ Self.reserved self.new) }
+    {
+        add_integrity(self, &key, algorithm)
+    }
+
+    /// The same under a key that is prepared: where it is for this algorithm, a digest hashes two blocks
+    /// fewer.
+    final fn add_message_integrity_with_prepared_key<A: Allocator>(
+        &mut self,
+        key: &PreparedKey<A>,
         algorithm: IntegrityAlgorithm,
     ) -> Result<(), StunWriteError>
     where
@@ -261,7 +293,36 @@ pub trait MessageWriteExt: MessageWrite {
             × (Self.room self.new ≡ Self.room self.old)) }
         ensures kept { OnErr result (Self.reserved self.old ≤ Self.reserved self.new) }
     {
-        sign(self, key.as_bytes(), algorithm)
+        sign(self, &key.as_bytes(), algorithm)
+    }
+
+    /// The same under a key that is prepared.
+    final fn add_message_integrity_with_prepared_key_unchecked<A: Allocator>(
+        &mut self,
+        key: &PreparedKey<A>,
+        algorithm: IntegrityAlgorithm,
+    ) -> Result<(), AllocError>
+    where
+        Self: Sized,
+        requires header { 20 ≤ length (Self.bytes self.old) }
+        requires unsigned { has_integrity (Self.bytes self.old) ≡ false }
+        requires short { length_with (Self.bytes self.old) (digest_length algorithm) ≤ max_length }
+        requires room { attribute_length (digest_length algorithm) ≤ Self.room self.old }
+        ensures succeeds { attribute_length (digest_length algorithm) ≤ Self.reserved self.old
+            → IsOk result }
+        ensures bytes { OnOk result (Self.bytes self.new
+            ≡ with_integrity (Self.bytes self.old) algorithm key.now) }
+        ensures added { OnOk result (GainsIntegrity (Self.bytes self.old) (Self.bytes self.new)
+            algorithm key.now) }
+        ensures stands { OnOk result (VerifiesAfter (Self.bytes self.old) (Self.bytes self.new)
+            algorithm key.now) }
+        ensures room { OnOk result (Self.room self.new
+            + attribute_length (digest_length algorithm) ≡ Self.room self.old) }
+        ensures err { OnErr result ((Self.bytes self.new ≡ Self.bytes self.old)
+            × (Self.room self.new ≡ Self.room self.old)) }
+        ensures kept { OnErr result (Self.reserved self.old ≤ Self.reserved self.new) }
+    {
+        sign(self, key, algorithm)
     }
 }
 
@@ -300,9 +361,9 @@ fn integrity_length(algorithm: IntegrityAlgorithm) -> usize
 }
 
 /// Adds the integrity attribute of an algorithm, or answers the first reason against it.
-fn add_integrity<W: MessageWrite>(
+fn add_integrity<W: MessageWrite, K: DigestKey>(
     writer: &mut W,
-    key: &[u8],
+    key: &K,
     algorithm: IntegrityAlgorithm,
 ) -> Result<(), StunWriteError>
     requires { 20 ≤ length (W.bytes writer.old) }
@@ -311,11 +372,11 @@ fn add_integrity<W: MessageWrite>(
     ensures succeeds { signing_refusal (W.bytes writer.old) (W.room writer.old) algorithm ≡ None
         → attribute_length (digest_length algorithm) ≤ W.reserved writer.old → IsOk result }
     ensures bytes { OnOk result (W.bytes writer.new
-        ≡ with_integrity (W.bytes writer.old) algorithm key.now) }
+        ≡ with_integrity (W.bytes writer.old) algorithm (K.key_bytes key.now)) }
     ensures added { OnOk result (GainsIntegrity (W.bytes writer.old) (W.bytes writer.new)
-        algorithm key.now) }
+        algorithm (K.key_bytes key.now)) }
     ensures stands { OnOk result (VerifiesAfter (W.bytes writer.old) (W.bytes writer.new)
-        algorithm key.now) }
+        algorithm (K.key_bytes key.now)) }
     ensures room { OnOk result (W.room writer.new
         + attribute_length (digest_length algorithm) ≡ W.room writer.old) }
     ensures err { OnErr result ((W.bytes writer.new ≡ W.bytes writer.old)
@@ -337,9 +398,9 @@ fn add_integrity<W: MessageWrite>(
 }
 
 /// Raises the length of a message and appends its integrity attribute.
-fn sign<W: MessageWrite>(
+fn sign<W: MessageWrite, K: DigestKey>(
     writer: &mut W,
-    key: &[u8],
+    key: &K,
     algorithm: IntegrityAlgorithm,
 ) -> Result<(), AllocError>
     requires header { 20 ≤ length (W.bytes writer.old) }
@@ -348,11 +409,11 @@ fn sign<W: MessageWrite>(
     ensures succeeds { attribute_length (digest_length algorithm) ≤ W.reserved writer.old
         → IsOk result }
     ensures bytes { OnOk result (W.bytes writer.new
-        ≡ with_integrity (W.bytes writer.old) algorithm key.now) }
+        ≡ with_integrity (W.bytes writer.old) algorithm (K.key_bytes key.now)) }
     ensures added { OnOk result (GainsIntegrity (W.bytes writer.old) (W.bytes writer.new)
-        algorithm key.now) }
+        algorithm (K.key_bytes key.now)) }
     ensures stands { OnOk result (VerifiesAfter (W.bytes writer.old) (W.bytes writer.new)
-        algorithm key.now) }
+        algorithm (K.key_bytes key.now)) }
     ensures room { OnOk result (W.room writer.new
         + attribute_length (digest_length algorithm) ≡ W.room writer.old) }
     ensures err { OnErr result ((W.bytes writer.new ≡ W.bytes writer.old)
@@ -370,38 +431,28 @@ fn sign<W: MessageWrite>(
 }
 
 /// Appends the integrity attribute whose digest is that of all bytes before it.
-fn append_integrity<W: MessageWrite>(writer: &mut W, key: &[u8], algorithm: IntegrityAlgorithm)
+fn append_integrity<W: MessageWrite, K: DigestKey>(
+    writer: &mut W,
+    key: &K,
+    algorithm: IntegrityAlgorithm,
+)
     requires { attribute_length (digest_length algorithm) ≤ W.reserved writer.old }
     ensures bytes { W.bytes writer.new ≡ W.bytes writer.old
         ++ spelled_attribute (record {
           kind = integrity_kind algorithm;
-          value = digest algorithm key.now (W.bytes writer.old);
+          value = digest algorithm (K.key_bytes key.now) (W.bytes writer.old);
         }) }
     ensures room { W.room writer.new + attribute_length (digest_length algorithm)
         ≡ W.room writer.old }
 {
     match algorithm {
         IntegrityAlgorithm::Sha1 => {
-            let digest = digest_sha1(key, writer.data());
+            let digest = key.digest_sha1(writer.data());
             append_attribute(writer, AttributeType::MESSAGE_INTEGRITY, &digest);
         }
         IntegrityAlgorithm::Sha256 => {
-            let digest = digest_sha256(key, writer.data());
+            let digest = key.digest_sha256(writer.data());
             append_attribute(writer, AttributeType::MESSAGE_INTEGRITY_SHA256, &digest);
         }
     }
-}
-
-/// HMAC-SHA1 of a text.
-fn digest_sha1(key: &[u8], text: &[u8]) -> [u8; SHA1_LENGTH]
-    ensures { result ≡ digest IntegrityAlgorithm.Sha1 key.now text.now }
-{
-    hmac_sha1(key, &[text])
-}
-
-/// HMAC-SHA256 of a text.
-fn digest_sha256(key: &[u8], text: &[u8]) -> [u8; SHA256_LENGTH]
-    ensures { result ≡ digest IntegrityAlgorithm.Sha256 key.now text.now }
-{
-    hmac_sha256(key, &[text])
 }

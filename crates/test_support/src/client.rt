@@ -1,14 +1,13 @@
-//! What the tests of the client share. None of these functions has a contract, so that a test knows nothing of their inside.
+//! What the tests of the client share. None of these functions has a contract, so that a test knows
+//! nothing of their inside.
 
-use crate::parts::begin;
 use crate::server::user;
-use std::alloc::{AllocError, Allocator, Global};
+use std::alloc::{AllocError, Allocator};
 use stun_auth::auth::{
     Feature, LongTermClientAuth, LongTermClientAuthErrorReason, LongTermClientValidation,
 };
 use stun_types::message::{
-    IntegrityAlgorithm, Message, MessageClass, MessageHeader, MessageWriteVec, StunParseError,
-    StunWriteError,
+    IntegrityAlgorithm, Message, MessageHeader, StunParseError, StunWriteError,
 };
 use stun_types::prelude::*;
 
@@ -23,17 +22,6 @@ pub enum Answer {
 pub const RESEND: Answer = Answer::Resend(None);
 
 pub const SHA1: Answer = Answer::Validated(IntegrityAlgorithm::Sha1);
-
-pub const UNAUTHORIZED: Answer = Answer::Refused(LongTermClientAuthErrorReason::Unauthorized);
-
-pub const FAILED: Answer = Answer::Refused(LongTermClientAuthErrorReason::IntegrityFailed);
-
-pub const UNSUPPORTED: Answer = Answer::Refused(LongTermClientAuthErrorReason::UnsupportedFeature);
-
-pub const OUT_OF_MEMORY: Answer = Answer::Refused(LongTermClientAuthErrorReason::OutOfMemory);
-
-/// A Binding request with id 1.
-pub const BARE_REQUEST: &str = "00010000 2112a442 000000000000000000000001";
 
 /// A client of the user `user` with the password `pass`, with HMAC-SHA1 alone.
 pub fn sha1_client<A: Allocator + Copy>(
@@ -53,16 +41,6 @@ pub fn full_client<A: Allocator + Copy>(
 ) -> Result<LongTermClientAuth<A>, AllocError> {
     let mut client = sha1_client(alloc, feature)?;
     client.add_supported_integrity(IntegrityAlgorithm::Sha256);
-    Ok(client)
-}
-
-/// The same with HMAC-SHA256 alone.
-pub fn sha256_client<A: Allocator + Copy>(
-    alloc: A,
-    feature: Feature,
-) -> Result<LongTermClientAuth<A>, AllocError> {
-    let mut client = sha1_client(alloc, feature)?;
-    client.set_supported_integrity(IntegrityAlgorithm::Sha256);
     Ok(client)
 }
 
@@ -88,14 +66,4 @@ pub fn signed_by<A: Allocator, W: MessageWrite>(
         return Err(StunWriteError::NotAllowed);
     }
     client.sign_outgoing_message(writer)
-}
-
-/// A message of a class, signed.
-pub fn signed_bytes<A: Allocator>(
-    alloc: Global,
-    client: &mut LongTermClientAuth<A>,
-    class: MessageClass,
-) -> Result<Vec<u8>, StunWriteError> {
-    let writer = begin(class, MessageWriteVec::new(alloc))?;
-    Ok(signed_by(client, writer)?.finish())
 }

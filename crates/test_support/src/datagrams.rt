@@ -48,14 +48,6 @@ pub fn mapped(id: u8) -> [u8; 32] {
     ]
 }
 
-/// An error with ERROR-CODE 400 and its reason.
-pub fn bad_request(id: u8) -> [u8; 40] {
-    [
-        0x01, 0x11, 0, 20, 0x21, 0x12, 0xa4, 0x42, 0, 0, 0, 0, 0, 0, 0, 0, 0, 0, 0, id, 0x00, 0x09,
-        0, 15, 0, 0, 4, 0, b'B', b'a', b'd', b' ', b'R', b'e', b'q', b'u', b'e', b's', b't', 0,
-    ]
-}
-
 /// The id of this number.
 pub fn id(number: u8) -> Result<TransactionId, Fail> {
     Ok(TransactionId::from_u128(u128::from(number)).ok_or("each byte is an id")?)

@@ -1,4 +1,5 @@
-//! What the tests of several crates share: messages, moments and words, a writer of their own, and the calls of both sides.
+//! What the tests of several crates share: messages, moments and words, a writer of their own, and
+//! the calls of both sides.
 #![tactic(auto)]
 
 pub mod array_writer;
@@ -7,6 +8,4 @@ pub mod datagrams;
 pub mod parts;
 pub mod secrets;
 pub mod server;
-pub mod server_steps;
 pub mod spelled;
-pub mod words;

@@ -1,9 +1,7 @@
-//! What the tests of the server share. None of these functions has a contract, so that a test knows nothing of their inside.
+//! What the tests of the server share. None of these functions has a contract, so that a test knows
+//! nothing of their inside.
 
-use crate::parts::{
-    BOTH, FULL_NONCE, MD5_KEY, PLAIN_NONCE, Part, SHA256_KEY, begin, message, with_parts,
-};
-use crate::words::Words;
+use crate::parts::{BOTH, FULL_NONCE, Part, SHA256_KEY, begin, message, with_parts};
 use std::alloc::{AllocError, Allocator, Global};
 use std::net::{IpAddr, Ipv4Addr, SocketAddr};
 use std::test::Fail;
@@ -11,6 +9,7 @@ use stun_auth::auth::{
     Feature, LongTermServerAuth, LongTermServerAuthErrorReason, LongTermServerValidation,
 };
 use stun_base::instant::Instant;
+use stun_base::words::WordSource;
 use stun_types::attribute::PasswordAlgorithmValue;
 use stun_types::message::{
     IntegrityAlgorithm, LongTermCredentials, Message, MessageClass, MessageHeader, MessageWriteVec,
@@ -21,33 +20,13 @@ use stun_types::prelude::*;
 /// What a server answers.
 pub type Answer = Result<IntegrityAlgorithm, LongTermServerAuthErrorReason>;
 
-pub const SHA1: Answer = Ok(IntegrityAlgorithm::Sha1);
-
 pub const SHA256: Answer = Ok(IntegrityAlgorithm::Sha256);
-
-pub const UNAUTHORIZED: Answer = Err(LongTermServerAuthErrorReason::Unauthorized);
-
-pub const BAD_REQUEST: Answer = Err(LongTermServerAuthErrorReason::BadRequest);
-
-pub const STALE_NONCE: Answer = Err(LongTermServerAuthErrorReason::StaleNonce);
-
-pub const FAILED: Answer = Err(LongTermServerAuthErrorReason::IntegrityFailed);
-
-pub const OUT_OF_MEMORY: Answer = Err(LongTermServerAuthErrorReason::OutOfMemory);
 
 /// Words that draw sixteen letters `A`.
 pub const ZEROS: [u32; 16] = [0; 16];
 
 /// Words that draw sixteen letters `B`.
 pub const ONES: [u32; 16] = [1; 16];
-
-/// A request that the plain server validates.
-pub const PLAIN_REQUEST: [Part<'static>; 4] = [
-    Part::Nonce(PLAIN_NONCE),
-    Part::Realm("realm"),
-    Part::Username("user"),
-    Part::Sha1(&MD5_KEY),
-];
 
 /// A request that the offering server validates.
 pub const FULL_REQUEST: [Part<'static>; 6] = [
@@ -73,7 +52,8 @@ pub fn user<A: Allocator + Copy>(
     Ok(LongTermCredentials::new(username, String::from_str(alloc, password)?))
 }
 
-/// A server of the realm `realm` with the user `user`, who has the password `pass`, and with HMAC-SHA1 alone.
+/// A server of the realm `realm` with the user `user`, who has the password `pass`, and with
+/// HMAC-SHA1 alone.
 pub fn sha1_server<A: Allocator + Copy>(
     alloc: A,
     feature: Feature,
@@ -94,16 +74,6 @@ pub fn full_server<A: Allocator + Copy>(
     Ok(server)
 }
 
-/// The same with HMAC-SHA256 alone.
-pub fn sha256_server<A: Allocator + Copy>(
-    alloc: A,
-    feature: Feature,
-) -> Result<LongTermServerAuth<A>, AllocError> {
-    let mut server = sha1_server(alloc, feature)?;
-    server.set_supported_integrity(IntegrityAlgorithm::Sha256);
-    Ok(server)
-}
-
 /// What a server answers to bytes.
 pub fn asked<A: Allocator + Copy>(
     server: &mut LongTermServerAuth<A>,
@@ -112,22 +82,12 @@ pub fn asked<A: Allocator + Copy>(
     words: [u32; 16],
 ) -> Result<Answer, StunParseError> {
     let message = Message::from_bytes(bytes)?;
-    let mut source = Words::new(words);
+    let mut source = WordSource::new(words);
     let now = Instant::from_nanos(nanos);
     match server.validate_incoming_message(&message, from, now, &mut source) {
         Ok(LongTermServerValidation::Validated(algorithm)) => Ok(Ok(algorithm)),
         Err(error) => Ok(Err(error.reason())),
     }
-}
-
-/// What a server answers, at the first moment, to these attributes from the first address.
-pub fn answered<A: Allocator + Copy>(
-    alloc: Global,
-    server: &mut LongTermServerAuth<A>,
-    parts: &[Part<'_>],
-) -> Result<Answer, Fail> {
-    let bytes = message(alloc, MessageClass::Request, parts)?;
-    Ok(asked(server, bytes.as_slice(), (address(1), 0), ZEROS)?)
 }
 
 /// An unsigned request at the first moment.
@@ -139,12 +99,6 @@ pub fn knocked<A: Allocator + Copy>(
 ) -> Result<Answer, Fail> {
     let bytes = message(alloc, MessageClass::Request, &[])?;
     Ok(asked(server, bytes.as_slice(), (from, 0), words)?)
-}
-
-/// How many bytes signing adds to a request and to a response to the first address.
-pub fn sizes<A: Allocator + Copy>(server: &LongTermServerAuth<A>) -> (usize, usize) {
-    let request = server.message_signature_bytes(address(1), true);
-    (request, server.message_signature_bytes(address(1), false))
 }
 
 /// A message in a writer, signed for the first address.
@@ -187,7 +141,8 @@ pub fn plain_server<A: Allocator + Copy>(
     Ok(server)
 }
 
-/// A server with both algorithms and hashed names, whose nonce is current for the first address and whose list was offered to it.
+/// A server with both algorithms and hashed names, whose nonce is current for the first address and
+/// whose list was offered to it.
 pub fn offering_server<A: Allocator + Copy>(
     alloc: Global,
     heap: A,

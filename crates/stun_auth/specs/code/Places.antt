@@ -1,9 +1,13 @@
 -- A place as the struct of the code keeps it.
-use Rattle.std.specs.Prelude.{ℕ, List, map, Option}
-use Rattle.std.specs.Option.{option_map, option_or}
+use Rattle.std.specs.Prelude.{◌≡◌, ℕ, List, map, true, false, Option, Some, None}
+use Rattle.std.specs.Option.{option_map, option_or, IsSome}
+use Rattle.std.specs.Ordering.{is_gt}
+use Rattle.std.specs.BTreeMap.Range.{is_from_start}
+use Rattle.std.specs.declared.ops.Bound.{Bound}
 use Rattle.std.specs.FinMap as fin
 use Rattle.std.specs.String.{string_bytes}
 use Rattle.std.specs.declared.net.socket_addr.SocketAddr.{SocketAddr}
+use Rattle.stun_base.specs.Address.{address_cmp}
 use Rattle.stun_auth.specs.declared.places.Client.{Client}
 use Rattle.stun_auth.specs.declared.places.Place.{Place}
 use Rattle.stun_auth.specs.Seen.{ClientSeen, PlaceSeen, renewed}
@@ -23,6 +27,13 @@ place_seen p = record {
 -- a place with a new nonce, and with a new client if there is one
 abbrev pub renewed_with : Option PlaceSeen → List ℕ → ℕ → Option ClientSeen → PlaceSeen
 renewed_with place nonce expires client = with_client (option_or client (renewed place nonce expires).client) (renewed place nonce expires)
+
+-- an address is the first that has a place, from a start on; or none has one there
+abbrev pub IsFirstFrom : PlacesSeen → Bound SocketAddr → Option SocketAddr → Type 0
+IsFirstFrom places start None = (q : SocketAddr) → is_from_start address_cmp start q ≡ true → fin.get places q ≡ None
+IsFirstFrom places start (Some a) =
+    IsSome (fin.get places a) × (is_from_start address_cmp start a ≡ true)
+    × ((q : SocketAddr) → is_from_start address_cmp start q ≡ true → IsSome (fin.get places q) → is_gt (address_cmp a q) ≡ false)
 
 abbrev pub places_seen : {A : Type 0} → List (SocketAddr × Place A) → PlacesSeen
 places_seen entries = fin.from_entries (map (λ e. (e.0, place_seen e.1)) entries)

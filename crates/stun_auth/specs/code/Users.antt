@@ -13,8 +13,8 @@ use Rattle.stun_auth.specs.declared.registry.User.{User}
 
 -- the key that is kept for an algorithm
 abbrev pub key_in : {A : Type 0} → User A → IntegrityAlgorithm → Option (List ℕ)
-key_in user Sha1 = user.sha1
-key_in user Sha256 = user.sha256
+key_in user Sha1 = user.keys.value.sha1
+key_in user Sha256 = user.keys.value.sha256
 
 -- a user has a key for each of the algorithms, and no other
 abbrev pub HasKeys : {A : Type 0} → List ℕ → AlgorithmSet → List ℕ → User A → Type 0

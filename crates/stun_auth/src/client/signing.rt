@@ -1,5 +1,5 @@
 //! What a client's signing adds to a message (RFC 8489, section 9.2.5).
-ghost use Rattle.std.specs.Prelude.{◌≡◌, ◌≤◌, ◌<◌, ◌+◌, ◌-◌, ◌^◌, length, min, true, false, IfOk, IsOk, Ok, ◌*◌};
+ghost use Rattle.std.specs.Prelude.{◌≡◌, ◌≤◌, ◌<◌, ◌+◌, ◌-◌, ◌^◌, length, min, Bool, true, false, IfOk, IsOk, Ok, ◌*◌};
 ghost use Rattle.std.specs.Option.{option_map};
 ghost use Rattle.stun_base.specs.Header.{BeginsWithHeader};
 ghost use Rattle.stun_base.specs.MessageType.{class_in, is_request};
@@ -8,8 +8,8 @@ ghost use Rattle.stun_auth.specs.code.AddedAttribute.{attribute_of};
 ghost use Rattle.stun_auth.specs.Additions.{UnlessMemory, WantsMemory, added_all, growth, page_in, written};
 ghost use Rattle.stun_auth.specs.code.Additions.{IsAdded, IsOutcome};
 ghost use Rattle.stun_auth.specs.code.ClientKept.{KeepsShortTexts, challenge_seen, naming_seen, state_seen};
-ghost use Rattle.stun_auth.specs.ClientSigning.{algorithm_choice, challenge_additions, client_additions, identity, kept_challenge, name_attribute};
-ghost use Rattle.stun_auth.specs.Signed.{ClientMaySign};
+ghost use Rattle.stun_auth.specs.ClientSigning.{algorithm_choice, challenge_additions, client_additions, identity, kept_challenge, name_attribute, signing_algorithm};
+ghost use Rattle.stun_auth.specs.Signed.{ClientMaySign, added_by_client};
 
 use crate::addition::{AddedAttribute, add, add_integrity, attribute_bytes, integrity_bytes};
 use crate::challenge::{KeptChallenge, UserNaming};
@@ -160,6 +160,21 @@ fn is_request<W: MessageWrite>(writer: &W) -> bool
 }
 
 impl<A: Allocator> LongTermClientAuth<A> {
+    /// The algorithm whose integrity attribute a signing would add now: `None` before a challenge was
+    /// taken up, where it adds nothing. Ask after each `ResendRequest`, where HMAC-SHA1 is not to be
+    /// used (see `set_supported_integrity`).
+    pub fn signing_algorithm(&self) -> Option<IntegrityAlgorithm>
+        ensures value { result ≡ signing_algorithm self.now.state }
+        ensures added { (request : Bool)
+            → option_map (λ p. p.algorithm) (added_by_client request self.now.state).integrity
+            ≡ result }
+    {
+        match self.state.kept() {
+            Some(kept) => Some(kept.algorithm),
+            None => None,
+        }
+    }
+
     /// How many bytes signing adds to a request, as far as a `usize` reaches: 0 before a challenge was taken up.
     pub fn message_signature_bytes(&self) -> usize
         ensures { result ≡ min (growth (client_additions true self.now.state)) (2 ^ 64 - 1) }

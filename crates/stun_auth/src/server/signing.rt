@@ -52,7 +52,7 @@ impl<A: Allocator + Copy> LongTermServerAuth<A> {
     /// attribute under the client's present key, or the refusal `IntegrityFailed` where user or key is gone. Without a
     /// client a response gets PASSWORD-ALGORITHMS, the supported algorithms, which are then the ones offered to the address.
     ///
-    /// Sign successes, 401 and 438; a 400 goes out as it is (RFC 8489, section 9.2.4).
+    /// Sign each answer but a 400, which goes out as it is (RFC 8489, section 9.2.4).
     ///
     /// The first refusal in the order of the attributes is answered, `TooLarge` for a realm past 763 bytes included. It
     /// drops the writer and leaves the server. The writer holds a message without FINGERPRINT.

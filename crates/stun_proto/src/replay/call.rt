@@ -57,6 +57,8 @@ pub enum ServerCall {
     SetExpiry(Duration),
     /// Each address without a client whose nonce ended before this moment is forgotten.
     ForgetExpired(Instant),
+    /// All that is kept of this address is forgotten.
+    Forget(SocketAddr),
 }
 
 impl fmt::Debug for ServerCall {
@@ -80,6 +82,7 @@ impl fmt::Debug for ServerCall {
             ServerCall::RemoveClient(_) => f.write_str("RemoveClient(..)"),
             ServerCall::SetExpiry(_) => f.write_str("SetExpiry(..)"),
             ServerCall::ForgetExpired(_) => f.write_str("ForgetExpired(..)"),
+            ServerCall::Forget(_) => f.write_str("Forget(..)"),
         }
     }
 }

@@ -27,10 +27,11 @@ use stun_base::instant::Instant;
 /// A turn at a moment calls `poll_transmit` until it answers `None`, then `poll` until it answers `WaitUntil`, and
 /// begins again while that moment is this one. At `Instant::MAX` there is one turn.
 ///
-/// A request that is asked once, and that no response from its address, no cancellation and no change meets up to
-/// its end, is sent at its first moment and at the sums of its timeouts from there, at no other moment, and times
-/// out once (RFC 8489, section 6.2.1), whatever responses other addresses send. The clause `headline` says so, and
-/// the clause `plans` says it for ids that come again.
+/// A request that one event asks for, and that no response from its address, no cancellation and no
+/// change meets up to its end, is sent at its first moment and at the sums of its timeouts from
+/// there, at no other moment, and times out once (RFC 8489, section 6.2.1), whatever responses
+/// other addresses send. The clause `headline` says so of the steps that are answered, `run` that
+/// the agent made them, and `plans` says it for ids that come again.
 ///
 /// Where an allocation fails the answer is `Stopped`, and the steps are lost. The agent is then exactly the one after
 /// the first `done` events, with the turns at their moments and before the next one (where none is left, up to

@@ -6,7 +6,6 @@ ghost use Rattle.stun_auth.specs.Reasons.{ForReason};
 ghost use Rattle.stun_auth.specs.Validation.{after_message, answer, sight};
 ghost use Rattle.stun_proto.specs.code.FirstAnswers.{answer_of};
 
-use crate::replay::words::WordSource;
 use std::alloc::{AllocError, Allocator};
 use std::net::SocketAddr;
 use stun_auth::auth::{
@@ -14,6 +13,7 @@ use stun_auth::auth::{
 };
 use stun_base::algorithm::IntegrityAlgorithm;
 use stun_base::instant::Instant;
+use stun_base::words::WordSource;
 use stun_types::message::Message;
 
 /// What a server makes of a message: the algorithm with which it is accepted, or why it is refused. The one

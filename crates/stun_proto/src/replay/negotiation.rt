@@ -91,10 +91,16 @@ impl From<Stopped> for NegotiateError {
 /// reads. Each message is signed by the side that sends it, and read through its bytes. The server makes the first list of
 /// calls just before the client reads the 401, and the second one just before it reads the second request.
 ///
-/// An honest client is accepted with its second request and with the strongest algorithm that both sides support; the server
-/// knows it then, and it the server. Where there is none, it answers `UnsupportedFeature` and keeps nothing (RFC 8489, section
-/// 9.2). The calls between the steps of an honest meeting are those of other addresses alone: none is on users or settings, and
-/// none is a `ForgetExpired`, which concerns every address.
+/// A ready client is accepted with its second request and with the strongest algorithm that both
+/// sides support; the server knows it then, and it the server. Where there is none, it answers
+/// `UnsupportedFeature` and keeps nothing (RFC 8489, section 9.2). It is ready where it is new, has
+/// the name and password of a registered user, whose USERHASH no other has, comes from an address
+/// that is new to the server, and asks again while its nonce is current; where realm and name have
+/// at most 763 and 513 bytes; and where the calls between the steps are those of other addresses
+/// alone: none is on users or settings, and none is a `ForgetExpired`, which concerns every
+/// address. Nobody stands between the two, so nothing is said of a downgrade. The clause `headline`
+/// says the outcome, `strongest` how both sides are left, and `steps` that both went through the
+/// meeting.
 ///
 /// The answer is the outcome that ends the run: a first request that is accepted, a refusal of the server other than
 /// `Unauthorized` to the first request, a refusal of the client, an answer of the client to the 401 other than

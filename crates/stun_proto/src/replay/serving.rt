@@ -115,6 +115,10 @@ fn serve_call<A: Allocator + Copy>(
             server.forget_expired(*now);
             Ok(ServerReply::Done)
         }
+        ServerCall::Forget(address) => {
+            server.forget(*address);
+            Ok(ServerReply::Done)
+        }
     }
 }
 

@@ -2,7 +2,7 @@
 use Rattle.std.proofs.Common.{◌≡◌, ℕ, List, ◌∙◌, ap, subst, sym, Ok, Err}
 use Rattle.stun_auth.specs.Reading.{reading_of}
 use Rattle.stun_auth.specs.Validation.{Answer, ChangesNothing, after_message, answer, sight}
-use Rattle.stun_proto.proofs.DrawnWords.{next_words-source}
+use Rattle.stun_base.proofs.DrawnWords.{next_words-source}
 use Rattle.stun_state.specs.Codes.{refusal_of_server}
 use Rattle.stun_state.specs.Server.{validation_answer}
 use Rattle.stun_state.proofs.Reasons.{server_refused}

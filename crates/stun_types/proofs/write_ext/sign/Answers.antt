@@ -14,13 +14,13 @@ returns-clause-bytes g c =
     rw c.data.ensures at c.length_with-message_length.ensures in
     let stated : c.length_with-message_length.result ≡ length_with message (digest_length c.args.algorithm) = omega arith in
     let raised = c.set_length.ensures.bytes ∙ (ap (λ text. with_length text c.length_with-message_length.result) c.reserve.ensures.bytes ∙ ap (with_length message) stated) in
-    c.append_integrity.ensures.bytes ∙ with_integrity-signed message c.args.algorithm c.args.key.now _ c.requires.header raised
+    c.append_integrity.ensures.bytes ∙ with_integrity-signed message c.args.algorithm (g.K.DigestKey.key_bytes c.args.key.now) _ c.requires.header raised
 
 pub returns-clause-added : goal.returns-clause-added
 returns-clause-added g c is_open =
     let message = g.W.MessageWrite.bytes c.args.writer.now in
-    subst (λ after. HasOneMore message after (integrity_attribute message c.args.algorithm c.args.key.now)) (sym (returns-clause-bytes g c))
-    (HasOneMore-signed message c.args.algorithm c.args.key.now is_open c.requires.short)
+    subst (λ after. HasOneMore message after (integrity_attribute message c.args.algorithm (g.K.DigestKey.key_bytes c.args.key.now))) (sym (returns-clause-bytes g c))
+    (HasOneMore-signed message c.args.algorithm (g.K.DigestKey.key_bytes c.args.key.now) is_open c.requires.short)
 
 pub returns-clause-stands : goal.returns-clause-stands
 returns-clause-stands g c is_open keys is_key =

@@ -18,15 +18,15 @@ invariant_of-self-in-Ok g c =
     let r = c.self.inside in
     let realm = string_bytes r.realm in
     let name = string_bytes c.args.name in
-    let keys : HasKeys realm r.supported name c.new-user.result =
-    subst (λ n. HasKeys realm r.supported n c.new-user.result) c.as_str-3.ensures.value
-    (subst (λ n. HasKeys n r.supported c.as_str-3.result.now c.new-user.result) c.as_str-4.ensures.value c.new-user.ensures.keys) in
-    let hash : c.userhash-hash.result ≡ userhash name realm = c.userhash-hash.ensures ∙ (λ i. userhash (c.as_str.ensures.value i) (c.as_str-2.ensures.value i)) in
+    let keys : HasKeys realm r.supported name c.in_ok-user.user =
+    subst (λ n. HasKeys realm r.supported n c.in_ok-user.user) c.as_str.ensures.value
+    (subst (λ n. HasKeys n r.supported c.as_str.result.now c.in_ok-user.user) c.as_str-2.ensures.value c.in_ok-user.ensures.keys) in
+    let hash : c.userhash-hash.result ≡ userhash name realm = c.userhash-hash.ensures ∙ (λ i. userhash (c.as_str-3.ensures.value i) (c.as_str-4.ensures.value i)) in
     let copied : string_bytes c.in_ok-clone.field-0 ≡ name = search rules in (
-      keys_after_add realm r.supported r.users c.put_user.new.users name c.new-user.result c.in-Ok.ensures.ok keys c.self.invariant.0,
+      keys_after_add realm r.supported r.users c.put_user.new.users name c.in_ok-user.user c.in-Ok.ensures.ok keys c.self.invariant.0,
       index_after_add realm name (passwords_seen r.users.entries) r.hashed c.self.invariant.1 c.userhash-hash.result (string_bytes c.in_ok-clone.field-0) hash copied
-          (string_bytes c.new-user.result.password) (passwords_seen c.put_user.new.users.entries) c.insert.new.self
-          (passwords_seen-inserted r.users c.put_user.new.users name c.new-user.result c.in-Ok.ensures.ok) c.in_ok-insert.ensures.ok,
+          (string_bytes c.in_ok-user.user.password) (passwords_seen c.put_user.new.users.entries) c.insert.new.self
+          (passwords_seen-inserted r.users c.put_user.new.users name c.in_ok-user.user c.in-Ok.ensures.ok) c.in_ok-insert.ensures.ok,
     )
 
 pub invariant_of-self-in-Err : goal.invariant_of-self-in-Err
@@ -34,7 +34,7 @@ invariant_of-self-in-Err g c =
     let r = c.self.inside in
     let realm = string_bytes r.realm in
     let name = string_bytes c.args.name in
-    let hash : c.userhash-hash.result ≡ userhash name realm = c.userhash-hash.ensures ∙ (λ i. userhash (c.as_str.ensures.value i) (c.as_str-2.ensures.value i)) in
+    let hash : c.userhash-hash.result ≡ userhash name realm = c.userhash-hash.ensures ∙ (λ i. userhash (c.as_str-3.ensures.value i) (c.as_str-4.ensures.value i)) in
     let copied : string_bytes c.in_ok-clone.field-0 ≡ name = search rules in
     let absent : map.contains_key (passwords_seen r.users.entries) name ≡ false =
     ap is_some (get-passwords_seen r.users name ∙ ap (option_map (λ (u : User g.row.A.Denot). string_bytes u.password)) c.in-Err.ensures.absent) in
@@ -49,6 +49,6 @@ invariant_of-self-in-Err g c =
 pub returns-in-Ok-clause-ok : goal.returns-in-Ok-clause-ok
 returns-in-Ok-clause-ok g c =
     let r = c.self.inside in
-    ap (λ m. record { realm = string_bytes r.realm; algorithms = r.supported; passwords = m }) (passwords_seen-inserted r.users c.put_user.new.users (string_bytes c.args.name) c.new-user.result c.in-Ok.ensures.ok)
-    ∙ ap (λ (s : Registered). record s { passwords = map.insert s.passwords (string_bytes c.args.name) (string_bytes c.new-user.result.password) }) c.self.view_is
-    ∙ ap (λ p. record c.args.self.now { passwords = map.insert c.args.self.now.passwords (string_bytes c.args.name) p }) c.new-user.ensures.password
+    ap (λ m. record { realm = string_bytes r.realm; algorithms = r.supported; passwords = m }) (passwords_seen-inserted r.users c.put_user.new.users (string_bytes c.args.name) c.in_ok-user.user c.in-Ok.ensures.ok)
+    ∙ ap (λ (s : Registered). record s { passwords = map.insert s.passwords (string_bytes c.args.name) (string_bytes c.in_ok-user.user.password) }) c.self.view_is
+    ∙ ap (λ p. record c.args.self.now { passwords = map.insert c.args.self.now.passwords (string_bytes c.args.name) p }) c.in_ok-user.ensures.password

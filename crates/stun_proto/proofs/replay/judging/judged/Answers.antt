@@ -5,7 +5,7 @@ use Rattle.stun_auth.specs.Reasons.{ForReason}
 use Rattle.stun_auth.specs.Validation.{Answer, after_message, answer, sight}
 use Rattle.stun_auth.specs.declared.server_reason.LongTermServerAuthErrorReason.{LongTermServerAuthErrorReason}
 use Rattle.stun_proto.specs.code.FirstAnswers.{answer_of}
-use Rattle.stun_proto.proofs.DrawnWords.{next_words-source}
+use Rattle.stun_base.proofs.DrawnWords.{next_words-source}
 use Rattle.stun_proto.proofs.Heard.{off_told, off_untold, on_told, on_untold, told_as, untold_as}
 use Rattle.stun_proto.proofs.ValidateLemmas.{either}
 use Rattle.stun_proto.proofs.replay.judging.judged.Goals as goal

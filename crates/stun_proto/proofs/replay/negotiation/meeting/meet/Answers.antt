@@ -12,7 +12,7 @@ use Rattle.stun_proto.specs.code.Meetings.{meeting_of}
 use Rattle.stun_proto.specs.Negotiation.{asked, challenged, failure, first_asked, responded, second_asked, succeeded, success}
 use Rattle.stun_proto.specs.Serving.{after_calls}
 use Rattle.stun_proto.specs.Sides.{sides_after_challenge, sides_after_first, sides_after_second, sides_after_success}
-use Rattle.stun_proto.specs.Signing.{page_of}
+use Rattle.stun_auth.specs.Additions.{page_of}
 use Rattle.stun_proto.specs.declared.replay.negotiation.Outcome.TheVariants as Outcome
 use Rattle.stun_proto.proofs.Runs.{by_error, challenge_ended, challenge_stopped, first_calls_stopped, first_ended, first_stopped, run_refused, second_calls_stopped, second_read_stopped, second_refused, stepped, success_read, success_stopped}
 use Rattle.stun_proto.proofs.Stages.{FromFirst, challenge_ends, first_ends, past_challenge, past_first, past_second}

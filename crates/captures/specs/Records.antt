@@ -1,0 +1,22 @@
+-- Where the records of a capture lie.
+use Rattle.std.specs.Prelude.{◌-◌, ℕ, List, take, drop}
+use Rattle.captures.specs.declared.numbers.Order.{Order}
+use Rattle.captures.specs.Numbers.{number_in}
+
+-- the bytes of a record of libpcap before those of its packet
+abbrev pub RECORD_LENGTH : ℕ
+RECORD_LENGTH = 16
+
+-- the fewest bytes of a block
+abbrev pub BLOCK_LENGTH : ℕ
+BLOCK_LENGTH = 12
+
+-- of a file of libpcap: the bytes of a packet follow the four numbers of its record, of which the third counts
+-- them
+abbrev pub packet_bytes : Order → List ℕ → List ℕ
+packet_bytes order bytes = take (number_in order 4 (drop 8 bytes)) (drop 16 bytes)
+
+-- of a file of blocks: what a block of this length has behind its type and its length, and before the length at its
+-- end
+abbrev pub block_body : ℕ → List ℕ → List ℕ
+block_body length block = take (length - BLOCK_LENGTH) (drop 8 block)

@@ -1,0 +1,174 @@
+//! What a packet of IPv4 or IPv6 carries.
+
+use crate::numbers::{Order, number_16};
+use std::net::{IpAddr, Ipv4Addr, Ipv6Addr, SocketAddr};
+
+/// A datagram of UDP.
+#[derive(Clone, Copy)]
+pub struct Datagram<'a> {
+    pub from: SocketAddr,
+    pub to: SocketAddr,
+    /// What it carries, as far as that was captured.
+    pub payload: &'a [u8],
+    /// Whether there was more of it.
+    pub is_cut: bool,
+}
+
+/// What a packet carries.
+#[derive(Clone, Copy)]
+pub enum Carried<'a> {
+    Udp(Datagram<'a>),
+    /// A part of a packet.
+    Fragment,
+    /// Something else.
+    Other,
+    /// Its headers were not captured whole.
+    Cut,
+}
+
+/// The number of UDP among the protocols of IP.
+const UDP: u8 = 17;
+
+/// The bytes of a header of IPv6.
+const IPV6_LENGTH: usize = 40;
+
+/// The bytes of a header of UDP.
+const UDP_LENGTH: usize = 8;
+
+/// What a packet of IPv4 or IPv6 carries, by its version. It is none where the headers are not
+/// whole, here and below.
+pub fn internet(bytes: &[u8]) -> Option<Carried<'_>> {
+    match *bytes.first()? >> 4 {
+        4 => ipv4(bytes),
+        6 => ipv6(bytes),
+        _ => Some(Carried::Other),
+    }
+}
+
+/// What a packet of IPv4 carries (RFC 791, section 3.1).
+pub fn ipv4(bytes: &[u8]) -> Option<Carried<'_>> {
+    let first = *bytes.first()?;
+    let header = usize::from(first & 15) * 4;
+    if first >> 4 != 4 || header < 20 {
+        return Some(Carried::Other);
+    }
+    let [
+        _,
+        _,
+        high,
+        low,
+        _,
+        _,
+        flags,
+        offset,
+        _,
+        protocol,
+        _,
+        _,
+        a,
+        b,
+        c,
+        d,
+        e,
+        f,
+        g,
+        h,
+        ..
+    ] = bytes
+    else {
+        return None;
+    };
+    if *protocol != UDP {
+        return Some(Carried::Other);
+    }
+    if flags & 0x3F != 0 || *offset != 0 {
+        return Some(Carried::Fragment);
+    }
+    let total = usize::from(u16::from_be_bytes([*high, *low]));
+    let from = IpAddr::V4(Ipv4Addr::new(*a, *b, *c, *d));
+    let to = IpAddr::V4(Ipv4Addr::new(*e, *f, *g, *h));
+    udp(from, to, up_to(bytes, total).get(header..)?)
+}
+
+/// The bytes up to this length; all of them where it is 0, as where the network card cuts what is
+/// sent, or more than there are.
+fn up_to(bytes: &[u8], length: usize) -> &[u8] {
+    if length == 0 {
+        return bytes;
+    }
+    bytes.get(..length).unwrap_or(bytes)
+}
+
+/// What a packet of IPv6 carries (RFC 8200, section 3).
+pub fn ipv6(bytes: &[u8]) -> Option<Carried<'_>> {
+    let first = *bytes.first()?;
+    if first >> 4 != 6 {
+        return Some(Carried::Other);
+    }
+    let length = usize::from(number_16(Order::Big, bytes, 4)?);
+    let next = *bytes.get(6)?;
+    let from = address_at(bytes, 8)?;
+    let to = address_at(bytes, 24)?;
+    let rest = up_to(bytes.get(IPV6_LENGTH..)?, length);
+    behind_extensions(from, to, next, rest)
+}
+
+/// The address of IPv6 at a place.
+fn address_at(bytes: &[u8], place: usize) -> Option<IpAddr> {
+    let octets = bytes.get(place..)?.get(..16)?;
+    let mut ipv6 = [0; 16];
+    if octets.len() != 16 {
+        return None;
+    }
+    ipv6.copy_from_slice(octets);
+    Some(IpAddr::V6(Ipv6Addr::from_octets(ipv6)))
+}
+
+/// What follows the extension headers (RFC 8200, section 4), the first of which is of this kind.
+fn behind_extensions<'a>(
+    from: IpAddr,
+    to: IpAddr,
+    next: u8,
+    bytes: &'a [u8],
+) -> Option<Carried<'a>> {
+    let mut kind = next;
+    let mut rest = bytes;
+    for _header in 0..bytes.len().saturating_add(1) {
+        let length = match kind {
+            UDP => return udp(from, to, rest),
+            // Options from hop to hop, routing, options of the destination, mobility, HIP, Shim6.
+            0 | 43 | 60 | 135 | 139 | 140 => (usize::from(*rest.get(1)?) + 1) * 8,
+            // Authentication (RFC 4302, section 2.2).
+            51 => (usize::from(*rest.get(1)?) + 2) * 4,
+            44 if is_whole(rest)? => 8,
+            44 => return Some(Carried::Fragment),
+            _ => return Some(Carried::Other),
+        };
+        kind = *rest.first()?;
+        rest = rest.get(length..)?;
+    }
+    None
+}
+
+/// Whether a header of a fragment is of one that has the whole packet (RFC 6946).
+fn is_whole(bytes: &[u8]) -> Option<bool> {
+    Some(number_16(Order::Big, bytes, 2)? & 0xFFF9 == 0)
+}
+
+/// The datagram of UDP that these bytes are (RFC 768). A length of 0 is taken for all of them, and
+/// one that is shorter than the header is none of a datagram.
+fn udp(from: IpAddr, to: IpAddr, bytes: &[u8]) -> Option<Carried<'_>> {
+    let from = SocketAddr::new(from, number_16(Order::Big, bytes, 0)?);
+    let to = SocketAddr::new(to, number_16(Order::Big, bytes, 2)?);
+    let length = usize::from(number_16(Order::Big, bytes, 4)?);
+    if length > 0 && length < UDP_LENGTH {
+        return Some(Carried::Other);
+    }
+    let payload = up_to(bytes, length).get(UDP_LENGTH..)?;
+    Some(Carried::Udp(Datagram {
+        from,
+        to,
+        payload,
+        is_cut: length > bytes.len(),
+    }))
+}

@@ -1,0 +1,48 @@
+//! Numbers in the order of bytes that a capture has.
+ghost use Rattle.std.specs.Prelude.{◌≡◌, ◌≤◌, ◌+◌, ◌<◌, IfSome, IfNone, drop, length, take};
+ghost use Rattle.captures.specs.Numbers.{number_in};
+
+use byteorder::{BigEndian, ByteOrder, LittleEndian};
+
+/// The order of the bytes of a number.
+#[derive(Clone, Copy)]
+pub enum Order {
+    Big,
+    Little,
+}
+
+/// The number of 16 bits at a place, where it is whole.
+pub fn number_16(order: Order, bytes: &[u8], place: usize) -> Option<u16>
+    ensures some { IfSome result (λ number. number ≡ number_in order 2 (drop place bytes.now)) }
+{
+    let bytes = bytes.get(place..)?;
+    if bytes.len() < 2 {
+        return None;
+    }
+    Some(match order {
+        Order::Big => BigEndian::read_u16(bytes),
+        Order::Little => LittleEndian::read_u16(bytes),
+    })
+}
+
+/// The number of 32 bits at a place, where it is whole.
+pub fn number_32(order: Order, bytes: &[u8], place: usize) -> Option<u32>
+    ensures some { IfSome result (λ number. number ≡ number_in order 4 (drop place bytes.now)) }
+{
+    let bytes = bytes.get(place..)?;
+    if bytes.len() < 4 {
+        return None;
+    }
+    Some(match order {
+        Order::Big => BigEndian::read_u32(bytes),
+        Order::Little => LittleEndian::read_u32(bytes),
+    })
+}
+
+/// A number of 32 bits as a count of bytes.
+pub fn count_32(order: Order, bytes: &[u8], place: usize) -> Option<usize>
+    ensures some { IfSome result (λ number. number ≡ number_in order 4 (drop place bytes.now)) }
+{
+    let number = number_32(order, bytes, place)?;
+    Some(number as usize)
+}

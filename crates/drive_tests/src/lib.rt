@@ -1,5 +1,0 @@
-//! Tests of driven agents.
-#![tactic(auto)]
-
-#[cfg(test)]
-mod drive;

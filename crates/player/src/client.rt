@@ -1,0 +1,234 @@
+//! The calls of a client with long-term credentials: `client NAME WORDS`. Each adds what is
+//! answered to a text.
+
+use crate::kept::message;
+use crate::names::{OUT_OF_MEMORY, algorithm_name, feature_name, write_error_name};
+use crate::signing::{Signed, in_slice, on_heap, push_bytes, push_length, push_signed};
+use crate::stage::Stage;
+use crate::trouble::Trouble;
+use crate::words::{algorithm, feature, text};
+use stun_auth::auth::{
+    LongTermClientAuth, LongTermClientAuthErrorReason, LongTermClientValidation,
+};
+use stun_types::message::{IntegrityAlgorithm, LongTermCredentials, Message, MessageHeader};
+use stun_types::prelude::*;
+
+/// What has words, or may have some.
+pub fn call(
+    stage: &mut Stage<'_>,
+    name: &str,
+    words: &[&str],
+    answer: &mut String,
+) -> Result<(), Trouble> {
+    match name {
+        "user" => user(stage, words, answer),
+        "support" => add_algorithm(stage, words),
+        "support-only" => set_algorithm(stage, words),
+        "hashes" => hashes(stage, words, answer),
+        "hears" => hear(stage, words, answer),
+        "signs" => sign(stage, words, answer),
+        "signs-length" => sign_length(stage, words, answer),
+        "signs-in" => sign_in_slice(stage, words, answer),
+        name => tell(stage, name, words, answer),
+    }
+}
+
+/// What has no words.
+fn tell(
+    stage: &mut Stage<'_>,
+    name: &str,
+    words: &[&str],
+    answer: &mut String,
+) -> Result<(), Trouble> {
+    if !words.is_empty() {
+        return Err(Trouble::Words);
+    }
+    match name {
+        "new" => begin(stage),
+        "supported" => supported(stage, answer)?,
+        "size" => size(stage, answer)?,
+        "algorithm" => signing_algorithm(stage, answer)?,
+        _ => return Err(Trouble::Words),
+    }
+    Ok(())
+}
+
+/// `client new`: a new client, in the place of the one before.
+fn begin(stage: &mut Stage<'_>) {
+    stage.begin();
+    stage.client = LongTermClientAuth::new(stage.heap);
+}
+
+/// `client user NAME PASSWORD`, or `client user` alone, which tells both, or `none`.
+fn user(stage: &mut Stage<'_>, words: &[&str], answer: &mut String) -> Result<(), Trouble> {
+    match words {
+        [] => tell_user(stage, answer),
+        [name, password] => set_user(stage, name, password),
+        _ => Err(Trouble::Words),
+    }
+}
+
+fn set_user(stage: &mut Stage<'_>, name: &str, password: &str) -> Result<(), Trouble> {
+    let name = text(stage.source.alloc, name)?;
+    let name = String::from_str(stage.heap, name.as_str())?;
+    let password = text(stage.source.alloc, password)?;
+    let password = String::from_str(stage.heap, password.as_str())?;
+    stage.begin();
+    stage
+        .client
+        .set_credentials(LongTermCredentials::new(name, password));
+    Ok(())
+}
+
+fn tell_user(stage: &Stage<'_>, answer: &mut String) -> Result<(), Trouble> {
+    match stage.client.credentials() {
+        Some(user) => {
+            answer.push_str(user.username())?;
+            answer.push(' ')?;
+            Ok(answer.push_str(user.password())?)
+        }
+        None => Ok(answer.push_str("none")?),
+    }
+}
+
+/// `client hashes auto | required | disabled`, or `client hashes` alone, which tells it.
+fn hashes(stage: &mut Stage<'_>, words: &[&str], answer: &mut String) -> Result<(), Trouble> {
+    match words {
+        [] => answer.push_str(feature_name(stage.client.anonymous_username()))?,
+        [word] => {
+            let feature = feature(word)?;
+            stage.begin();
+            stage.client.set_anonymous_username(feature);
+        }
+        _ => return Err(Trouble::Words),
+    }
+    Ok(())
+}
+
+/// `client support ALGORITHM`: this one too.
+fn add_algorithm(stage: &mut Stage<'_>, words: &[&str]) -> Result<(), Trouble> {
+    let [word] = words else {
+        return Err(Trouble::Words);
+    };
+    let algorithm = algorithm(word)?;
+    stage.begin();
+    stage.client.add_supported_integrity(algorithm);
+    Ok(())
+}
+
+/// `client support-only ALGORITHM`
+fn set_algorithm(stage: &mut Stage<'_>, words: &[&str]) -> Result<(), Trouble> {
+    let [word] = words else {
+        return Err(Trouble::Words);
+    };
+    let algorithm = algorithm(word)?;
+    stage.begin();
+    stage.client.set_supported_integrity(algorithm);
+    Ok(())
+}
+
+/// `client supported`: the algorithms, in the order of their adding.
+fn supported(stage: &Stage<'_>, answer: &mut String) -> Result<(), Trouble> {
+    for algorithm in stage.client.supported_integrity() {
+        if !answer.as_str().is_empty() {
+            answer.push(' ')?;
+        }
+        answer.push_str(algorithm_name(*algorithm))?;
+    }
+    Ok(())
+}
+
+/// `client size`: how many bytes signing adds to a request.
+fn size(stage: &Stage<'_>, answer: &mut String) -> Result<(), Trouble> {
+    let size = stage.client.message_signature_bytes();
+    Ok(write!(answer, "{size}")?)
+}
+
+/// `client algorithm`: the one that a signing would use, or `none`.
+fn signing_algorithm(stage: &Stage<'_>, answer: &mut String) -> Result<(), Trouble> {
+    match stage.client.signing_algorithm() {
+        Some(algorithm) => Ok(answer.push_str(algorithm_name(algorithm))?),
+        None => Ok(answer.push_str("none")?),
+    }
+}
+
+fn reason_name(reason: LongTermClientAuthErrorReason) -> &'static str {
+    match reason {
+        LongTermClientAuthErrorReason::Unauthorized => "Unauthorized",
+        LongTermClientAuthErrorReason::IntegrityFailed => "IntegrityFailed",
+        LongTermClientAuthErrorReason::UnsupportedFeature => "UnsupportedFeature",
+        LongTermClientAuthErrorReason::OutOfMemory => OUT_OF_MEMORY,
+    }
+}
+
+fn resend_name(digest: Option<IntegrityAlgorithm>) -> &'static str {
+    match digest {
+        None => "resend",
+        Some(IntegrityAlgorithm::Sha1) => "resend Sha1",
+        Some(IntegrityAlgorithm::Sha256) => "resend Sha256",
+    }
+}
+
+/// `client hears MESSAGE`: what the client answers to it.
+fn hear(stage: &mut Stage<'_>, words: &[&str], answer: &mut String) -> Result<(), Trouble> {
+    let bytes = message(stage, words)?;
+    let Ok(message) = Message::from_bytes(bytes.as_slice()) else {
+        return Err(Trouble::Words);
+    };
+    let name = answer_name(stage, &message);
+    Ok(answer.push_str(name)?)
+}
+
+fn answer_name(stage: &mut Stage<'_>, message: &Message<'_>) -> &'static str {
+    stage.begin();
+    match stage.client.validate_incoming_message(message) {
+        Ok(LongTermClientValidation::ResendRequest(digest)) => resend_name(digest),
+        Ok(LongTermClientValidation::Validated(algorithm)) => algorithm_name(algorithm),
+        Err(error) => reason_name(error.reason()),
+    }
+}
+
+/// A message to the server on the heap, signed.
+fn signed<'a>(stage: &mut Stage<'a>, words: &[&str]) -> Result<Signed<'a>, Trouble> {
+    let bytes = message(stage, words)?;
+    let writer = on_heap(stage.heap, bytes.as_slice())?;
+    if MessageHeader::from_bytes(writer.data()).is_err() {
+        return Err(Trouble::Words);
+    }
+    stage.begin();
+    let signed = stage.client.sign_outgoing_message(writer);
+    Ok(signed.map(|writer| writer.finish()))
+}
+
+/// `client signs MESSAGE`: the bytes of a message to the server, once it is signed.
+fn sign(stage: &mut Stage<'_>, words: &[&str], answer: &mut String) -> Result<(), Trouble> {
+    let signed = signed(stage, words)?;
+    push_signed(stage.source.alloc, signed, answer)
+}
+
+/// `client signs-length MESSAGE`: how many bytes it has then.
+fn sign_length(stage: &mut Stage<'_>, words: &[&str], answer: &mut String) -> Result<(), Trouble> {
+    push_length(signed(stage, words)?, answer)
+}
+
+/// `client signs-in ROOM MESSAGE`: the same as `signs`, in a slice of so many bytes, up to 256.
+fn sign_in_slice(
+    stage: &mut Stage<'_>,
+    words: &[&str],
+    answer: &mut String,
+) -> Result<(), Trouble> {
+    let [length, words @ ..] = words else {
+        return Err(Trouble::Words);
+    };
+    let bytes = message(stage, words)?;
+    let mut room = [0xff; 256];
+    let writer = in_slice(&mut room, length, bytes.as_slice())?;
+    if MessageHeader::from_bytes(writer.data()).is_err() {
+        return Err(Trouble::Words);
+    }
+    stage.begin();
+    match stage.client.sign_outgoing_message(writer) {
+        Ok(signed) => push_bytes(stage.source.alloc, signed.data(), answer),
+        Err(error) => Ok(answer.push_str(write_error_name(error))?),
+    }
+}

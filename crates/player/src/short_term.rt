@@ -1,0 +1,163 @@
+//! The calls of short-term credentials (RFC 8489, section 9.1): `short-term NAME WORDS`. Each adds
+//! what is answered to a text.
+
+use crate::kept::message;
+use crate::names::{OUT_OF_MEMORY, algorithm_name, write_error_name};
+use crate::phrases::{phrase, push_refusal};
+use crate::signing::{in_slice, on_heap, push_bytes, push_signed};
+use crate::stage::Stage;
+use crate::trouble::Trouble;
+use crate::words::algorithm;
+use stun_auth::auth::ShortTermAuth;
+use stun_types::message::{IntegrityAlgorithm, Message, ShortTermCredentials, ValidateError};
+use stun_types::prelude::*;
+
+/// `short-term NAME WORDS`
+pub fn call(
+    stage: &mut Stage<'_>,
+    name: &str,
+    words: &[&str],
+    answer: &mut String,
+) -> Result<(), Trouble> {
+    match name {
+        "password" => set_password(stage, words, answer),
+        "hears" => hear(stage, words, answer),
+        "signs" => sign(stage, words, answer),
+        "signs-in" => sign_in_slice(stage, words, answer),
+        name => tell(stage, name, words, answer),
+    }
+}
+
+/// What has no words.
+fn tell(
+    stage: &mut Stage<'_>,
+    name: &str,
+    words: &[&str],
+    answer: &mut String,
+) -> Result<(), Trouble> {
+    if !words.is_empty() {
+        return Err(Trouble::Words);
+    }
+    match name {
+        "new" => {
+            begin(stage);
+            Ok(())
+        }
+        "credentials" => credentials(stage, answer),
+        "key" => key(stage, answer),
+        "size" => size(stage, answer),
+        _ => Err(Trouble::Words),
+    }
+}
+
+/// `short-term new`: without credentials, in the place of the one before.
+fn begin(stage: &mut Stage<'_>) {
+    stage.begin();
+    stage.short_term = ShortTermAuth::new(stage.heap);
+}
+
+/// `short-term password ALGORITHM PASSWORD`: sets the password, and the algorithm to sign with.
+fn set_password(stage: &mut Stage<'_>, words: &[&str], answer: &mut String) -> Result<(), Trouble> {
+    let [word, words @ ..] = words else {
+        return Err(Trouble::Words);
+    };
+    let algorithm = algorithm(word)?;
+    let password = phrase(stage.source.alloc, words)?;
+    let password = String::from_str(stage.heap, password.as_str())?;
+    stage.begin();
+    if stage
+        .short_term
+        .set_credentials(ShortTermCredentials::new(password), algorithm)
+        .is_err()
+    {
+        answer.push_str(OUT_OF_MEMORY)?;
+    }
+    Ok(())
+}
+
+/// `short-term credentials`: the algorithm and the password, or `none`.
+fn credentials(stage: &Stage<'_>, answer: &mut String) -> Result<(), Trouble> {
+    match stage.short_term.credentials() {
+        Some((credentials, algorithm)) => {
+            answer.push_str(algorithm_name(algorithm))?;
+            answer.push(' ')?;
+            Ok(answer.push_str(credentials.password())?)
+        }
+        None => Ok(answer.push_str("none")?),
+    }
+}
+
+/// `short-term key`: the bytes of the key, or `none`.
+fn key(stage: &Stage<'_>, answer: &mut String) -> Result<(), Trouble> {
+    match stage.short_term.integrity_key() {
+        Some(key) => push_bytes(stage.source.alloc, key.as_bytes(), answer),
+        None => Ok(answer.push_str("none")?),
+    }
+}
+
+/// `short-term size`: how many bytes signing adds.
+fn size(stage: &Stage<'_>, answer: &mut String) -> Result<(), Trouble> {
+    let size = stage.short_term.message_signature_bytes();
+    Ok(write!(answer, "{size}")?)
+}
+
+/// `short-term hears MESSAGE`: the algorithm of its digest, `none` without credentials, or why it
+/// is refused.
+fn hear(stage: &mut Stage<'_>, words: &[&str], answer: &mut String) -> Result<(), Trouble> {
+    let bytes = message(stage, words)?;
+    let Ok(message) = Message::from_bytes(bytes.as_slice()) else {
+        return Err(Trouble::Words);
+    };
+    let verdict = verdict(stage, &message);
+    match verdict {
+        Ok(None) => Ok(answer.push_str("none")?),
+        Ok(Some(algorithm)) => Ok(answer.push_str(algorithm_name(algorithm))?),
+        Err(error) => push_refusal(stage.source.alloc, error, answer),
+    }
+}
+
+fn verdict(
+    stage: &mut Stage<'_>,
+    message: &Message<'_>,
+) -> Result<Option<IntegrityAlgorithm>, ValidateError> {
+    stage.begin();
+    stage.short_term.validate_incoming_message(message)
+}
+
+/// `short-term signs MESSAGE`: its bytes, once it is signed.
+fn sign(stage: &mut Stage<'_>, words: &[&str], answer: &mut String) -> Result<(), Trouble> {
+    let bytes = message(stage, words)?;
+    let writer = on_heap(stage.heap, bytes.as_slice())?;
+    if writer.data().len() < 20 {
+        return Err(Trouble::Words);
+    }
+    stage.begin();
+    let signed = stage.short_term.sign_outgoing_message(writer);
+    push_signed(
+        stage.source.alloc,
+        signed.map(|writer| writer.finish()),
+        answer,
+    )
+}
+
+/// `short-term signs-in ROOM MESSAGE`: the same in a slice of so many bytes, up to 256.
+fn sign_in_slice(
+    stage: &mut Stage<'_>,
+    words: &[&str],
+    answer: &mut String,
+) -> Result<(), Trouble> {
+    let [length, words @ ..] = words else {
+        return Err(Trouble::Words);
+    };
+    let bytes = message(stage, words)?;
+    let mut room = [0xff; 256];
+    let writer = in_slice(&mut room, length, bytes.as_slice())?;
+    if writer.data().len() < 20 {
+        return Err(Trouble::Words);
+    }
+    stage.begin();
+    match stage.short_term.sign_outgoing_message(writer) {
+        Ok(signed) => push_bytes(stage.source.alloc, signed.data(), answer),
+        Err(error) => Ok(answer.push_str(write_error_name(error))?),
+    }
+}

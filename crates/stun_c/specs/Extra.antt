@@ -1,0 +1,126 @@
+-- What the calls over `stun_extra` answer: FINGERPRINT, types that are not known, and streams.
+use Rattle.std.specs.Prelude.{ℕ, ℤ, pos, ◌+◌, ◌-◌, List, [], ◌++◌, length, map, take, drop, codes, nat_lt, ◌==◌, if◌then◌else◌, Option, Some, None, Result, Ok, Err}
+use Rattle.std.specs.Option.{option_or, option_map}
+use Rattle.stun_base.specs.Attributes.{ERROR_CODE, FINGERPRINT}
+use Rattle.stun_base.specs.MessageType.{class_in, class_number}
+use Rattle.stun_base.specs.declared.attribute_type.AttributeType.{AttributeType}
+use Rattle.stun_base.specs.declared.error.StunWriteError.{StunWriteError}
+use Rattle.stun_base.specs.declared.error.StunWriteError.TheVariants.{NotAllowed as WriteNotAllowed, MessageIntegrityExists, AttributeExists as WriteAttributeExists, IntegrityFailed as WriteIntegrityFailed, OutOfMemory, TooLarge as WriteTooLarge, TooSmall}
+use Rattle.stun_base.specs.declared.message_type.MessageClass.TheVariants.{Error}
+use Rattle.stun_types.specs.Attribute.{TypedValue}
+use Rattle.stun_types.specs.ErrorCode.{error_value}
+use Rattle.stun_types.specs.Message.{refusal}
+use Rattle.stun_types.specs.Writing.{begun_answer, with_attribute}
+use Rattle.stun_extra.specs.Fingerprint.{fingerprint_in, with_fingerprint}
+use Rattle.stun_extra.specs.Unknown.{UNKNOWN_ATTRIBUTES, spelled_types, types_of, unknown_types}
+use Rattle.stun_extra.specs.declared.fingerprint.Fingerprint.{Fingerprint}
+use Rattle.stun_extra.specs.declared.fingerprint.Fingerprint.TheVariants.{Right, Wrong, Misplaced, Absent}
+use Rattle.stun_extra.specs.declared.framing.Frame.{Frame}
+use Rattle.stun_extra.specs.declared.framing.Frame.TheVariants.{Need, Message as Whole, NotStun as NoFrame}
+use Rattle.stun_c.specs.declared.codes.Refusal.{Refusal}
+use Rattle.stun_c.specs.declared.codes.Refusal.TheVariants.{NotStun, IntegrityFailed, BadArgument, BufferTooSmall, NotAllowed, Closed, AttributeExists, MessageTooLong}
+use Rattle.stun_c.specs.Answers.{unless_no_message}
+use Rattle.stun_c.specs.Codes.{code_of, refusal_of_parse}
+use Rattle.stun_c.specs.Requests.{unless_refused}
+use Rattle.stun_c.specs.Writing.{fit_refusal, shows_kind, unless}
+
+-- ---- FINGERPRINT (RFC 8489, section 14.7)
+
+-- the number of what a FINGERPRINT is
+abbrev pub fingerprint_number : Fingerprint → ℕ
+fingerprint_number Absent = 0
+fingerprint_number Right = 1
+fingerprint_number Wrong = 2
+fingerprint_number Misplaced = 3
+
+-- what `stun_check_fingerprint` answers
+abbrev pub fingerprint_answer : List ℕ → ℤ
+fingerprint_answer bytes = unless_no_message (refusal bytes) (pos (fingerprint_number (fingerprint_in bytes)))
+
+-- the refusal that tells an error of writing
+abbrev pub refusal_of_write : StunWriteError → Refusal
+refusal_of_write WriteNotAllowed = NotAllowed
+refusal_of_write MessageIntegrityExists = Closed
+refusal_of_write (WriteAttributeExists _) = AttributeExists
+refusal_of_write WriteTooLarge = MessageTooLong
+refusal_of_write TooSmall = BufferTooSmall
+refusal_of_write WriteIntegrityFailed = IntegrityFailed
+refusal_of_write OutOfMemory = BufferTooSmall
+
+-- why FINGERPRINT does not end the first `count` bytes of a buffer, if it does not: they are not there, they are no message, and
+-- then what the library's call refuses (law `fingerprint_is_refused`)
+abbrev pub ending_refusal : List ℕ → ℕ → Option Refusal
+ending_refusal buffer count =
+    if nat_lt (length buffer) count then Some BadArgument
+    else option_or (option_map refusal_of_parse (refusal (take count buffer)))
+    (if shows_kind FINGERPRINT (take count buffer) then Some AttributeExists
+    else fit_refusal (take count buffer) (length buffer - count) 4)
+
+-- what `stun_add_fingerprint` makes
+abbrev pub fingerprinted : List ℕ → ℕ → Result (List ℕ) Refusal
+fingerprinted buffer count = unless_refused (ending_refusal buffer count) (with_fingerprint (take count buffer))
+
+-- ---- types that are not known (sections 6.3.1 and 14.13)
+
+-- as many types a caller may say to know
+abbrev pub ALL_KNOWN : ℕ
+ALL_KNOWN = 256
+
+-- why no types are told, if none are: too many are known, and then the message
+abbrev pub known_refusal : List ℕ → List ℕ → Option Refusal
+known_refusal bytes known =
+    if nat_lt ALL_KNOWN (length known) then Some BadArgument else option_map refusal_of_parse (refusal bytes)
+
+-- a message's types that must be understood and are not known, in their order, each once
+abbrev pub unknown_of : List ℕ → List ℕ → List AttributeType
+unknown_of bytes known = unknown_types (types_of known) bytes
+
+-- their number, or why they are not told
+abbrev pub told_number : Option Refusal → List AttributeType → ℤ
+told_number None types = pos (length types)
+told_number (Some refusal) types = code_of refusal
+
+-- the caller's numbers where types are written to their front, as many as have room
+abbrev pub numbers_after : List AttributeType → List ℕ → List ℕ
+numbers_after types numbers = take (length numbers) (map (λ kind. kind.0) types) ++ drop (length types) numbers
+
+-- the same, where nothing is refused
+abbrev pub types_after : Option Refusal → List AttributeType → List ℕ → List ℕ
+types_after None types numbers = numbers_after types numbers
+types_after (Some refusal) types numbers = numbers
+
+-- the error of such an answer (section 14.8)
+abbrev pub error_420 : TypedValue
+error_420 = record { kind = ERROR_CODE; value = error_value (record { code = 420; reason = codes "Unknown Attribute" }) }
+
+-- the front of the answer to a request: an error response with its method and its id, and the error
+unfoldable pub refused_front : List ℕ → List ℕ
+refused_front request = with_attribute (begun_answer Error request) error_420
+
+-- UNKNOWN-ATTRIBUTES of types (section 14.13)
+abbrev pub types_attribute : List AttributeType → TypedValue
+types_attribute types = record { kind = UNKNOWN_ATTRIBUTES; value = spelled_types types }
+
+-- the answer to a request with types that are not known
+unfoldable pub unknown_answer : List ℕ → List AttributeType → List ℕ
+unknown_answer request types = with_attribute (refused_front request) (types_attribute types)
+
+-- what is made of a message with such types, which must be a request: nothing where there are none
+abbrev pub answer_made : List ℕ → List AttributeType → Result (List ℕ) Refusal
+answer_made message types =
+    if class_number (class_in message) == 0
+    then if length types == 0 then Ok [] else Ok (unknown_answer message types)
+    else Err BadArgument
+
+-- what `stun_refuse_unknown` makes
+abbrev pub unknown_made : List ℕ → List ℕ → Result (List ℕ) Refusal
+unknown_made request known = unless (known_refusal request known) (answer_made request (unknown_of request known))
+
+-- ---- streams (section 6.2.2)
+
+-- how many bytes what a stream begins with has, or how many of it must be there to tell: those that are there and those that it
+-- needs
+abbrev pub wanted_number : ℕ → Frame → ℤ
+wanted_number there (Need more) = pos (there + more)
+wanted_number there (Whole n) = pos n
+wanted_number there NoFrame = code_of NotStun

@@ -1,0 +1,99 @@
+//! FINGERPRINT, checked and added (RFC 8489, section 14.7).
+
+ghost use Rattle.std.specs.Prelude.{◌≡◌, ◌≤◌, ◌+◌, ◌++◌, length, pos, take, drop, IfErr, OnOk, Some, None};
+ghost use Rattle.stun_c.specs.Answers.{written_number, buffer_after};
+ghost use Rattle.stun_c.specs.code.Ended.{ended, fingerprint_after, fingerprint_value};
+ghost use Rattle.stun_c.specs.code.Room.{HasRoom};
+ghost use Rattle.stun_c.specs.Extra.{ending_refusal, fingerprint_answer, fingerprint_number, fingerprinted};
+
+use crate::codes::Refusal;
+use crate::writing::{fits, set_length, shows_kind, spell};
+use stun_base::attribute_type::AttributeType;
+use stun_base::header::HEADER_LENGTH;
+use stun_extra::crc32::crc32;
+use stun_extra::fingerprint::{FINGERPRINT_LENGTH, Fingerprint, check_fingerprint};
+use stun_types::message::Message;
+
+/// What the CRC-32 of a message is XORed with.
+const FINGERPRINT_XOR: u32 = 0x5354_554E;
+
+/// The number of what a FINGERPRINT is.
+fn fingerprint_number(fingerprint: Fingerprint) -> i64
+    ensures { result ≡ pos (fingerprint_number fingerprint) }
+{
+    match fingerprint {
+        Fingerprint::Absent => 0,
+        Fingerprint::Right => 1,
+        Fingerprint::Wrong => 2,
+        Fingerprint::Misplaced => 3,
+    }
+}
+
+/// The number of what the FINGERPRINT of a message is, or that of the refusal.
+pub fn check(message: &[u8]) -> i64
+    ensures { result ≡ fingerprint_answer message.now }
+{
+    match Message::from_bytes(message) {
+        Ok(message) => fingerprint_number(check_fingerprint(&message)),
+        Err(error) => Refusal::from(error).code(),
+    }
+}
+
+/// Whether FINGERPRINT can be added to the message at the front of the buffer, or the first reason against it.
+fn endable(buffer: &[u8], count: usize) -> Result<(), Refusal>
+    ensures ok { OnOk result (ending_refusal buffer.now count ≡ None) }
+    ensures room { OnOk result (HasRoom count 4 (length buffer.now)) }
+    ensures err { IfErr result (λ refusal. ending_refusal buffer.now count ≡ Some refusal) }
+{
+    let Some(bytes) = buffer.get(..count) else {
+        return Err(Refusal::BadArgument);
+    };
+    let message = Message::from_bytes(bytes)?;
+    if shows_kind(&message, AttributeType::FINGERPRINT) {
+        return Err(Refusal::AttributeExists);
+    }
+    fits(&message, buffer.len() - count, 4)
+}
+
+/// The four bytes of the FINGERPRINT after these bytes of a message.
+#[tactic(auto, unfolding(crate::specs::code::Ended::fingerprint_value))]
+fn value_after(bytes: &[u8]) -> [u8; 4]
+    ensures { result ≡ fingerprint_value bytes.now }
+{
+    (crc32(bytes) ^ FINGERPRINT_XOR).to_be_bytes()
+}
+
+/// Writes the FINGERPRINT after these bytes of a message to the front of a buffer that has room for it.
+fn spell_after(bytes: &[u8], buffer: &mut [u8])
+    requires { 8 ≤ length buffer.old }
+    ensures { buffer.new ≡ fingerprint_after bytes.now ++ drop 8 buffer.old }
+{
+    let value = value_after(bytes);
+    spell(buffer, AttributeType::FINGERPRINT, &value);
+}
+
+/// Raises the length field of the message at the front of the buffer and writes its FINGERPRINT after it. The answer is where
+/// that ends.
+fn append(buffer: &mut [u8], count: usize) -> i64
+    requires { HasRoom count 4 (length buffer.old) }
+    ensures answer { result ≡ pos (count + 8) }
+    ensures written { buffer.new ≡ ended (take count buffer.old) ++ drop (count + 8) buffer.old }
+{
+    let end = count + FINGERPRINT_LENGTH;
+    let (message, rest) = buffer.split_at_mut(count);
+    set_length(message, (end - HEADER_LENGTH) as u16);
+    spell_after(message, rest);
+    end as i64
+}
+
+/// Adds FINGERPRINT to the message in the first `count` bytes of the buffer, and answers the new length or the number of the
+/// refusal.
+pub fn add(buffer: &mut [u8], count: usize) -> i64
+    ensures answer { result ≡ written_number (fingerprinted buffer.old count) }
+    ensures written { buffer.new ≡ buffer_after (fingerprinted buffer.old count) buffer.old }
+{
+    match endable(buffer, count) {
+        Ok(()) => append(buffer, count),
+        Err(refusal) => refusal.code(),
+    }
+}

@@ -1,0 +1,55 @@
+//! The header of a message in one struct.
+
+ghost use Rattle.std.specs.Prelude.{◌≡◌, IfOk, IfErr, Some, None, OnOk};
+ghost use Rattle.stun_base.specs.Header.{header_refusal};
+ghost use Rattle.stun_c.specs.Reading.{header_answer, header_after, header_in};
+
+use crate::codes::{Refusal, class_number};
+use stun_base::error::StunParseError;
+use stun_base::header::{HEADER_LENGTH, MessageHeader};
+
+/// What a header says.
+#[repr(C)]
+#[derive(Debug, Clone, Copy, PartialEq, Eq)]
+pub struct Header {
+    /// The class, from 0 to 3.
+    pub message_class: u32,
+    /// The method, below 4096.
+    pub method: u32,
+    /// The number of bytes of the message, those of the header included.
+    pub length: usize,
+    /// The transaction id.
+    pub id: [u8; 12],
+}
+
+/// The header that these bytes begin with.
+fn fields_of(bytes: &[u8]) -> Result<Header, StunParseError>
+    ensures ok { IfOk result (λ header. header ≡ header_in bytes.now) }
+    ensures accepted { OnOk result (header_refusal bytes.now ≡ None) }
+    ensures err { IfErr result (λ error. header_refusal bytes.now ≡ Some error) }
+{
+    let header = MessageHeader::from_bytes(bytes)?;
+    let message_type = header.get_type();
+    let mut id = [0; 12];
+    id.copy_from_slice(&bytes[8..20]);
+    Ok(Header {
+        message_class: class_number(message_type.class()),
+        method: u32::from(message_type.method().value()),
+        length: HEADER_LENGTH + usize::from(header.data_length()),
+        id,
+    })
+}
+
+/// Writes the header that the bytes begin with, and answers 0 or the number of the refusal.
+pub fn read_header(bytes: &[u8], out: &mut Header) -> i64
+    ensures answer { result ≡ header_answer bytes.now }
+    ensures written { out.new ≡ header_after (header_refusal bytes.now) bytes.now out.old }
+{
+    match fields_of(bytes) {
+        Ok(header) => {
+            *out = header;
+            0
+        }
+        Err(error) => Refusal::from(error).code(),
+    }
+}

@@ -1,0 +1,112 @@
+//! Attributes whose value is a number in network order.
+
+ghost use Rattle.std.specs.Prelude.{◌≡◌, ◌<◌, length, true, IfOk, IfErr, Ok, Err};
+ghost use Rattle.byteorder.specs.Endian.{big_bytes, big_number};
+ghost use Rattle.stun_c.specs.Answers.{written_number, buffer_after};
+ghost use Rattle.stun_c.specs.Reading.{sized_at, sized_after};
+ghost use Rattle.stun_c.specs.Writing.{added_sized, has_size, is_size};
+
+use crate::codes::Refusal;
+use crate::walk::attribute_at;
+use crate::writing::add_numbered;
+use byteorder::{BigEndian, ByteOrder};
+use stun_base::header::HEADER_LENGTH;
+
+/// Whether numbers are written in so many bytes.
+fn is_size(size: usize) -> bool
+    ensures { result ≡ is_size size }
+{
+    match size {
+        1 => true,
+        2 => true,
+        4 => true,
+        8 => true,
+        _ => false,
+    }
+}
+
+/// Whether this number is.
+fn has_size(size: usize, number: u64) -> bool
+    ensures { result ≡ has_size size number }
+{
+    match size {
+        1 => number < 0x100,
+        2 => number < 0x10000,
+        4 => number < 0x1_0000_0000,
+        8 => true,
+        _ => false,
+    }
+}
+
+/// A number in one byte.
+fn one_byte(number: u64) -> [u8; 1]
+    requires { number < 256 }
+    ensures { result ≡ big_bytes 1 number }
+{
+    [number as u8]
+}
+
+/// Adds an attribute of a type with a number in so many bytes to the message in the first `count`
+/// bytes of the buffer, and answers the new length or the number of the refusal.
+pub fn add_number(buffer: &mut [u8], count: usize, kind: u32, number: u64, size: usize) -> i64
+    ensures answer { result ≡ written_number (added_sized buffer.old count kind size number) }
+    ensures written { buffer.new ≡ buffer_after
+        (added_sized buffer.old count kind size number) buffer.old }
+{
+    if !has_size(size, number) {
+        return Refusal::BadArgument.code();
+    }
+    match size {
+        1 => add_numbered(buffer, count, kind, &one_byte(number)),
+        2 => add_numbered(buffer, count, kind, &(number as u16).to_be_bytes()),
+        4 => add_numbered(buffer, count, kind, &(number as u32).to_be_bytes()),
+        _ => add_numbered(buffer, count, kind, &number.to_be_bytes()),
+    }
+}
+
+/// The bytes of the number in the attribute at a place of a message, or why there are none.
+fn sized_at(message: &[u8], place: usize) -> Result<&[u8], Refusal>
+    ensures ok { IfOk result (λ value. sized_at message.now place ≡ Ok value.now) }
+    ensures size { IfOk result (λ value. is_size (length value.now) ≡ true) }
+    ensures err { IfErr result (λ refusal. sized_at message.now place ≡ Err refusal) }
+{
+    if place < HEADER_LENGTH {
+        return Err(Refusal::BadArgument);
+    }
+    let Some(attribute) = attribute_at(message, place) else {
+        return Err(Refusal::BadArgument);
+    };
+    let value = attribute.value();
+    if !is_size(value.len()) {
+        return Err(Refusal::MalformedAttribute);
+    }
+    Ok(value)
+}
+
+/// The number in these bytes.
+fn number_of(value: &[u8]) -> u64
+    requires { is_size (length value.now) ≡ true }
+    ensures { result ≡ big_number (length value.now) value.now }
+{
+    match value.len() {
+        1 => u64::from(value[0]),
+        2 => u64::from(BigEndian::read_u16(value)),
+        4 => u64::from(BigEndian::read_u32(value)),
+        _ => BigEndian::read_u64(value),
+    }
+}
+
+/// Writes the number in the attribute at a place of a message, and answers of how many bytes it is
+/// or the number of the refusal.
+pub fn number_at(message: &[u8], place: usize, number: &mut u64) -> i64
+    ensures answer { result ≡ written_number (sized_at message.now place) }
+    ensures number { number.new ≡ sized_after (sized_at message.now place) number.old }
+{
+    match sized_at(message, place) {
+        Ok(value) => {
+            *number = number_of(value);
+            value.len() as i64
+        }
+        Err(refusal) => refusal.code(),
+    }
+}

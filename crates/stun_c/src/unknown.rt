@@ -1,0 +1,265 @@
+//! Types of attributes that must be understood and that a caller does not know (RFC 8489, sections 6.3.1 and 14.13).
+
+ghost use Rattle.std.specs.Prelude.{◌≡◌, ◌≤◌, ◌<◌, ◌+◌, ◌*◌, ◌++◌, ◌^◌, length, pos, take, drop, set, IfOk, IfErr, OnOk, Some, None, Ok, Err};
+ghost use Rattle.byteorder.specs.Endian.{big_bytes};
+ghost use Rattle.stun_base.specs.declared.message_type.MessageClass.{MessageClass};
+ghost use Rattle.stun_types.specs.Attribute.{attribute_length};
+ghost use Rattle.stun_types.specs.Grammar.{spelled_attribute};
+ghost use Rattle.stun_types.specs.Writing.{begun_answer, with_attribute};
+ghost use Rattle.stun_extra.specs.Unknown.{spelled_types, types_of, unknown_types};
+ghost use Rattle.stun_c.specs.Answers.{fitted, written_number, buffer_after};
+ghost use Rattle.stun_c.specs.code.Room.{HasRoom};
+ghost use Rattle.stun_c.specs.Extra.{answer_made, error_420, known_refusal, numbers_after, refused_front, told_number, types_after, types_attribute, unknown_answer, unknown_made, unknown_of};
+
+use crate::codes::{Refusal, class_number};
+use crate::writing::{append, set_length, write_error, write_header, write_zeros};
+use stun_base::attribute_type::AttributeType;
+use stun_base::header::HEADER_LENGTH;
+use stun_extra::unknown::{UNKNOWN_ATTRIBUTES, unknown_types};
+use stun_types::attribute::attribute_length;
+use stun_types::message::{Message, MessageWriteMutSlice};
+use stun_types::prelude::*;
+
+/// The most types that a caller may say to know.
+const ALL_KNOWN: usize = 256;
+
+/// Makes types of numbers.
+fn copy_types(types: &mut [AttributeType], numbers: &[u16])
+    requires { length types.old ≡ length numbers.now }
+    ensures { types.new ≡ types_of numbers.now }
+{
+    for i in 0..numbers.len() {
+        types[i] = AttributeType::new(numbers[i]);
+    }
+}
+
+/// The types of these numbers, in a place that has room for the most, or `BadArgument` where they are more.
+fn known_types<'a>(
+    numbers: &[u16],
+    place: &'a mut [AttributeType],
+) -> Result<&'a [AttributeType], Refusal>
+    requires { length place.old ≡ ALL_KNOWN }
+    ensures ok { IfOk result (λ known. known.now ≡ types_of numbers.now) }
+    ensures few { OnOk result (length numbers.now ≤ ALL_KNOWN) }
+    ensures err { IfErr result (λ refusal. (ALL_KNOWN < length numbers.now)
+        × (refusal ≡ Refusal.BadArgument)) }
+{
+    let Some(known) = place.get_mut(..numbers.len()) else {
+        return Err(Refusal::BadArgument);
+    };
+    copy_types(known, numbers);
+    Ok(known)
+}
+
+/// Writes a number at a place, where it is there.
+#[tactic(auto, using(crate::proofs::Told::not_set))]
+fn put(numbers: &mut [u16], place: usize, number: u16)
+    ensures { numbers.new ≡ set numbers.old place number }
+{
+    if place < numbers.len() {
+        numbers[place] = number;
+    }
+}
+
+/// Writes the unknown types of a message to the front of the caller's, as many as have room, and returns how many there are.
+#[tactic(auto, using(crate::proofs::Told::told_next, crate::proofs::Told::left_next))]
+fn tell(message: &Message<'_>, known: &[AttributeType], types: &mut [u16]) -> usize
+    ensures count { result ≡ length (unknown_types known.now message.now) }
+    ensures few { result < 2 ^ 14 }
+    ensures types { types.new ≡ numbers_after (unknown_types known.now message.now) types.old }
+{
+    let mut count = 0;
+    for kind in unknown_types(message, known) {
+        put(types, count, kind.value());
+        count += 1;
+    }
+    count
+}
+
+/// A message and the types that its reader knows, or the number of the refusal.
+fn readable<'a, 'b>(
+    bytes: &'a [u8],
+    known: &[u16],
+    place: &'b mut [AttributeType],
+) -> Result<(Message<'a>, &'b [AttributeType]), Refusal>
+    requires { length place.old ≡ ALL_KNOWN }
+    ensures ok { IfOk result (λ both. (known_refusal bytes.now known.now ≡ None)
+        × (both.0 ≡ bytes.now) × (both.1.now ≡ types_of known.now)) }
+    ensures err { IfErr result (λ refusal. known_refusal bytes.now known.now ≡ Some refusal) }
+{
+    let known = known_types(known, place)?;
+    let message = Message::from_bytes(bytes)?;
+    Ok((message, known))
+}
+
+/// How many unknown types a message has, and as many of them as have room, or the number of the refusal.
+pub fn types(message: &[u8], known: &[u16], types: &mut [u16]) -> i64
+    ensures answer { result ≡ told_number (known_refusal message.now known.now)
+        (unknown_of message.now known.now) }
+    ensures types { types.new ≡ types_after (known_refusal message.now known.now)
+        (unknown_of message.now known.now) types.old }
+{
+    let mut place = [AttributeType::new(0); ALL_KNOWN];
+    match readable(message, known, &mut place) {
+        Ok((message, known)) => tell(&message, known, types) as i64,
+        Err(refusal) => refusal.code(),
+    }
+}
+
+/// The phrase of the error 420 (RFC 8489, section 14.8).
+const PHRASE: &[u8] = b"Unknown Attribute";
+
+/// The number of bytes of the answer's header and its ERROR-CODE.
+const FRONT_LENGTH: usize = 48;
+
+/// The header of an error response to a message.
+fn header<'a>(request: &Message<'_>, buffer: &'a mut [u8]) -> &'a [u8]
+    requires { 20 ≤ length buffer.old }
+    ensures { result.now ≡ begun_answer MessageClass.Error request.now }
+{
+    let writer = MessageWriteMutSlice::new(buffer);
+    Message::builder_error(request, writer).unwrap().finish()
+}
+
+/// Writes the header of an error response to a message.
+fn begin_answer(request: &Message<'_>, out: &mut [u8])
+    requires { 20 ≤ length out.old }
+    ensures { out.new ≡ begun_answer MessageClass.Error request.now ++ drop 20 out.old }
+{
+    let mut place = [0; HEADER_LENGTH];
+    let header = header(request, &mut place);
+    out[..HEADER_LENGTH].copy_from_slice(header);
+}
+
+/// Writes the ERROR-CODE of a 420 after a header, whose length field counts it then.
+fn append_error(out: &mut [u8])
+    requires { 48 ≤ length out.old }
+    ensures { out.new ≡ with_attribute (take 20 out.old) error_420 ++ drop 48 out.old }
+{
+    let mut value = [0; 4 + PHRASE.len()];
+    write_error(&mut value, 420, PHRASE);
+    append(out, HEADER_LENGTH, AttributeType::ERROR_CODE, &value);
+}
+
+/// Writes the header of the answer to a request and its ERROR-CODE.
+fn write_front(request: &Message<'_>, out: &mut [u8])
+    requires { 48 ≤ length out.old }
+    ensures { out.new ≡ refused_front request.now ++ drop 48 out.old }
+{
+    begin_answer(request, out);
+    append_error(out);
+}
+
+/// Writes a type in 2 bytes.
+fn put_type(place: &mut [u8], end: usize, kind: AttributeType)
+    requires { end + 2 ≤ length place.old }
+    ensures { place.new ≡ take end place.old ++ big_bytes 2 kind.0 ++ drop (end + 2) place.old }
+{
+    place[end..end + 2].copy_from_slice(&kind.value().to_be_bytes());
+}
+
+/// Writes the types of a message that are unknown, 2 bytes each, to a place that has room for just these.
+#[tactic(auto, using(crate::proofs::Told::spelled_next))]
+fn write_types(message: &Message<'_>, known: &[AttributeType], place: &mut [u8])
+    requires { length place.old ≡ 2 * length (unknown_types known.now message.now) }
+    ensures { place.new ≡ spelled_types (unknown_types known.now message.now) }
+{
+    let mut end = 0;
+    for kind in unknown_types(message, known) {
+        put_type(place, end, kind);
+        end += 2;
+    }
+}
+
+/// Writes UNKNOWN-ATTRIBUTES with its header and its padding to the front of a buffer that has room for it.
+fn spell_types(message: &Message<'_>, known: &[AttributeType], count: usize, buffer: &mut [u8])
+    requires count { count ≡ length (unknown_types known.now message.now) }
+    requires few { count < 2 ^ 14 }
+    requires room { attribute_length (2 * count) ≤ length buffer.old }
+    ensures { buffer.new ≡ spelled_attribute (types_attribute
+        (unknown_types known.now message.now))
+        ++ drop (attribute_length (2 * count)) buffer.old }
+{
+    let (header, rest) = buffer.split_at_mut(4);
+    let (place, rest) = rest.split_at_mut(2 * count);
+    let (padding, _) = rest.split_at_mut(count % 2 * 2);
+    write_header(header, UNKNOWN_ATTRIBUTES, 2 * count);
+    write_types(message, known, place);
+    write_zeros(padding);
+}
+
+/// Raises the length field after the front of an answer, and writes UNKNOWN-ATTRIBUTES there. The answer is where that ends.
+fn append_types(message: &Message<'_>, known: &[AttributeType], count: usize, out: &mut [u8]) -> i64
+    requires count { count ≡ length (unknown_types known.now message.now) }
+    requires few { count < 2 ^ 14 }
+    requires room { 48 + attribute_length (2 * count) ≤ length out.old }
+    ensures answer { result ≡ pos (48 + attribute_length (2 * count)) }
+    ensures written { out.new ≡ with_attribute (take 48 out.old)
+        (types_attribute (unknown_types known.now message.now))
+        ++ drop (48 + attribute_length (2 * count)) out.old }
+{
+    let end = FRONT_LENGTH + attribute_length(2 * count);
+    let (front, rest) = out.split_at_mut(FRONT_LENGTH);
+    set_length(front, (end - HEADER_LENGTH) as u16);
+    spell_types(message, known, count, rest);
+    end as i64
+}
+
+/// Writes the answer to a request with so many unknown types to the front of a buffer, and answers its length or that it has no
+/// room.
+#[tactic(auto, using(crate::proofs::Refused::answer_refused))]
+fn write_answer(request: &Message<'_>, known: &[AttributeType], count: usize, out: &mut [u8]) -> i64
+    requires count { count ≡ length (unknown_types known.now request.now) }
+    requires few { count < 2 ^ 14 }
+    ensures answer { result ≡ written_number (fitted (Ok (unknown_answer request.now
+        (unknown_types known.now request.now))) (length out.old)) }
+    ensures written { out.new ≡ buffer_after (fitted (Ok (unknown_answer request.now
+        (unknown_types known.now request.now))) (length out.old)) out.old }
+{
+    if out.len() < FRONT_LENGTH + attribute_length(2 * count) {
+        return Refusal::BufferTooSmall.code();
+    }
+    write_front(request, out);
+    append_types(request, known, count, out)
+}
+
+/// How many unknown types a message has.
+fn count_types(message: &Message<'_>, known: &[AttributeType]) -> usize
+    ensures count { result ≡ length (unknown_types known.now message.now) }
+    ensures few { result < 2 ^ 14 }
+{
+    unknown_types(message, known).count()
+}
+
+/// Writes the answer to a message, which must be a request, to the front of the buffer, and answers its length, or 0 where it
+/// has no unknown type.
+fn answer(message: &Message<'_>, known: &[AttributeType], out: &mut [u8]) -> i64
+    ensures answer { result ≡ written_number (fitted (answer_made message.now
+        (unknown_types known.now message.now)) (length out.old)) }
+    ensures written { out.new ≡ buffer_after (fitted (answer_made message.now
+        (unknown_types known.now message.now)) (length out.old)) out.old }
+{
+    if class_number(message.class()) != 0 {
+        return Refusal::BadArgument.code();
+    }
+    let count = count_types(message, known);
+    if count == 0 {
+        return 0;
+    }
+    write_answer(message, known, count, out)
+}
+
+/// Writes the answer to a request that has unknown types to the front of the buffer, and answers its length, or 0 where it has
+/// none, or the number of the refusal.
+pub fn refuse(request: &[u8], known: &[u16], out: &mut [u8]) -> i64
+    ensures answer { result ≡ written_number (fitted (unknown_made request.now known.now)
+        (length out.old)) }
+    ensures written { out.new ≡ buffer_after (fitted (unknown_made request.now known.now)
+        (length out.old)) out.old }
+{
+    let mut place = [AttributeType::new(0); ALL_KNOWN];
+    match readable(request, known, &mut place) {
+        Ok((message, known)) => answer(&message, known, out),
+        Err(refusal) => refusal.code(),
+    }
+}

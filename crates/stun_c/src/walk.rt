@@ -1,0 +1,154 @@
+//! A walk over the visible attributes of a message, which reads each of its attributes once.
+
+ghost use Rattle.std.specs.Prelude.{◌≡◌, ◌≤◌, length, drop, max, true, false, slice_get, IfOk, IfErr, OnOk, IfSome, IfNone, OnSome, Some, None};
+ghost use Rattle.stun_types.specs.Attribute.{first_attribute, has_attribute};
+ghost use Rattle.stun_types.specs.Walk.{walk_from};
+ghost use Rattle.stun_c.specs.Reading.{number_after};
+ghost use Rattle.stun_c.specs.Walking.{ahead, cursor_refusal, is_shown, rank, shown, walk_answer};
+
+use crate::codes::Refusal;
+use byteorder::{BigEndian, ByteOrder};
+use stun_base::attribute_type::AttributeType;
+use stun_base::header::HEADER_LENGTH;
+use stun_types::attribute::{ATTRIBUTE_HEADER_LENGTH, RawAttribute, attribute_length};
+use stun_types::message::Message;
+
+/// How far a walk has come. One of zeros is before the first attribute.
+#[repr(C)]
+#[derive(Debug, Clone, Copy, PartialEq, Eq)]
+pub struct Cursor {
+    /// Where the next attribute begins, or 0.
+    pub place: usize,
+    /// How much the attributes hide that were passed: 1 after MESSAGE-INTEGRITY, 2 after MESSAGE-INTEGRITY-SHA256, 3 after
+    /// FINGERPRINT, the greatest of these, or 0.
+    pub hidden: u32,
+}
+
+/// How much an attribute of this type hides of those after it.
+fn rank(kind: AttributeType) -> u32
+    ensures { result ≡ rank kind.0 }
+{
+    if kind == AttributeType::MESSAGE_INTEGRITY {
+        1
+    } else if kind == AttributeType::MESSAGE_INTEGRITY_SHA256 {
+        2
+    } else if kind == AttributeType::FINGERPRINT {
+        3
+    } else {
+        0
+    }
+}
+
+/// Whether an attribute of this type is visible after those that hide so much.
+fn is_shown(hidden: u32, kind: AttributeType) -> bool
+    ensures { result ≡ is_shown hidden kind.0 }
+{
+    hidden == 0 || hidden < rank(kind)
+}
+
+/// How much those hide and one of this type.
+fn hidden_behind(hidden: u32, kind: AttributeType) -> u32
+    ensures { result ≡ max hidden (rank kind.0) }
+{
+    hidden.max(rank(kind))
+}
+
+/// The attribute at a place, where it and its padding are whole.
+pub fn attribute_at(message: &[u8], place: usize) -> Option<RawAttribute<'_>>
+    ensures none { IfNone result (has_attribute (drop place message.now) ≡ false) }
+    ensures whole { OnSome result (has_attribute (drop place message.now) ≡ true) }
+    ensures value { IfSome result
+        (λ attribute. attribute ≡ first_attribute (drop place message.now)) }
+{
+    let bytes = message.get(place..)?;
+    if bytes.len() < ATTRIBUTE_HEADER_LENGTH {
+        return None;
+    }
+    let kind = AttributeType::new(BigEndian::read_u16(bytes));
+    let length = usize::from(BigEndian::read_u16(&bytes[2..]));
+    if bytes.len() < attribute_length(length) {
+        return None;
+    }
+    Some(RawAttribute::new(kind, &bytes[ATTRIBUTE_HEADER_LENGTH..][..length]))
+}
+
+/// The first attribute that is visible from a cursor, with its place. The cursor comes to stand after it, or at the end.
+fn advance<'a>(message: &'a [u8], cursor: &mut Cursor) -> Option<(usize, RawAttribute<'a>)>
+    requires behind { 20 ≤ cursor.old.place }
+    requires within { cursor.old.place ≤ length message.now }
+    ensures first { result ≡ slice_get
+        (shown cursor.old.hidden (walk_from cursor.old.place message.now)) 0 }
+    ensures place { IfSome result (λ m. m.0 ≤ length message.now) }
+    ensures rest { shown cursor.new.hidden (walk_from cursor.new.place message.now)
+        ≡ drop 1 (shown cursor.old.hidden (walk_from cursor.old.place message.now)) }
+    ensures behind { 20 ≤ cursor.new.place }
+    ensures within { cursor.new.place ≤ length message.now }
+{
+    while let Some(attribute) = attribute_at(message, cursor.place) {
+        let place = cursor.place;
+        let kind = attribute.get_type();
+        let shown = is_shown(cursor.hidden, kind);
+        cursor.place += attribute.padded_len();
+        cursor.hidden = hidden_behind(cursor.hidden, kind);
+        if shown {
+            return Some((place, attribute));
+        }
+    }
+    None
+}
+
+/// The cursor at which a walk goes on: that of the caller, or for one at 0 that after the header of a message.
+#[tactic(auto, using(crate::proofs::Walking::shown_visible))]
+fn begun(message: &[u8], cursor: Cursor) -> Result<Cursor, Refusal>
+    ensures ok { IfOk result (λ begun. shown begun.hidden (walk_from begun.place message.now)
+        ≡ ahead cursor message.now) }
+    ensures behind { IfOk result (λ begun. 20 ≤ begun.place) }
+    ensures within { IfOk result (λ begun. begun.place ≤ length message.now) }
+    ensures accepted { OnOk result (cursor_refusal cursor message.now ≡ None) }
+    ensures err { IfErr result (λ refusal. cursor_refusal cursor message.now ≡ Some refusal) }
+{
+    if cursor.place == 0 {
+        Message::from_bytes(message)?;
+        return Ok(Cursor {
+            place: HEADER_LENGTH,
+            hidden: 0,
+        });
+    }
+    if cursor.place < HEADER_LENGTH || message.len() < cursor.place {
+        return Err(Refusal::BadArgument);
+    }
+    Ok(cursor)
+}
+
+/// The place of the first visible attribute that is before a cursor, or 0, or the number of the refusal. Its type and the
+/// length of its value are written, and the cursor goes past it.
+pub fn walk(message: &[u8], cursor: &mut Cursor, kind: &mut u16, value_length: &mut usize) -> i64
+    ensures answer { result ≡ walk_answer (cursor_refusal cursor.old message.now)
+        (slice_get (ahead cursor.old message.now) 0) }
+    ensures kind { kind.new ≡ number_after (λ a. a.kind) (cursor_refusal cursor.old message.now)
+        (slice_get (ahead cursor.old message.now) 0) kind.old }
+    ensures value_length { value_length.new ≡ number_after (λ a. length a.value)
+        (cursor_refusal cursor.old message.now)
+        (slice_get (ahead cursor.old message.now) 0) value_length.old }
+    ensures goes_on { IfNone (cursor_refusal cursor.old message.now)
+        (cursor_refusal cursor.new message.now ≡ None) }
+    ensures rest { IfNone (cursor_refusal cursor.old message.now)
+        (ahead cursor.new message.now ≡ drop 1 (ahead cursor.old message.now)) }
+    ensures refused { IfSome (cursor_refusal cursor.old message.now)
+        (λ _. cursor.new ≡ cursor.old) }
+{
+    match begun(message, *cursor) {
+        Ok(begun) => {
+            *cursor = begun;
+            match advance(message, cursor) {
+                Some((place, attribute)) => {
+                    *kind = attribute.get_type().value();
+                    *value_length = attribute.length();
+                    place as i64
+                }
+                None => 0,
+            }
+        }
+        Err(refusal) => refusal.code(),
+    }
+}

@@ -1,0 +1,10 @@
+-- What the contracts of this crate say, in the order to read it.
+
+-- how often an input is asked for
+pub mod Input
+-- what writing a text leaves
+pub mod Output
+-- what is said of bytes under keys
+pub mod Verdict
+-- the exit statuses
+pub mod Status

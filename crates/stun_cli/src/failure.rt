@@ -1,0 +1,20 @@
+//! Why nothing was read or written.
+
+use std::alloc::AllocError;
+
+/// Why nothing was read or written.
+#[derive(Clone, Copy, Debug, PartialEq, Eq)]
+pub enum Failure {
+    /// A read or a write failed.
+    Io,
+    /// An allocation failed.
+    Memory,
+    /// The end of the input did not come where it must.
+    NoEnd,
+}
+
+impl From<AllocError> for Failure {
+    fn from(_error: AllocError) -> Failure {
+        Failure::Memory
+    }
+}

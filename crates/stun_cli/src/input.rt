@@ -1,0 +1,95 @@
+//! The one way in which commands read.
+ghost use Rattle.std.specs.Prelude.{◌≡◌, ◌≤◌, ◌+◌, ℕ, IfOk, IfSome, length};
+ghost use Rattle.std.specs.Io.{ReadsAtMost};
+ghost use Rattle.std.specs.Io.KnownBytes.{ReadConsumes};
+ghost use Rattle.stun_cli.specs.Input.{most_reads};
+
+use crate::failure::Failure;
+use std::alloc::Allocator;
+use std::io;
+use std::io::{ErrorKind, Read};
+
+/// How often a command asks its reader, at most.
+const MAX_READS: u32 = 1_048_576;
+
+/// The bytes that one read may give.
+const READ_SIZE: usize = 256;
+
+/// A reader whose reads contracts can count.
+pub trait CountedRead: Read {
+    // How often the reader has been asked.
+    ghost asked: { Self → ℕ };
+
+    /// One read, as `read` makes it, which counts also where it is interrupted.
+    fn ask(&mut self, buf: &mut [u8]) -> io::Result<usize>
+        ensures bound { ReadsAtMost result buf.new }
+        ensures bytes { ReadConsumes (Self.remaining self.old)
+            (Self.remaining self.new) result buf.new }
+        ensures counted { asked self.new ≤ asked self.old + 1 };
+}
+
+/// A reader that counts how often it is asked.
+#[derive(Drop)]
+pub struct Counted<R: Read + Drop> {
+    pub reader: R,
+    asked: u32,
+}
+
+impl<R: Read + Drop> Counted<R> {
+    /// Has not been asked yet.
+    pub fn new(reader: R) -> Counted<R> {
+        Counted { reader, asked: 0 }
+    }
+}
+
+impl<R: Read + Drop> Read for Counted<R> {
+    ghost remaining = { λ counted. R.remaining counted.reader };
+
+    fn read(&mut self, buf: &mut [u8]) -> io::Result<usize> {
+        self.ask(buf)
+    }
+}
+
+impl<R: Read + Drop> CountedRead for Counted<R> {
+    ghost asked = { λ counted. counted.asked };
+
+    fn ask(&mut self, buf: &mut [u8]) -> io::Result<usize> {
+        self.asked = self.asked.saturating_add(1);
+        self.reader.read(buf)
+    }
+}
+
+/// All that the reader has left, which is at most so many bytes.
+///
+/// It fails where a read or a growth fails, where there are more bytes, and where the end does not come within 1048576
+/// reads. An interrupted read is asked again, and is one of them.
+pub fn read_to_end<R: CountedRead, A: Allocator>(
+    alloc: A,
+    reader: &mut R,
+    most: usize,
+) -> Result<Vec<u8, A>, Failure>
+    ensures all { IfSome (R.remaining reader.old)
+        (λ input. IfOk result (λ bytes. bytes.items ≡ input)) }
+    ensures limit { IfOk result (λ bytes. length bytes.items ≤ most) }
+    ensures asked { R.asked reader.new ≤ R.asked reader.old + most_reads }
+{
+    let mut bytes = Vec::new(alloc);
+    let mut buffer = [0u8; READ_SIZE];
+    for _turn in 0..MAX_READS {
+        match reader.ask(&mut buffer) {
+            Ok(0) => return Ok(bytes),
+            Ok(count) => {
+                if count > most - bytes.len() {
+                    return Err(Failure::NoEnd);
+                }
+                bytes.extend_from_slice(&buffer[..count])?;
+            }
+            Err(error) => {
+                if error.kind() != ErrorKind::Interrupted {
+                    return Err(Failure::Io);
+                }
+            }
+        }
+    }
+    Err(Failure::NoEnd)
+}

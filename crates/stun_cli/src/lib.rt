@@ -1,0 +1,10 @@
+//! What the programs have in common: the words of a command line, what is read and written, what is said of a message,
+//! and how a command ends.
+#![tactic(auto)]
+
+pub mod failure;
+pub mod input;
+pub mod output;
+pub mod status;
+pub mod verdict;
+pub mod words;

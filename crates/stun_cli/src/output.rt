@@ -1,0 +1,41 @@
+//! The one way in which commands write.
+ghost use Rattle.std.specs.Prelude.{OnOk, OnErr};
+ghost use Rattle.std.specs.Io.KnownBytes.{Appends};
+ghost use Rattle.stun_cli.specs.Output.{AppendsBeginning};
+
+use crate::failure::Failure;
+use std::io::{ErrorKind, Write};
+
+/// How often a text's writer is asked, at most.
+const MAX_WRITES: u32 = 1_048_576;
+
+/// Writes the text, in at most `MAX_WRITES` writes; an interrupted one is asked again.
+///
+/// It fails where a write fails or takes nothing, or the writes do not suffice. Then a beginning of the
+/// text is there, and not the whole.
+pub fn write_text<W: Write>(writer: &mut W, text: &[u8]) -> Result<(), Failure>
+    ensures ok { OnOk result (Appends (W.contents writer.old) (W.contents writer.new) text.now) }
+    ensures err { OnErr result (AppendsBeginning (W.contents writer.old)
+        (W.contents writer.new) text.now) }
+{
+    let mut written = 0;
+    for _ in 0..MAX_WRITES {
+        if written == text.len() {
+            return Ok(());
+        }
+        match writer.write(&text[written..]) {
+            Ok(0) => return Err(Failure::Io),
+            Ok(count) => written += count,
+            Err(error) => {
+                if error.kind() != ErrorKind::Interrupted {
+                    return Err(Failure::Io);
+                }
+            }
+        }
+    }
+    if written == text.len() {
+        Ok(())
+    } else {
+        Err(Failure::Io)
+    }
+}

@@ -1,0 +1,60 @@
+//! What is said of bytes under a key.
+ghost use Rattle.std.specs.Prelude.{◌≡◌, ◌≢◌};
+ghost use Rattle.stun_cli.specs.Verdict.{refusal_line, status_of, verdict_without_digest};
+
+use crate::status::Status;
+use stun_types::message::{IntegrityAlgorithm, StunParseError, ValidateError};
+
+/// What is said of an input under a key.
+#[derive(Clone, Copy, Debug, PartialEq, Eq)]
+pub enum Verdict {
+    /// The digest of this algorithm verifies.
+    Valid(IntegrityAlgorithm),
+    /// The digest that decides is another.
+    OtherDigest,
+    /// No integrity attribute is visible.
+    NoIntegrity,
+    /// The integrity attribute that decides has a length that its type cannot have.
+    MalformedIntegrity,
+    /// The bytes are no message.
+    NotAMessage(StunParseError),
+    /// The input spells no bytes.
+    BadInput,
+}
+
+impl Verdict {
+    /// How the command ends that prints it.
+    pub fn status(self) -> Status
+        ensures value { result ≡ status_of self }
+        ensures judged { (result ≢ Status.NotJudged) × (result ≢ Status.Failed) }
+    {
+        match self {
+            Verdict::Valid(_) => Status::Good,
+            _ => Status::Bad,
+        }
+    }
+}
+
+/// The verdict on a message where no digest verifies.
+pub fn verdict_without_digest(error: ValidateError) -> Verdict
+    ensures { result ≡ verdict_without_digest error }
+{
+    match error {
+        ValidateError::Parse(StunParseError::MissingAttribute(_)) => Verdict::NoIntegrity,
+        ValidateError::Parse(_) => Verdict::MalformedIntegrity,
+        ValidateError::IntegrityFailed => Verdict::OtherDigest,
+    }
+}
+
+/// The line for bytes that are no message.
+pub fn refusal_line(error: StunParseError) -> &'static str
+    ensures { result.now ≡ refusal_line error }
+{
+    match error {
+        StunParseError::Truncated => "not a message: truncated\n",
+        StunParseError::NotStun => "not a message: not stun\n",
+        StunParseError::TooLarge => "not a message: too large\n",
+        StunParseError::MissingAttribute(_) => "not a message: missing attribute\n",
+        StunParseError::InvalidAttributeData => "not a message: malformed attribute\n",
+    }
+}

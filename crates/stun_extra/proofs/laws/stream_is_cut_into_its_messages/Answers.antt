@@ -1,0 +1,14 @@
+use Rattle.stun_extra.proofs.FramingLemmas.{cut-fed, cut-messages, frame-message, frame-part}
+use Rattle.stun_extra.proofs.laws.stream_is_cut_into_its_messages.Goals as goal
+
+pub returns-clause-whole : goal.returns-clause-whole
+returns-clause-whole c = frame-message
+
+pub returns-clause-begun : goal.returns-clause-begun
+returns-clause-begun c = frame-part
+
+pub returns-clause-cut : goal.returns-clause-cut
+returns-clause-cut c = cut-messages
+
+pub returns-clause-fed : goal.returns-clause-fed
+returns-clause-fed c = cut-fed

@@ -1,0 +1,100 @@
+-- Messages in a stream of bytes (RFC 8489, section 6.2.2).
+use Rattle.std.specs.Prelude.{◌≡◌, ◌≤◌, ℕ, zero, suc, ◌+◌, ◌-◌, Bool, List, [], ◌∷◌, ◌++◌, length, take, drop, slice_index, nat_lt, ◌/◌, ◌==◌, replicate, if◌then◌else◌}
+use Rattle.byteorder.specs.Endian.{big_bytes, big_number}
+use Rattle.stun_base.specs.Header.{HEADER_LENGTH, BeginsWithHeader, is_stun, length_field}
+use Rattle.stun_types.specs.Attribute.{padded_length}
+use Rattle.stun_extra.specs.declared.framing.Frame.{Frame}
+use Rattle.stun_extra.specs.declared.framing.Frame.TheVariants.{Need, Message, NotStun}
+
+-- what bytes that begin with a message of so many bytes are, by how many of them are there
+abbrev pub frame_to : ℕ → ℕ → Frame
+frame_to there whole = if nat_lt there whole then Need (whole - there) else Message whole
+
+-- what bytes begin with: the header comes first, and its length tells how many bytes the message has (section 5)
+abbrev pub frame_of : List ℕ → Frame
+frame_of bytes =
+    if nat_lt (length bytes) HEADER_LENGTH then Need (HEADER_LENGTH - length bytes)
+    else if is_stun bytes then frame_to (length bytes) (HEADER_LENGTH + length_field bytes)
+    else NotStun
+
+-- a packet of STUN among those of other protocols (RFC 7983, section 7)
+pub record IsStunPacket (packet : List ℕ) : Type 0 where
+  pub header : BeginsWithHeader packet
+  pub first : slice_index packet 0 ≤ 3
+
+-- ---- a stream
+
+-- so many bytes of a message, fewer than it has, want more, and no more than it has
+pub record IsPartOf (message : List ℕ) (n : ℕ) : Type 0 where
+  pub needed : ℕ
+  pub answer : frame_of (take n message) ≡ Need needed
+  pub some : 1 ≤ needed
+  pub within : n + needed ≤ length message
+
+-- the messages at the front of bytes, one after the other, and the bytes behind them
+pub record Cut : Type 0 where
+  pub messages : List (List ℕ)
+  pub rest : List ℕ
+
+-- one message more at the front
+abbrev pub with_first : List ℕ → Cut → Cut
+with_first message others = record { messages = message ∷ others.messages; rest = others.rest }
+
+-- a message is cut off where there is one, and then what follows it is cut
+abbrev pub cut_by : Frame → (List ℕ → Cut) → List ℕ → Cut
+cut_by (Message n) others bytes = with_first (take n bytes) (others (drop n bytes))
+cut_by (Need n) others bytes = record { messages = []; rest = bytes }
+cut_by NotStun others bytes = record { messages = []; rest = bytes }
+
+-- up to so many messages
+unfoldable pub cut_up_to : ℕ → List ℕ → Cut
+cut_up_to zero bytes = record { messages = []; rest = bytes }
+cut_up_to (suc most) bytes = cut_by (frame_of bytes) (cut_up_to most) bytes
+
+-- all of them: there are no more of them than bytes
+abbrev pub cut : List ℕ → Cut
+cut bytes = cut_up_to (length bytes) bytes
+
+-- more bytes come behind what was left, and are cut with it
+abbrev pub fed : Cut → List ℕ → Cut
+fed before more = record { messages = before.messages ++ (cut (before.rest ++ more)).messages; rest = (cut (before.rest ++ more)).rest }
+
+-- no whole message is at the front
+abbrev pub IsLeftOver : List ℕ → Type 0
+IsLeftOver bytes = (n : ℕ) → frame_of bytes ≡ Message n → ⊥
+
+-- ---- other frames of a stream
+
+-- a packet behind its length in 2 bytes, as ICE sends it over TCP (RFC 4571, section 2)
+abbrev pub framed_packet : List ℕ → List ℕ
+framed_packet packet = big_bytes 2 (length packet) ++ packet
+
+-- what bytes begin with, where such packets come
+abbrev pub packet_frame_of : List ℕ → Frame
+packet_frame_of bytes =
+    if nat_lt (length bytes) 2 then Need (2 - length bytes)
+    else frame_to (length bytes) (2 + big_number 2 bytes)
+
+-- ChannelData in a stream: the number of a channel, the length of the data, the data, and padding up to a multiple of 4 bytes
+-- (RFC 8656, sections 12.4 and 12.5)
+abbrev pub channel_data : ℕ → List ℕ → List ℕ
+channel_data channel bytes =
+    big_bytes 2 channel ++ big_bytes 2 (length bytes) ++ bytes ++ replicate (padded_length (length bytes) - length bytes) 0
+
+-- whether bytes begin with the number of a channel, 0x4000 to 0x4FFF (RFC 8656, section 12)
+abbrev pub is_channel : List ℕ → Bool
+is_channel bytes = slice_index bytes 0 / 16 == 4
+
+-- what bytes begin with, where ChannelData and messages come
+abbrev pub turn_frame_of : List ℕ → Frame
+turn_frame_of bytes =
+    if nat_lt (length bytes) 4 then Need (4 - length bytes)
+    else if is_channel bytes then frame_to (length bytes) (4 + padded_length (big_number 2 (drop 2 bytes)))
+    else frame_of bytes
+
+-- by a reader of frames so many bytes of a whole, fewer than it has, want more, and no more than it has
+pub record IsPartBy (reader : List ℕ → Frame) (whole : List ℕ) (n : ℕ) : Type 0 where
+  pub needed : ℕ
+  pub answer : reader (take n whole) ≡ Need needed
+  pub some : 1 ≤ needed
+  pub within : n + needed ≤ length whole

@@ -1,0 +1,22 @@
+-- What the contracts of this crate say, in the order to read it.
+
+-- CRC-32, as a division of polynomials
+pub mod Crc32
+-- FINGERPRINT: what is written at the end of a message, and what is found there (RFC 8489, section 14.7)
+pub mod Fingerprint
+-- types that must be understood and are not known, and UNKNOWN-ATTRIBUTES (sections 6.3.1 and 14.13)
+pub mod Unknown
+-- messages in a stream of bytes, and in packets among those of other protocols (sections 6.2.2 and 8)
+pub mod Framing
+-- the types of attributes of STUN, ICE and TURN
+pub mod AttributeTypes
+-- how values of one form are read
+pub mod Values
+-- MAPPED-ADDRESS and ALTERNATE-SERVER (RFC 8489, sections 14.1 and 14.15)
+pub mod Address
+-- the values of TURN's attributes (RFC 8656, section 18)
+pub mod Turn
+-- the methods of TURN (RFC 8656, section 17)
+pub mod TurnMethods
+-- what no clause of a public call says: views of structs
+pub mod code

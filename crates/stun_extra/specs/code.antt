@@ -1,0 +1,3 @@
+-- Views of structs.
+pub mod Told
+pub mod UnknownSource

@@ -1,0 +1,16 @@
+-- Where the types of an UNKNOWN-ATTRIBUTES are: in a message that has attributes of them, or in a message that has the attribute.
+use Rattle.std.specs.Prelude.{◌≡◌, ◌%◌, List, length}
+use Rattle.stun_base.specs.declared.attribute_type.AttributeType.{AttributeType}
+use Rattle.stun_extra.specs.Unknown.{types_in, unknown_types}
+use Rattle.stun_extra.specs.declared.unknown.attribute.Source.{Source}
+use Rattle.stun_extra.specs.declared.unknown.attribute.Source.TheVariants.{OfMessage, Received}
+
+-- the types
+abbrev pub types_at : Source → List AttributeType
+types_at (OfMessage message known) = unknown_types known.now message.now
+types_at (Received bytes) = types_in bytes.now
+
+-- what is received has 2 bytes for each type
+abbrev pub IsEven : Source → Type 0
+IsEven (OfMessage message known) = Unit {0}
+IsEven (Received bytes) = length bytes.now % 2 ≡ 0

@@ -1,0 +1,144 @@
+//! What attributes share whose value is an address as it is (RFC 8489, section 14.1).
+ghost use Rattle.std.specs.Prelude.{◌≡◌, ◌≤◌, ◌+◌, ◌%◌, ◌++◌, ◌∷◌, length};
+ghost use Rattle.std.specs.Net.Socket.{IsPlainSocket, socket_ip, socket_port};
+ghost use Rattle.byteorder.specs.Endian.{big_bytes};
+ghost use Rattle.stun_types.specs.Attribute.{attribute_length};
+ghost use Rattle.stun_types.specs.Grammar.{spelled_attribute};
+ghost use Rattle.stun_types.specs.Reading.{attribute_answer};
+ghost use Rattle.stun_extra.specs.Address.{IsAddress, address_of, address_value, ip_of};
+
+use crate::attribute::value::append_header;
+use byteorder::{BigEndian, ByteOrder};
+use std::net::{IpAddr, Ipv4Addr, Ipv6Addr, SocketAddr};
+use stun_base::error::StunParseError;
+use stun_types::attribute::{AttributeType, RawAttribute};
+use stun_types::prelude::*;
+
+/// The number of bytes of the value before the octets.
+const FAMILY_AND_PORT_LENGTH: usize = 4;
+
+/// The number of the family IPv4.
+const IPV4: u8 = 1;
+
+/// The number of the family IPv6.
+const IPV6: u8 = 2;
+
+/// An address and a port.
+#[derive(Clone, Copy, Debug, PartialEq, Eq)]
+pub(super) struct Address {
+    ip: IpAddr,
+    port: u16,
+}
+
+impl Address {
+    /// The address without its flow information and its scope.
+    pub(super) fn new(addr: SocketAddr) -> Address
+        ensures { result ≡ record { ip = socket_ip addr; port = socket_port addr } }
+    {
+        Address {
+            ip: addr.ip(),
+            port: addr.port(),
+        }
+    }
+
+    /// The address, with no flow information and no scope.
+    pub(super) fn socket(&self) -> SocketAddr
+        ensures ip { socket_ip result ≡ self.now.ip }
+        ensures port { IsPlainSocket result self.now.port }
+    {
+        SocketAddr::new(self.ip, self.port)
+    }
+
+    /// The number of bytes of the value.
+    pub(super) fn length(&self) -> usize
+        ensures value { result ≡ length (address_value self.now) }
+        ensures whole { IsAddress self.now }
+    {
+        // Read for the clause `whole`: a field's type bounds it.
+        let _port = self.port;
+        match self.ip {
+            IpAddr::V4(ip) => FAMILY_AND_PORT_LENGTH + ip.octets().as_slice().len(),
+            IpAddr::V6(ip) => FAMILY_AND_PORT_LENGTH + ip.octets().as_slice().len(),
+        }
+    }
+}
+
+/// Appends the attribute of this type whose value is an address.
+pub(super) fn append_address<W: MessageWrite>(
+    writer: &mut W,
+    kind: AttributeType,
+    address: &Address,
+)
+    requires { attribute_length (length (address_value address.now)) ≤ W.reserved writer.old }
+    ensures bytes { W.bytes writer.new ≡ W.bytes writer.old
+        ++ spelled_attribute (record { kind = kind.0; value = address_value address.now }) }
+    ensures room { W.room writer.new + attribute_length (length (address_value address.now))
+        ≡ W.room writer.old }
+    ensures reserved { W.reserved writer.new + attribute_length (length (address_value address.now))
+        ≡ W.reserved writer.old }
+{
+    match address.ip {
+        IpAddr::V4(ip) => append_octets(writer, kind, IPV4, address.port, &ip.octets()),
+        IpAddr::V6(ip) => append_octets(writer, kind, IPV6, address.port, &ip.octets()),
+    }
+}
+
+/// Appends the attribute of this type whose value is the octets of an address of this family.
+fn append_octets<W: MessageWrite>(
+    writer: &mut W,
+    kind: AttributeType,
+    family: u8,
+    port: u16,
+    octets: &[u8],
+)
+    requires whole { length octets.now % 4 ≡ 0 }
+    requires short { length octets.now ≤ 16 }
+    requires reserved { 8 + length octets.now ≤ W.reserved writer.old }
+    ensures bytes { W.bytes writer.new ≡ W.bytes writer.old
+        ++ spelled_attribute (record {
+          kind = kind.0;
+          value = 0 ∷ family ∷ big_bytes 2 port ++ octets.now;
+        }) }
+    ensures room { W.room writer.new + (8 + length octets.now) ≡ W.room writer.old }
+    ensures reserved { W.reserved writer.new + (8 + length octets.now) ≡ W.reserved writer.old }
+{
+    append_header(writer, kind, FAMILY_AND_PORT_LENGTH + octets.len());
+    writer.append(&[0, family]);
+    writer.append(&port.to_be_bytes());
+    writer.append(octets);
+}
+
+/// The address in a raw attribute of this type, or `InvalidAttributeData`.
+pub(super) fn read_address(
+    raw: &RawAttribute<'_>,
+    kind: AttributeType,
+) -> Result<Address, StunParseError>
+    ensures { result ≡ attribute_answer (address_of kind.0 raw.now) }
+{
+    let value = raw.value();
+    if raw.get_type() != kind || value.len() < FAMILY_AND_PORT_LENGTH {
+        return Err(StunParseError::InvalidAttributeData);
+    }
+    let port = BigEndian::read_u16(&value[2..]);
+    match read_ip(value[1], &value[FAMILY_AND_PORT_LENGTH..]) {
+        Some(ip) => Ok(Address { ip, port }),
+        None => Err(StunParseError::InvalidAttributeData),
+    }
+}
+
+/// The address of this family with these octets, where they are as many as it has.
+fn read_ip(family: u8, octets: &[u8]) -> Option<IpAddr>
+    ensures { result ≡ ip_of family octets.now }
+{
+    if family == IPV4 && octets.len() == 4 {
+        let mut ipv4 = [0; 4];
+        ipv4.copy_from_slice(octets);
+        return Some(IpAddr::V4(Ipv4Addr::from_octets(ipv4)));
+    }
+    if family == IPV6 && octets.len() == 16 {
+        let mut ipv6 = [0; 16];
+        ipv6.copy_from_slice(octets);
+        return Some(IpAddr::V6(Ipv6Addr::from_octets(ipv6)));
+    }
+    None
+}

@@ -1,0 +1,117 @@
+//! CHANNEL-NUMBER (RFC 8656, section 18.1).
+ghost use Rattle.std.specs.Prelude.{◌≡◌, ◌≤◌, ◌<◌, ◌↔◌, false, IfOk, IsOkUnless, IsErrOf};
+ghost use Rattle.stun_extra.specs.AttributeTypes.{CHANNEL_NUMBER};
+ghost use Rattle.stun_extra.specs.Turn.{IsChannel, channel_of, channel_of-written, channel_value, is_channel_number};
+
+use byteorder::{BigEndian, ByteOrder};
+use std::marker::Model;
+use stun_base::error::{StunParseError, StunWriteError};
+use stun_types::attribute::{AttributeType, RawAttribute};
+use stun_types::prelude::*;
+
+/// The number of bytes of the value: the number, and two that are reserved.
+const LENGTH: usize = 4;
+
+/// CHANNEL-NUMBER (RFC 8656, section 18.1): the number of a channel, 0x4000 to 0x4FFF. Contracts
+/// see the number.
+#[derive(Clone, Copy, Debug, PartialEq, Eq)]
+pub struct ChannelNumber {
+    channel: u16,
+}
+
+impl Model for ChannelNumber {
+    ghost use Rattle.std.specs.Prelude.{ℕ};
+    ghost use Rattle.stun_extra.specs.Turn.{IsChannel};
+
+    ghost Value = { ℕ };
+
+    ghost view = { λ attribute. attribute.channel };
+
+    ghost invariant = { λ attribute. IsChannel attribute.channel };
+
+    ghost inverse = { λ channel. record { channel = channel } };
+}
+
+/// Whether a number is one of a channel.
+fn is_channel_number(number: u16) -> bool
+    ensures { result ≡ is_channel_number number }
+{
+    0x4000 <= number && number < 0x5000
+}
+
+impl ChannelNumber {
+    /// The attribute of this channel, or `NotAllowed` where the number is not one of 0x4000 to
+    /// 0x4FFF.
+    pub fn new(channel: u16) -> Result<Self, StunWriteError>
+        ensures ok { IfOk result (λ number. number ≡ channel) }
+        ensures only_not_allowed { IsOkUnless result StunWriteError.NotAllowed }
+        ensures not_allowed { IsErrOf result StunWriteError.NotAllowed
+            ↔ (is_channel_number channel ≡ false) }
+    {
+        if !is_channel_number(channel) {
+            return Err(StunWriteError::NotAllowed);
+        }
+        Ok(ChannelNumber { channel })
+    }
+
+    /// The number of the channel.
+    pub fn channel(&self) -> u16
+        ensures number { result ≡ self.now }
+        ensures from { 0x4000 ≤ result }
+        ensures below { result < 0x5000 }
+    {
+        self.channel
+    }
+}
+
+impl AttributeStaticType for ChannelNumber {
+    const TYPE: AttributeType = AttributeType(0x000C);
+
+    ghost static_kind = { CHANNEL_NUMBER };
+
+    fn static_type() -> AttributeType
+        ensures { result.0 ≡ CHANNEL_NUMBER }
+    {
+        Self::TYPE
+    }
+}
+
+impl Attribute for ChannelNumber {
+    ghost kind = { λ _. CHANNEL_NUMBER };
+
+    ghost value = { channel_value };
+
+    ghost is_well_formed = { IsChannel };
+
+    fn get_type(&self) -> AttributeType {
+        Self::TYPE
+    }
+
+    fn length(&self) -> usize {
+        // Read for the clause `well_formed`: the invariant bounds it.
+        let _channel = self.channel;
+        LENGTH
+    }
+
+    fn write_into<W: MessageWrite>(&self, writer: &mut W) {
+        let [high, low] = self.channel.to_be_bytes();
+        RawAttribute::new(Self::TYPE, &[high, low, 0, 0]).write_into(writer);
+    }
+}
+
+impl<'a> AttributeFromRaw<'a> for ChannelNumber {
+    ghost reading = { channel_of };
+
+    ghost reads_back = { channel_of-written };
+
+    fn from_raw(raw: RawAttribute<'a>) -> Result<Self, StunParseError> {
+        if raw.get_type() != Self::TYPE || raw.length() != LENGTH {
+            return Err(StunParseError::InvalidAttributeData);
+        }
+        let channel = BigEndian::read_u16(raw.value());
+        if !is_channel_number(channel) {
+            return Err(StunParseError::InvalidAttributeData);
+        }
+        Ok(ChannelNumber { channel })
+    }
+}

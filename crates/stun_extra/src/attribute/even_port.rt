@@ -1,0 +1,93 @@
+//! EVEN-PORT (RFC 8656, section 18.7).
+ghost use Rattle.std.specs.Prelude.{◌≡◌};
+ghost use Rattle.stun_extra.specs.AttributeTypes.{EVEN_PORT};
+ghost use Rattle.stun_extra.specs.Turn.{even_port_of, even_port_of-written, even_port_value};
+
+use std::marker::Model;
+use stun_base::error::StunParseError;
+use stun_types::attribute::{AttributeType, RawAttribute};
+use stun_types::prelude::*;
+
+/// The bit R.
+const RESERVE_NEXT: u8 = 0x80;
+
+/// EVEN-PORT (RFC 8656, section 18.7): the port is to be even, and the next one is to be reserved
+/// where the bit R is set. Contracts see that bit.
+#[derive(Clone, Copy, Debug, PartialEq, Eq)]
+pub struct EvenPort {
+    requested: bool,
+}
+
+impl Model for EvenPort {
+    ghost use Rattle.std.specs.Prelude.{Bool};
+
+    ghost Value = { Bool };
+
+    ghost view = { λ attribute. attribute.requested };
+
+    ghost inverse = { λ requested. record { requested = requested } };
+}
+
+impl EvenPort {
+    /// The attribute, with whether the next port is to be reserved.
+    pub fn new(requested: bool) -> Self
+        ensures { result ≡ requested }
+    {
+        EvenPort { requested }
+    }
+
+    /// Whether the next port is to be reserved.
+    pub fn requested(&self) -> bool
+        ensures { result ≡ self.now }
+    {
+        self.requested
+    }
+}
+
+impl AttributeStaticType for EvenPort {
+    const TYPE: AttributeType = AttributeType(0x0018);
+
+    ghost static_kind = { EVEN_PORT };
+
+    fn static_type() -> AttributeType
+        ensures { result.0 ≡ EVEN_PORT }
+    {
+        Self::TYPE
+    }
+}
+
+impl Attribute for EvenPort {
+    ghost kind = { λ _. EVEN_PORT };
+
+    ghost value = { even_port_value };
+
+    ghost is_well_formed = { λ _. Unit {0} };
+
+    fn get_type(&self) -> AttributeType {
+        Self::TYPE
+    }
+
+    fn length(&self) -> usize {
+        1
+    }
+
+    fn write_into<W: MessageWrite>(&self, writer: &mut W) {
+        let bits = if self.requested { RESERVE_NEXT } else { 0 };
+        RawAttribute::new(Self::TYPE, &[bits]).write_into(writer);
+    }
+}
+
+impl<'a> AttributeFromRaw<'a> for EvenPort {
+    ghost reading = { even_port_of };
+
+    ghost reads_back = { even_port_of-written };
+
+    fn from_raw(raw: RawAttribute<'a>) -> Result<Self, StunParseError> {
+        if raw.get_type() != Self::TYPE || raw.length() != 1 {
+            return Err(StunParseError::InvalidAttributeData);
+        }
+        Ok(EvenPort {
+            requested: raw.value()[0] >= RESERVE_NEXT,
+        })
+    }
+}

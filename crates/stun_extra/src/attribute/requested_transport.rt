@@ -1,0 +1,99 @@
+//! REQUESTED-TRANSPORT (RFC 8656, section 18.8).
+ghost use Rattle.std.specs.Prelude.{◌≡◌, ◌<◌, ◌^◌};
+ghost use Rattle.stun_extra.specs.AttributeTypes.{REQUESTED_TRANSPORT};
+ghost use Rattle.stun_extra.specs.Turn.{transport_of, transport_of-written, transport_value};
+
+use std::marker::Model;
+use stun_base::error::StunParseError;
+use stun_types::attribute::{AttributeType, RawAttribute};
+use stun_types::prelude::*;
+
+/// The number of bytes of the value: the protocol, and three that are reserved.
+const LENGTH: usize = 4;
+
+/// REQUESTED-TRANSPORT (RFC 8656, section 18.8): the protocol between server and peers, by its
+/// number in the header of IP. Contracts see the number.
+#[derive(Clone, Copy, Debug, PartialEq, Eq)]
+pub struct RequestedTransport {
+    protocol: u8,
+}
+
+impl Model for RequestedTransport {
+    ghost use Rattle.std.specs.Prelude.{ℕ};
+
+    ghost Value = { ℕ };
+
+    ghost view = { λ attribute. attribute.protocol };
+
+    ghost inverse = { λ protocol. record { protocol = protocol } };
+}
+
+impl RequestedTransport {
+    /// UDP, the protocol of RFC 8656.
+    pub const UDP: u8 = 17;
+    /// TCP, the protocol of RFC 6062.
+    pub const TCP: u8 = 6;
+
+    /// The attribute of this protocol.
+    pub fn new(protocol: u8) -> Self
+        ensures { result ≡ protocol }
+    {
+        RequestedTransport { protocol }
+    }
+
+    /// The number of the protocol.
+    pub fn protocol(&self) -> u8
+        ensures { result ≡ self.now }
+    {
+        self.protocol
+    }
+}
+
+impl AttributeStaticType for RequestedTransport {
+    const TYPE: AttributeType = AttributeType(0x0019);
+
+    ghost static_kind = { REQUESTED_TRANSPORT };
+
+    fn static_type() -> AttributeType
+        ensures { result.0 ≡ REQUESTED_TRANSPORT }
+    {
+        Self::TYPE
+    }
+}
+
+impl Attribute for RequestedTransport {
+    ghost kind = { λ _. REQUESTED_TRANSPORT };
+
+    ghost value = { transport_value };
+
+    ghost is_well_formed = { λ protocol. protocol < 2 ^ 8 };
+
+    fn get_type(&self) -> AttributeType {
+        Self::TYPE
+    }
+
+    fn length(&self) -> usize {
+        // Read for the clause `well_formed`: a field's type bounds it.
+        let _protocol = self.protocol;
+        LENGTH
+    }
+
+    fn write_into<W: MessageWrite>(&self, writer: &mut W) {
+        RawAttribute::new(Self::TYPE, &[self.protocol, 0, 0, 0]).write_into(writer);
+    }
+}
+
+impl<'a> AttributeFromRaw<'a> for RequestedTransport {
+    ghost reading = { transport_of };
+
+    ghost reads_back = { transport_of-written };
+
+    fn from_raw(raw: RawAttribute<'a>) -> Result<Self, StunParseError> {
+        if raw.get_type() != Self::TYPE || raw.length() != LENGTH {
+            return Err(StunParseError::InvalidAttributeData);
+        }
+        Ok(RequestedTransport {
+            protocol: raw.value()[0],
+        })
+    }
+}

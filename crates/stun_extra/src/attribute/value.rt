@@ -1,0 +1,58 @@
+//! What attributes share whose values have one form.
+ghost use Rattle.std.specs.Prelude.{◌≡◌, ◌≤◌, ◌+◌, ◌++◌};
+ghost use Rattle.byteorder.specs.Endian.{big_bytes};
+ghost use Rattle.stun_types.specs.Limits.{max_length};
+ghost use Rattle.stun_types.specs.Reading.{attribute_answer};
+ghost use Rattle.stun_extra.specs.Values.{flag_of, number_of};
+
+use byteorder::{BigEndian, ByteOrder};
+use stun_base::error::StunParseError;
+use stun_types::attribute::{AttributeType, RawAttribute};
+use stun_types::prelude::*;
+
+/// The number of 32 bits in a raw attribute of this type, or `InvalidAttributeData`.
+pub(super) fn read_u32(raw: &RawAttribute<'_>, kind: AttributeType) -> Result<u32, StunParseError>
+    ensures { result ≡ attribute_answer (number_of kind.0 4 raw.now) }
+{
+    if raw.get_type() != kind || raw.length() != 4 {
+        return Err(StunParseError::InvalidAttributeData);
+    }
+    Ok(BigEndian::read_u32(raw.value()))
+}
+
+/// The number of 64 bits in a raw attribute of this type, or `InvalidAttributeData`.
+pub(super) fn read_u64(raw: &RawAttribute<'_>, kind: AttributeType) -> Result<u64, StunParseError>
+    ensures { result ≡ attribute_answer (number_of kind.0 8 raw.now) }
+{
+    if raw.get_type() != kind || raw.length() != 8 {
+        return Err(StunParseError::InvalidAttributeData);
+    }
+    Ok(BigEndian::read_u64(raw.value()))
+}
+
+/// Nothing, of a raw attribute of this type with an empty value, or `InvalidAttributeData`.
+pub(super) fn read_flag(raw: &RawAttribute<'_>, kind: AttributeType) -> Result<(), StunParseError>
+    ensures { result ≡ attribute_answer (flag_of kind.0 raw.now) }
+{
+    if raw.get_type() != kind || raw.length() != 0 {
+        return Err(StunParseError::InvalidAttributeData);
+    }
+    Ok(())
+}
+
+/// Appends the type of an attribute, and the length of its value.
+pub(super) fn append_header<W: MessageWrite>(
+    writer: &mut W,
+    kind: AttributeType,
+    value_length: usize,
+)
+    requires fits { value_length ≤ max_length }
+    requires reserved { 4 ≤ W.reserved writer.old }
+    ensures bytes { W.bytes writer.new
+        ≡ W.bytes writer.old ++ big_bytes 2 kind.0 ++ big_bytes 2 value_length }
+    ensures room { W.room writer.new + 4 ≡ W.room writer.old }
+    ensures reserved { W.reserved writer.new + 4 ≡ W.reserved writer.old }
+{
+    writer.append(&kind.value().to_be_bytes());
+    writer.append(&(value_length as u16).to_be_bytes());
+}

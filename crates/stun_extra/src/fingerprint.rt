@@ -1,0 +1,128 @@
+//! FINGERPRINT (RFC 8489, section 14.7): written at the end of a message, and checked.
+ghost use Rattle.std.specs.Prelude.{◌≡◌, ◌≤◌, ℕ, false, List, length, IfOk, IsOk, IsOkUnless, MatchOption, None, Err};
+ghost use Rattle.stun_base.specs.Attributes.{FINGERPRINT};
+ghost use Rattle.stun_base.specs.declared.algorithm.IntegrityAlgorithm.{IntegrityAlgorithm};
+ghost use Rattle.stun_types.specs.Integrity.{first_of, verified_by};
+ghost use Rattle.stun_types.specs.Message.{IsMessage};
+ghost use Rattle.stun_types.specs.Visible.{visible};
+ghost use Rattle.stun_types.specs.Writing.{HasOneMore};
+ghost use Rattle.stun_extra.specs.Fingerprint.{fingerprint_at, fingerprint_attribute, fingerprint_in, fingerprint_number, fingerprint_refusal, with_fingerprint};
+
+use crate::crc32::crc32;
+use byteorder::{BigEndian, ByteOrder};
+use stun_base::attribute_type::AttributeType;
+use stun_base::error::StunWriteError;
+use stun_base::header::HEADER_LENGTH;
+use stun_types::attribute::RawAttribute;
+use stun_types::limits::MAX_LENGTH;
+use stun_types::message::Message;
+use stun_types::prelude::*;
+
+/// The number with which the CRC-32 of a message is XORed (RFC 8489, section 14.7).
+const FINGERPRINT_XOR: u32 = 0x5354_554E;
+
+/// The number of bytes of a FINGERPRINT with its type and its length.
+pub const FINGERPRINT_LENGTH: usize = 8;
+
+/// What the FINGERPRINT of a message is.
+#[derive(Clone, Copy, Debug, PartialEq, Eq)]
+pub enum Fingerprint {
+    /// That of the message before it.
+    Right,
+    /// Another number: the message is damaged, or is no message of STUN.
+    Wrong,
+    /// Not the last attribute, or not of four bytes.
+    Misplaced,
+    /// There is none.
+    Absent,
+}
+
+/// What the FINGERPRINT of a message is. It does not allocate.
+pub fn check_fingerprint(message: &Message<'_>) -> Fingerprint
+    ensures { result ≡ fingerprint_in message.now }
+{
+    match first_fingerprint(message) {
+        Some((place, attribute)) => fingerprint_at(message.as_bytes(), place, &attribute),
+        None => Fingerprint::Absent,
+    }
+}
+
+/// The first FINGERPRINT of a message, with its place.
+fn first_fingerprint<'a>(message: &Message<'a>) -> Option<(usize, RawAttribute<'a>)>
+    ensures { result ≡ first_of FINGERPRINT (visible message.now) }
+{
+    message
+        .iter_attributes()
+        .find(|found| found.1.get_type() == AttributeType::FINGERPRINT)
+}
+
+/// What the FINGERPRINT at this place of a message is.
+fn fingerprint_at(message: &[u8], place: usize, attribute: &RawAttribute<'_>) -> Fingerprint
+    ensures { result ≡ fingerprint_at message.now (place, attribute.now) }
+{
+    let value = attribute.value();
+    if value.len() != 4
+        || message.len() < FINGERPRINT_LENGTH
+        || message.len() - FINGERPRINT_LENGTH != place
+    {
+        return Fingerprint::Misplaced;
+    }
+    if BigEndian::read_u32(value) == fingerprint_number(&message[..place]) {
+        Fingerprint::Right
+    } else {
+        Fingerprint::Wrong
+    }
+}
+
+/// The number in a FINGERPRINT after these bytes of a message.
+fn fingerprint_number(bytes: &[u8]) -> u32
+    ensures { result ≡ fingerprint_number bytes.now }
+{
+    crc32(bytes) ^ FINGERPRINT_XOR
+}
+
+/// Adds FINGERPRINT to a message and ends the writing, so that nothing comes behind it.
+///
+/// The message may be signed before: its digest verifies as it did, since it covers only what is before it, and a length that
+/// ends after it. It refuses by the first of these: the message has a FINGERPRINT (`AttributeExists`), it would be longer than
+/// 65532 bytes after its header (`TooLarge`), no room for 8 bytes (`TooSmall`), an allocation fails (`OutOfMemory`). A refusal
+/// drops the writer.
+pub fn finish_with_fingerprint<W: MessageWrite>(mut writer: W) -> Result<W::Output, StunWriteError>
+    requires { 20 ≤ length (W.bytes writer) }
+
+    // The first reason that holds is answered, and with no reason only an allocation can fail.
+    ensures refused { MatchOption (fingerprint_refusal (W.bytes writer) (W.room writer))
+        (IsOkUnless result StunWriteError.OutOfMemory)
+        (λ reason. result ≡ Err reason) }
+
+    // Where it is reserved already nothing fails.
+    ensures succeeds { fingerprint_refusal (W.bytes writer) (W.room writer) ≡ None
+        → 8 ≤ W.reserved writer → IsOk result }
+    ensures bytes { IfOk result (λ output. W.Output.contents output
+        ≡ with_fingerprint (W.bytes writer)) }
+
+    // Reading finds what it found before, and FINGERPRINT after it.
+    ensures added { IfOk result (λ output. IsMessage (W.bytes writer)
+        → HasOneMore (W.bytes writer) (W.Output.contents output)
+        (fingerprint_attribute (W.bytes writer))) }
+    ensures right { IfOk result (λ output. IsMessage (W.bytes writer)
+        → fingerprint_in (W.Output.contents output) ≡ Fingerprint.Right) }
+
+    // A digest in it verifies, or does not, as before.
+    ensures verdict { IfOk result (λ output. IsMessage (W.bytes writer)
+        → (keys : IntegrityAlgorithm → List ℕ)
+        → verified_by keys (W.Output.contents output) ≡ verified_by keys (W.bytes writer)) }
+{
+    if writer.has_attribute(AttributeType::FINGERPRINT) {
+        return Err(StunWriteError::AttributeExists(AttributeType::FINGERPRINT));
+    }
+    let message_length = writer.data().len() - HEADER_LENGTH + FINGERPRINT_LENGTH;
+    if message_length > MAX_LENGTH {
+        return Err(StunWriteError::TooLarge);
+    }
+    writer.reserve(FINGERPRINT_LENGTH)?;
+    writer.set_length(message_length as u16);
+    let value = fingerprint_number(writer.data()).to_be_bytes();
+    RawAttribute::new(AttributeType::FINGERPRINT, &value).write_into(&mut writer);
+    Ok(writer.finish())
+}

@@ -1,0 +1,71 @@
+//! Laws. A law is a function whose contract is the law; it does nothing.
+ghost use Rattle.std.specs.Prelude.{◌≡◌, ◌≤◌, ◌<◌, ◌^◌, ℕ, Some, List, ◌∷◌, ◌++◌, filter, length, cond, ◌==◌};
+ghost use Rattle.std.specs.List.{AllByRecursion, concat, list_any};
+ghost use Rattle.stun_base.specs.Attributes.{FINGERPRINT};
+ghost use Rattle.stun_types.specs.Integrity.{first_of};
+ghost use Rattle.stun_types.specs.Message.{IsMessage};
+ghost use Rattle.stun_types.specs.Visible.{visible};
+ghost use Rattle.stun_types.specs.Walk.{Member};
+ghost use Rattle.stun_extra.specs.Crc32.{crc32};
+ghost use Rattle.stun_extra.specs.Fingerprint.{fingerprint_in};
+ghost use Rattle.stun_extra.specs.Framing.{IsLeftOver, IsPartBy, IsPartOf, channel_data, cut, fed, frame_of, framed_packet, packet_frame_of, turn_frame_of};
+ghost use Rattle.stun_extra.specs.Unknown.{once};
+ghost use Rattle.stun_extra.specs.declared.fingerprint.Fingerprint.{Fingerprint};
+ghost use Rattle.stun_extra.specs.declared.framing.Frame.{Frame};
+
+/// Bytes that differ in one byte have different CRC-32.
+pub fn one_changed_byte_changes_the_crc()
+    ensures { (front behind : List ℕ) (byte other : ℕ) → byte < 256 → other < 256
+        → crc32 (front ++ byte ∷ behind) ≡ crc32 (front ++ other ∷ behind) → byte ≡ other }
+{}
+
+/// Of two messages with the same FINGERPRINT at the same place that differ in one byte before it, one at most is right.
+pub fn one_changed_byte_makes_fingerprint_wrong()
+    ensures { (front behind : List ℕ) (byte other : ℕ) (m : Member)
+        → byte < 256 → other < 256 → length front < m.0
+        → first_of FINGERPRINT (visible (front ++ byte ∷ behind)) ≡ Some m
+        → first_of FINGERPRINT (visible (front ++ other ∷ behind)) ≡ Some m
+        → fingerprint_in (front ++ byte ∷ behind) ≡ Fingerprint.Right
+        → fingerprint_in (front ++ other ∷ behind) ≡ Fingerprint.Right
+        → byte ≡ other }
+{}
+
+/// A list with each number once has the numbers of the list, and each of them one time.
+pub fn each_number_is_there_once()
+    ensures { (x : ℕ) (xs : List ℕ) → length (filter (λ y. y == x) (once xs))
+        ≡ cond (list_any (λ y. y == x) xs) 1 0 }
+{}
+
+/// A stream of messages is cut into exactly these messages, whatever the pieces are in which it comes.
+pub fn stream_is_cut_into_its_messages()
+    ensures whole { (message rest : List ℕ) → IsMessage message
+        → frame_of (message ++ rest) ≡ Frame.Message (length message) }
+    ensures begun { (message : List ℕ) (n : ℕ) → IsMessage message → n < length message
+        → IsPartOf message n }
+    ensures cut { (messages : List (List ℕ)) (rest : List ℕ)
+        → AllByRecursion IsMessage messages → IsLeftOver rest
+        → cut (concat messages ++ rest) ≡ record { messages = messages; rest = rest } }
+    ensures fed { (bytes more : List ℕ) → cut (bytes ++ more) ≡ fed (cut bytes) more }
+{}
+
+/// A packet behind its length is cut off whole, and a part of it wants more.
+pub fn packet_is_framed()
+    ensures whole { (packet rest : List ℕ) → length packet < 2 ^ 16
+        → packet_frame_of (framed_packet packet ++ rest) ≡ Frame.Message (length (framed_packet packet)) }
+    ensures begun { (packet : List ℕ) (n : ℕ) → length packet < 2 ^ 16
+        → n < length (framed_packet packet) → IsPartBy packet_frame_of (framed_packet packet) n }
+{}
+
+/// Where messages and ChannelData come, each is cut off whole, and a part of ChannelData wants more.
+pub fn turn_is_framed()
+    ensures message { (message rest : List ℕ) → IsMessage message
+        → turn_frame_of (message ++ rest) ≡ Frame.Message (length message) }
+    ensures channel { (channel : ℕ) (bytes rest : List ℕ)
+        → 0x4000 ≤ channel → channel < 0x5000 → length bytes < 2 ^ 16
+        → turn_frame_of (channel_data channel bytes ++ rest)
+        ≡ Frame.Message (length (channel_data channel bytes)) }
+    ensures begun { (channel : ℕ) (bytes : List ℕ) (n : ℕ)
+        → 0x4000 ≤ channel → channel < 0x5000 → length bytes < 2 ^ 16
+        → n < length (channel_data channel bytes)
+        → IsPartBy turn_frame_of (channel_data channel bytes) n }
+{}

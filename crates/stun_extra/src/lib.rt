@@ -1,0 +1,12 @@
+//! What stands beside the library: FINGERPRINT, unknown attributes, streams of messages (RFC 8489),
+//! and further attributes, of STUN, of ICE (RFC 8445) and of TURN (RFC 8656).
+#![tactic(auto)]
+
+pub mod attribute;
+pub mod crc32;
+pub mod fingerprint;
+pub mod framing;
+pub mod laws;
+mod told;
+pub mod turn;
+pub mod unknown;

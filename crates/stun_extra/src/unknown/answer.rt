@@ -1,0 +1,125 @@
+//! What a server answers to unknown types, and what a client makes of them (RFC 8489, sections
+//! 6.3.1, 6.3.3 and 6.3.4).
+ghost use Rattle.std.specs.Prelude.{◌≡◌, ◌≤◌, ◌<◌, ◌↔◌, [], Ok, None, IfOk, IfSome, IsErrOf, IsOkUnless, IsSome, IsTrue, length};
+ghost use Rattle.stun_base.specs.Attributes.{ERROR_CODE};
+ghost use Rattle.stun_types.specs.Integrity.{first_of};
+ghost use Rattle.stun_types.specs.Visible.{visible};
+ghost use Rattle.stun_types.specs.Writing.{IsOpen};
+ghost use Rattle.stun_extra.specs.Unknown.{EndsFailed, IsRefused, refusing_answer};
+
+use crate::unknown::attribute::unknown_count;
+use crate::unknown::{UnknownAttributes, has_unknown};
+use stun_base::attribute_type::AttributeType;
+use stun_base::error::StunWriteError;
+use stun_base::header::HEADER_LENGTH;
+use stun_base::message_type::MessageClass;
+use stun_types::attribute::{ErrorCode, RawAttribute, attribute_length};
+use stun_types::message::Message;
+use stun_types::prelude::*;
+
+/// The code of an error response to a request with unknown types (RFC 8489, section 14.8).
+pub const UNKNOWN_ATTRIBUTE: u16 = 420;
+
+/// The number of bytes that ERROR-CODE with this code and its phrase takes.
+const ERROR_LENGTH: usize = 28;
+
+/// The answer to a request that has unknown attributes, in an empty writer: an error response with
+/// the code 420 and the types of the visible attributes that must be understood and are not among
+/// these (RFC 8489, section 6.3.1). It can be added to and signed.
+///
+/// `Ok(None)` drops the writer: the request has no such attribute, or the message is no request. It
+/// refuses by `TooSmall` where the writer has no room for the answer, else by `OutOfMemory` where
+/// an allocation fails. A refusal drops the writer.
+pub fn answer_unknown<W: MessageWrite>(
+    request: &Message<'_>,
+    known: &[AttributeType],
+    writer: W,
+) -> Result<Option<W>, StunWriteError>
+    requires { W.bytes writer ≡ [] }
+    ensures passed { (IsRefused known.now request.now → ⊥) → result ≡ Ok None }
+    ensures answered { IfOk result (λ answer. IsRefused known.now request.now → IsSome answer) }
+    ensures bytes { IfOk result (λ answer. IfSome answer (λ built. W.bytes built
+        ≡ refusing_answer known.now request.now)) }
+    ensures open { IfOk result (λ answer. IfSome answer (λ built. IsOpen (W.bytes built))) }
+    ensures too_small { IsErrOf result StunWriteError.TooSmall
+        ↔ (IsRefused known.now request.now
+        × (W.room writer < length (refusing_answer known.now request.now))) }
+    ensures otherwise_memory { length (refusing_answer known.now request.now) ≤ W.room writer
+        → IsOkUnless result StunWriteError.OutOfMemory }
+{
+    if !request.has_class(MessageClass::Request) || !has_unknown(request, known) {
+        return Ok(None);
+    }
+    Ok(Some(write_refusal(request, known, writer)?))
+}
+
+/// Writes the answer to a request whose types are not all known.
+fn write_refusal<W: MessageWrite>(
+    request: &Message<'_>,
+    known: &[AttributeType],
+    writer: W,
+) -> Result<W, StunWriteError>
+    requires { W.bytes writer ≡ [] }
+    ensures bytes { IfOk result (λ built. W.bytes built ≡ refusing_answer known.now request.now) }
+    ensures open { IfOk result (λ built. IsOpen (W.bytes built)) }
+    ensures too_small { IsErrOf result StunWriteError.TooSmall
+        ↔ (W.room writer < length (refusing_answer known.now request.now)) }
+    ensures otherwise_memory { length (refusing_answer known.now request.now) ≤ W.room writer
+        → IsOkUnless result StunWriteError.OutOfMemory }
+{
+    if writer.room() < refusal_length(request, known) {
+        return Err(StunWriteError::TooSmall);
+    }
+    match write_parts(request, known, writer) {
+        Ok(answer) => Ok(answer),
+        // There is room for all of it, so that an allocation failed.
+        Err(_) => Err(StunWriteError::OutOfMemory),
+    }
+}
+
+/// Writes the header, ERROR-CODE and UNKNOWN-ATTRIBUTES.
+fn write_parts<W: MessageWrite>(
+    request: &Message<'_>,
+    known: &[AttributeType],
+    writer: W,
+) -> Result<W, StunWriteError>
+    requires { W.bytes writer ≡ [] }
+    ensures bytes { IfOk result (λ built. W.bytes built ≡ refusing_answer known.now request.now) }
+    ensures open { IfOk result (λ built. IsOpen (W.bytes built)) }
+{
+    let error = ErrorCode::builder(UNKNOWN_ATTRIBUTE)
+        .reason("Unknown Attribute")
+        .build()?;
+    let mut answer = Message::builder_error(request, writer)?;
+    answer.add_attribute(&error)?;
+    answer.add_attribute(&UnknownAttributes::of(request, known))?;
+    Ok(answer)
+}
+
+/// The number of bytes of that answer.
+fn refusal_length(request: &Message<'_>, known: &[AttributeType]) -> usize
+    ensures { result ≡ length (refusing_answer known.now request.now) }
+{
+    HEADER_LENGTH + ERROR_LENGTH + attribute_length(2 * unknown_count(request, known))
+}
+
+/// Whether a response ends its transaction as failed, whatever else it says: it has a visible
+/// attribute that must be understood and whose type is not among these, or it is an error response
+/// without ERROR-CODE (RFC 8489, sections 6.3.3 and 6.3.4).
+pub fn ends_failed(response: &Message<'_>, known: &[AttributeType]) -> bool
+    ensures { IsTrue result ↔ EndsFailed known.now response.now }
+{
+    if has_unknown(response, known) {
+        return true;
+    }
+    response.has_class(MessageClass::Error) && first_error_code(response).is_none()
+}
+
+/// The first visible ERROR-CODE of a message, with its place.
+fn first_error_code<'a>(message: &Message<'a>) -> Option<(usize, RawAttribute<'a>)>
+    ensures { result ≡ first_of ERROR_CODE (visible message.now) }
+{
+    message
+        .iter_attributes()
+        .find(|found| found.1.get_type() == AttributeType::ERROR_CODE)
+}

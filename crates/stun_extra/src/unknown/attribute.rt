@@ -1,0 +1,222 @@
+//! UNKNOWN-ATTRIBUTES (RFC 8489, section 14.13).
+ghost use Rattle.std.specs.Prelude.{◌≡◌, ◌≤◌, ◌<◌, ◌+◌, ◌*◌, ◌%◌, ◌^◌, ◌++◌, ◌↔◌, ℕ, [], IsTrue, min, length, slice_index};
+ghost use Rattle.std.specs.List.{slice_get};
+ghost use Rattle.stun_extra.specs.AttributeTypes.{UNKNOWN_ATTRIBUTES};
+ghost use Rattle.stun_extra.specs.Unknown.{AreTypes, spelled_types, types_in, unknown_attributes_in, unknown_attributes_in-written, unknown_types};
+
+use crate::unknown::unknown_types;
+use byteorder::{BigEndian, ByteOrder};
+use std::marker::Model;
+use stun_base::attribute_type::AttributeType;
+use stun_base::error::StunParseError;
+use stun_types::attribute::RawAttribute;
+use stun_types::message::Message;
+use stun_types::prelude::*;
+
+/// The number of bytes of a type.
+const TYPE_LENGTH: usize = 2;
+
+/// Where the types are.
+#[derive(Clone, Copy, Debug)]
+enum Source<'a> {
+    /// Those of a message that must be understood and are not among the known ones.
+    OfMessage(&'a Message<'a>, &'a [AttributeType]),
+    /// In a message that has the attribute.
+    Received(&'a [u8]),
+}
+
+/// UNKNOWN-ATTRIBUTES (RFC 8489, section 14.13): the types of a request that must be understood and
+/// that the server does not know, as the server finds them there, or as a client reads them in an
+/// answer with the error 420. Contracts see the list of types.
+#[derive(Debug, Drop)]
+pub struct UnknownAttributes<'a> {
+    source: Source<'a>,
+}
+
+impl<'a> Model for UnknownAttributes<'a> {
+    ghost use Rattle.std.specs.Prelude.{List};
+    ghost use Rattle.stun_base.specs.declared.attribute_type.AttributeType.{AttributeType};
+
+    ghost Value = { List AttributeType };
+
+    ghost use Rattle.stun_extra.specs.code.UnknownSource.{IsEven, types_at};
+
+    ghost view = { λ attribute. types_at attribute.source };
+
+    ghost invariant = { λ attribute. IsEven attribute.source };
+}
+
+/// The type of this index, where there are so many.
+fn type_at(bytes: &[u8], i: usize) -> Option<AttributeType>
+    ensures { result ≡ slice_get (types_in bytes.now) i }
+{
+    if i >= bytes.len() / TYPE_LENGTH {
+        return None;
+    }
+    Some(AttributeType::new(BigEndian::read_u16(&bytes[TYPE_LENGTH * i..])))
+}
+
+/// Bytes are below 256.
+fn bytes_fit(bytes: &[u8])
+    ensures { (i : ℕ) → slice_index bytes.now i < 2 ^ 8 }
+{}
+
+/// The number of types of a message that are not known.
+pub(super) fn unknown_count(message: &Message<'_>, known: &[AttributeType]) -> usize
+    ensures value { result ≡ length (unknown_types known.now message.now) }
+    ensures few { result < 2 ^ 14 }
+    ensures fit { AreTypes (unknown_types known.now message.now) }
+{
+    // The types are in these bytes.
+    let _bytes = message.as_bytes();
+    bytes_fit(_bytes);
+    unknown_types(message, known).count()
+}
+
+/// The number of types that bytes spell.
+fn type_count(bytes: &[u8]) -> usize
+    ensures value { result ≡ length (types_in bytes.now) }
+    ensures fit { AreTypes (types_in bytes.now) }
+{
+    bytes.len() / TYPE_LENGTH
+}
+
+impl<'a> UnknownAttributes<'a> {
+    /// The attribute of the types of a message that must be understood and that are not among
+    /// these. It does not allocate.
+    pub fn of(message: &'a Message<'a>, known: &'a [AttributeType]) -> Self
+        ensures { result ≡ unknown_types known.now message.now }
+    {
+        UnknownAttributes {
+            source: Source::OfMessage(message, known),
+        }
+    }
+
+    /// Whether there is no such type.
+    pub fn is_empty(&self) -> bool
+        ensures { IsTrue result ↔ (self.now ≡ []) }
+    {
+        match self.source {
+            Source::OfMessage(message, known) => unknown_types(message, known).next().is_none(),
+            Source::Received(bytes) => type_count(bytes) == 0,
+        }
+    }
+
+    /// The number of types.
+    pub fn len(&self) -> usize
+        ensures value { result ≡ length self.now }
+        ensures fit { AreTypes self.now }
+    {
+        match self.source {
+            Source::OfMessage(message, known) => unknown_count(message, known),
+            Source::Received(bytes) => type_count(bytes),
+        }
+    }
+
+    /// The type of this index, counted from 0. Of an attribute that was read each is found at once,
+    /// else by a walk over the message.
+    pub fn get(&self, i: usize) -> Option<AttributeType>
+        ensures { result ≡ slice_get self.now i }
+    {
+        match self.source {
+            Source::OfMessage(message, known) => unknown_types(message, known).nth(i),
+            Source::Received(bytes) => type_at(bytes, i),
+        }
+    }
+
+    /// Appends the types.
+    fn append_types<W: MessageWrite>(&self, writer: &mut W)
+        requires { 2 * length self.now ≤ W.reserved writer.old }
+        ensures bytes { W.bytes writer.new ≡ W.bytes writer.old ++ spelled_types self.now }
+        ensures room { W.room writer.new + 2 * length self.now ≡ W.room writer.old }
+        ensures reserved { W.reserved writer.new + 2 * length self.now ≡ W.reserved writer.old }
+    {
+        match self.source {
+            Source::OfMessage(message, known) => append_unknown(message, known, writer),
+            Source::Received(bytes) => append_received(bytes, writer),
+        }
+    }
+}
+
+/// Appends the types of a message that are not known.
+fn append_unknown<W: MessageWrite>(message: &Message<'_>, known: &[AttributeType], writer: &mut W)
+    requires { 2 * length (unknown_types known.now message.now) ≤ W.reserved writer.old }
+    ensures bytes { W.bytes writer.new
+        ≡ W.bytes writer.old ++ spelled_types (unknown_types known.now message.now) }
+    ensures room { W.room writer.new + 2 * length (unknown_types known.now message.now)
+        ≡ W.room writer.old }
+    ensures reserved { W.reserved writer.new + 2 * length (unknown_types known.now message.now)
+        ≡ W.reserved writer.old }
+{
+    for kind in unknown_types(message, known) {
+        writer.append(&kind.value().to_be_bytes());
+    }
+}
+
+/// Appends the types that bytes spell.
+fn append_received<W: MessageWrite>(bytes: &[u8], writer: &mut W)
+    requires even { length bytes.now % 2 ≡ 0 }
+    requires reserved { 2 * length (types_in bytes.now) ≤ W.reserved writer.old }
+    ensures bytes { W.bytes writer.new ≡ W.bytes writer.old ++ spelled_types (types_in bytes.now) }
+    ensures room { W.room writer.new + 2 * length (types_in bytes.now) ≡ W.room writer.old }
+    ensures reserved { W.reserved writer.new + 2 * length (types_in bytes.now)
+        ≡ W.reserved writer.old }
+{
+    writer.append(bytes);
+}
+
+impl<'a> AttributeStaticType for UnknownAttributes<'a> {
+    const TYPE: AttributeType = super::UNKNOWN_ATTRIBUTES;
+
+    ghost static_kind = { UNKNOWN_ATTRIBUTES };
+
+    fn static_type() -> AttributeType
+        ensures { result.0 ≡ UNKNOWN_ATTRIBUTES }
+    {
+        Self::TYPE
+    }
+}
+
+impl<'a> Attribute for UnknownAttributes<'a> {
+    ghost kind = { λ _. UNKNOWN_ATTRIBUTES };
+
+    ghost value = { λ types. spelled_types types };
+
+    ghost is_well_formed = { AreTypes };
+
+    fn get_type(&self) -> AttributeType {
+        Self::TYPE
+    }
+
+    #[tactic(auto, using(crate::proofs::UnknownLemmas::length_of_types))]
+    fn length(&self) -> usize {
+        self.len().saturating_mul(TYPE_LENGTH)
+    }
+
+    #[tactic(auto, using(crate::proofs::UnknownLemmas::length_of_types))]
+    fn write_into<W: MessageWrite>(&self, writer: &mut W) {
+        let count = self.len();
+        writer.append(&Self::TYPE.value().to_be_bytes());
+        writer.append(&((TYPE_LENGTH * count) as u16).to_be_bytes());
+        self.append_types(writer);
+        if count % 2 == 1 {
+            writer.append(&[0, 0]);
+        }
+    }
+}
+
+impl<'a> AttributeFromRaw<'a> for UnknownAttributes<'a> {
+    ghost reading = { unknown_attributes_in };
+
+    ghost reads_back = { unknown_attributes_in-written };
+
+    fn from_raw(raw: RawAttribute<'a>) -> Result<Self, StunParseError> {
+        let bytes = raw.value();
+        if raw.get_type() != Self::TYPE || bytes.len() % TYPE_LENGTH != 0 {
+            return Err(StunParseError::InvalidAttributeData);
+        }
+        Ok(UnknownAttributes {
+            source: Source::Received(bytes),
+        })
+    }
+}

@@ -1,0 +1,14 @@
+-- What is known of a message that is to be signed in its buffer.
+use Rattle.std.specs.Prelude.{◌≡◌, ◌≤◌, ◌+◌, ℕ, Bool, List, length, take}
+use Rattle.stun_types.specs.Limits.{LENGTH_LIMIT}
+use Rattle.stun_types.specs.Message.{IsMessage}
+use Rattle.stun_state.specs.Signing.{is_too_long}
+
+-- the first `count` bytes of a buffer are a message, the buffer has room for as many bytes more, and whether the message is too
+-- long then is known
+pub record IsMeasured (buffer : List ℕ) (count more : ℕ) (is_long : Bool) : Type 0 where
+  pub within : count ≤ length buffer
+  pub is_message : IsMessage (take count buffer)
+  pub limit : length (take count buffer) ≤ LENGTH_LIMIT
+  pub room : length (take count buffer) + more ≤ length buffer
+  pub long : is_long ≡ is_too_long (take count buffer) more

@@ -1,0 +1,267 @@
+//! Driven agents: `drive NAME WORDS`. Events are collected, one call drives an agent by them, and
+//! then its steps are told one by one.
+//!
+//! A run that is refused memory stops after some of its events, and its steps are lost. Where the
+//! run is made again it goes on with the events that are left. The lost steps are then told by a
+//! twin of the agent, which is driven by all events in ample memory; so the run, its last steps and
+//! the state that it leaves must be as written.
+
+mod by_hand;
+mod event;
+mod order;
+mod step;
+
+use crate::drive::by_hand::run_by_hand;
+use crate::drive::event::event;
+use crate::drive::order::run_over;
+use crate::drive::step::{error_name, push_moment, text_of};
+use crate::runs::Runs;
+use player::kept::message;
+use player::names::OUT_OF_MEMORY;
+use player::stage::Heap;
+use player::trouble::Trouble;
+use player::words::{address, moment};
+use std::alloc::{Allocator, Global};
+use std::net::{IpAddr, Ipv4Addr, SocketAddr};
+use stun_agent::agent::{StunAgent, StunError};
+use stun_base::instant::Instant;
+use stun_base::transport::TransportType;
+use stun_proto::replay::{AgentEvent, AgentStep, Stopped};
+
+/// An agent, what happens to it, and what it does.
+#[derive(Drop)]
+pub struct Drive<'a> {
+    alloc: Global,
+    heap: &'a Heap,
+    transport: TransportType,
+    agent: StunAgent<&'a Heap>,
+    /// The agent in ample memory, which is not driven before a run is broken.
+    twin: StunAgent,
+    events: Vec<(Instant, AgentEvent)>,
+    /// How many events have come.
+    come: usize,
+    steps: Vec<String>,
+    /// How many steps are told.
+    told: usize,
+    /// Whether the last run was refused memory.
+    is_broken: bool,
+}
+
+/// The address that requests go to where no other is named.
+fn usual_peer() -> SocketAddr {
+    SocketAddr::new(IpAddr::V4(Ipv4Addr::new(10, 0, 0, 2)), 3478)
+}
+
+/// A new agent, which counts.
+fn new_agent<A: Allocator + Copy>(alloc: A, transport: TransportType) -> StunAgent<A> {
+    let local = SocketAddr::new(IpAddr::V4(Ipv4Addr::new(10, 0, 0, 1)), 12345);
+    StunAgent::builder(alloc, transport, local)
+        .stats(true)
+        .build()
+}
+
+impl<'a> Drive<'a> {
+    pub fn new(alloc: Global, heap: &'a Heap) -> Drive<'a> {
+        Drive::over(alloc, heap, TransportType::Udp)
+    }
+
+    fn over(alloc: Global, heap: &'a Heap, transport: TransportType) -> Drive<'a> {
+        Drive {
+            alloc,
+            heap,
+            transport,
+            agent: new_agent(heap, transport),
+            twin: new_agent(alloc, transport),
+            events: Vec::new(alloc),
+            come: 0,
+            steps: Vec::new(alloc),
+            told: 0,
+            is_broken: false,
+        }
+    }
+
+    fn add(&mut self, moment: Instant, event: AgentEvent) -> Result<(), Trouble> {
+        match self.events.push((moment, event)) {
+            Ok(()) => Ok(()),
+            Err(_) => Err(Trouble::Memory),
+        }
+    }
+
+    /// Drives the agent by the events that are left. Events out of order are no run.
+    fn run(
+        &mut self,
+        until: Instant,
+    ) -> Result<Result<Vec<AgentStep<&'a Heap>, &'a Heap>, Stopped>, Trouble> {
+        match self.events.get(self.come..) {
+            Some(events) => run_over(self.heap, &mut self.agent, events, until),
+            None => Err(Trouble::Words),
+        }
+    }
+
+    /// A run was refused memory after so many of its events.
+    fn stop(&mut self, stopped: Stopped) {
+        self.come = self.come.saturating_add(stopped.done);
+        self.is_broken = true;
+    }
+
+    fn keep<A: Allocator>(&mut self, step: &AgentStep<A>) -> Result<(), Trouble> {
+        let text = text_of(self.alloc, step)?;
+        match self.steps.push(text) {
+            Ok(()) => Ok(()),
+            Err(_) => Err(Trouble::Memory),
+        }
+    }
+
+    /// Keeps the steps that a broken run lost, before so many that are given.
+    fn keep_lost(&mut self, until: Instant, given: usize) -> Result<(), Trouble> {
+        let events = self.events.as_slice();
+        let Ok(whole) = run_over(self.alloc, &mut self.twin, events, until)? else {
+            return Err(Trouble::Memory);
+        };
+        let kept = self.steps.len();
+        let before = whole.len().saturating_sub(given);
+        for step in whole.iter().take(before).skip(kept) {
+            self.keep(step)?;
+        }
+        Ok(())
+    }
+
+    /// Keeps the steps of a run, and answers how many they are.
+    fn finish(&mut self, until: Instant, given: &[AgentStep<&'a Heap>]) -> Result<usize, Trouble> {
+        let before = self.steps.len();
+        if self.is_broken {
+            self.keep_lost(until, given.len())?;
+        }
+        for step in given {
+            self.keep(step)?;
+        }
+        self.come = self.events.len();
+        self.is_broken = false;
+        Ok(self.steps.len().saturating_sub(before))
+    }
+}
+
+/// `drive NAME WORDS`
+pub fn call(
+    runs: &mut Runs<'_>,
+    name: &str,
+    words: &[&str],
+    answer: &mut String,
+) -> Result<(), Trouble> {
+    match (name, words) {
+        ("udp", []) => begin(runs, TransportType::Udp),
+        ("tcp", []) => begin(runs, TransportType::Tcp),
+        ("event", words) => {
+            let event = event(&runs.scene.stage, words)?;
+            runs.drive.add(runs.scene.stage.now, event)
+        }
+        ("asks", words) => ask(runs, words, answer),
+        ("until", [word]) => run(runs, moment(word)?, answer),
+        ("step", []) => tell_step(&mut runs.drive, answer),
+        ("awaited", []) => awaited(&runs.drive, answer),
+        ("is-validated", [word]) => is_validated(&runs.drive, word, answer),
+        ("by-hand", ["until", word]) => compare(&runs.drive, moment(word)?, answer),
+        _ => Err(Trouble::Words),
+    }
+}
+
+/// `drive udp` or `drive tcp`: a new agent.
+fn begin(runs: &mut Runs<'_>, transport: TransportType) -> Result<(), Trouble> {
+    runs.scene.stage.begin();
+    runs.drive = Drive::over(
+        runs.scene.stage.source.alloc,
+        runs.scene.stage.heap,
+        transport,
+    );
+    Ok(())
+}
+
+/// `drive asks MESSAGE`: the agent sends a request to the usual peer before it is driven.
+fn ask(runs: &mut Runs<'_>, words: &[&str], answer: &mut String) -> Result<(), Trouble> {
+    let bytes = message(&runs.scene.stage, words)?;
+    runs.scene.stage.begin();
+    if let Some(error) = asked(
+        &mut runs.drive.agent,
+        bytes.as_slice(),
+        runs.scene.stage.now,
+    ) {
+        return Ok(answer.push_str(error_name(error))?);
+    }
+    match asked(&mut runs.drive.twin, bytes.as_slice(), runs.scene.stage.now) {
+        Some(_) => Err(Trouble::Memory),
+        None => Ok(()),
+    }
+}
+
+/// Why an agent refuses to send a request to the usual peer, if it does.
+fn asked<A: Allocator + Copy>(
+    agent: &mut StunAgent<A>,
+    bytes: &[u8],
+    now: Instant,
+) -> Option<StunError> {
+    match agent.send_request(bytes, usual_peer(), now) {
+        Ok(_) => None,
+        Err(error) => Some(error),
+    }
+}
+
+/// `drive until TIME`: drives the agent by the events that are left, and answers how many steps it
+/// takes.
+fn run(runs: &mut Runs<'_>, until: Instant, answer: &mut String) -> Result<(), Trouble> {
+    runs.scene.stage.begin();
+    match runs.drive.run(until)? {
+        Ok(steps) => {
+            let count = runs.drive.finish(until, steps.as_slice())?;
+            Ok(write!(answer, "{count} steps")?)
+        }
+        Err(stopped) => {
+            runs.drive.stop(stopped);
+            runs.scene.stage.is_run = true;
+            Ok(answer.push_str(OUT_OF_MEMORY)?)
+        }
+    }
+}
+
+/// `drive step`: the next one, or `none`.
+fn tell_step(drive: &mut Drive<'_>, answer: &mut String) -> Result<(), Trouble> {
+    match drive.steps.get(drive.told) {
+        Some(step) => {
+            answer.push_str(step.as_str())?;
+            drive.told = drive.told.saturating_add(1);
+            Ok(())
+        }
+        None => Ok(answer.push_str("none")?),
+    }
+}
+
+/// `drive awaited`: the next moment that a request awaits, or `none`.
+fn awaited(drive: &Drive<'_>, answer: &mut String) -> Result<(), Trouble> {
+    match drive.agent.next_awaited() {
+        Some(moment) => push_moment(moment, answer),
+        None => Ok(answer.push_str("none")?),
+    }
+}
+
+/// `drive is-validated ADDRESS`: whether it is named as a peer.
+fn is_validated(drive: &Drive<'_>, word: &str, answer: &mut String) -> Result<(), Trouble> {
+    let is_validated = drive.agent.is_validated_peer(address(word)?);
+    Ok(answer.push_str(if is_validated { "yes" } else { "no" })?)
+}
+
+/// `drive by-hand until TIME`: a new agent meets all events, each by a call of its own. It must
+/// take the same steps, come to the same statistics and await the same moment.
+fn compare(drive: &Drive<'_>, until: Instant, answer: &mut String) -> Result<(), Trouble> {
+    let mut agent = new_agent(drive.alloc, drive.transport);
+    let events = drive.events.as_slice();
+    let steps = run_by_hand(drive.alloc, &mut agent, events, until)?;
+    let name = if steps.as_slice() != drive.steps.as_slice() {
+        "other steps"
+    } else if agent.stats() != drive.agent.stats() {
+        "other statistics"
+    } else if agent.next_awaited() != drive.agent.next_awaited() {
+        "another moment"
+    } else {
+        "the same"
+    };
+    Ok(answer.push_str(name)?)
+}

@@ -1,0 +1,34 @@
+//! Events in order, as a driven run takes them.
+ghost use Rattle.std.specs.Prelude.{IsTrue};
+ghost use Rattle.stun_proto.specs.Schedule.{AreInOrder};
+
+use player::trouble::Trouble;
+use std::alloc::Allocator;
+use stun_agent::agent::StunAgent;
+use stun_base::instant::Instant;
+use stun_proto::replay::{AgentEvent, AgentStep, Stopped, drive};
+
+/// Whether the moments never go back, from this one on, and none is past `until`.
+fn are_in_order(from: Instant, events: &[(Instant, AgentEvent)], until: Instant) -> bool
+    ensures { IsTrue result → AreInOrder until from events.now }
+{
+    match events {
+        [] => true,
+        [(moment, _), rest @ ..] => {
+            from <= *moment && *moment <= until && are_in_order(*moment, rest, until)
+        }
+    }
+}
+
+/// A run over events, where they are in order.
+pub fn run_over<A: Allocator + Copy>(
+    alloc: A,
+    agent: &mut StunAgent<A>,
+    events: &[(Instant, AgentEvent)],
+    until: Instant,
+) -> Result<Result<Vec<AgentStep<A>, A>, Stopped>, Trouble> {
+    if !are_in_order(Instant::ZERO, events, until) {
+        return Err(Trouble::Words);
+    }
+    Ok(drive(alloc, agent, events, until))
+}

@@ -1,0 +1,250 @@
+/* A session at a TURN server over UDP (RFC 8656): Allocate, CreatePermission, data by indications,
+ * ChannelBind, data on the channel, and a Refresh that ends it.
+ *
+ *     turn_client HOST PORT NAME PASSWORD PEER PORT [--within SECONDS]
+ *
+ * The peer, an address of numbers, is to send back what comes to it, as turnutils_peer of coturn
+ * does. It prints what was allocated and what came back each way. Status 0; or 1, and why on
+ * standard error; or 2 for wrong words. It gives up after 30 s, and ends what was allocated. */
+#define _GNU_SOURCE
+#include "exchange.h"
+#include "heap.h"
+#include "words.h"
+#include <stdio.h>
+#include <string.h>
+#include <unistd.h>
+
+/* Types that must be understood, and are. */
+static const uint16_t KNOWN[] = {
+    STUN_USERNAME,           STUN_MESSAGE_INTEGRITY,  STUN_MESSAGE_INTEGRITY_SHA256,
+    STUN_ERROR_CODE,         STUN_UNKNOWN_ATTRIBUTES, STUN_REALM,
+    STUN_NONCE,              STUN_USERHASH,           STUN_PASSWORD_ALGORITHM,
+    STUN_XOR_MAPPED_ADDRESS, STUN_CHANNEL_NUMBER,     STUN_LIFETIME,
+    STUN_XOR_PEER_ADDRESS,   STUN_DATA,               STUN_XOR_RELAYED_ADDRESS,
+};
+enum { KNOWN_TYPES = sizeof KNOWN / sizeof *KNOWN };
+
+enum { CHANNEL = 0x4000, CHANNEL_HEADER = 4, MOST_ASKS = 4, MOST_MEMORY = 1 << 20 };
+
+static const uint64_t REPEAT = SECOND / 2; /* data that does not come back goes out again */
+
+struct session {
+    struct exchange exchange;
+    stun_client client;
+    stun_address peer;
+    uint64_t give_up; /* at this moment */
+    const char *step;
+};
+
+static bool fails(const struct session *session, const char *why) {
+    fprintf(stderr, "%s: %s\n", session->step, why);
+    return false;
+}
+
+/* ---- Transactions */
+
+enum verdict { FAILED, SUCCEEDED, WAITING, IS_TO_ASK_AGAIN };
+
+/* What a datagram says on the outstanding request. The authenticator is asked before the agent.
+ * What is no answer or is forged is dropped, and so is data that comes meanwhile, which another
+ * program would take. */
+static enum verdict judge(struct session *session, const struct datagram *got) {
+    stun_header header;
+    uint16_t unknown[1];
+    if (!is_message(got, &header) || !is_answer(&session->exchange, got, &header)) return WAITING;
+    int64_t verdict = stun_client_validate(&session->client, got->bytes, got->length);
+    if (verdict == STUN_INTEGRITY_FAILED) return WAITING;
+    int64_t ended = end_request(&session->exchange, got);
+    if (ended < 0) verdict = ended;
+    if (stun_is_resend(verdict)) return IS_TO_ASK_AGAIN;
+    if (verdict < 0 && verdict != STUN_UNAUTHORIZED) fails(session, stun_strerror(verdict));
+    else if (header.message_class == STUN_ERROR)
+        fprintf(stderr, "%s: refused %d\n", session->step,
+                (int)stun_error_code(got->bytes, got->length));
+    else if (stun_unknown_types(got->bytes, got->length, KNOWN, KNOWN_TYPES, unknown, 1) != 0)
+        fails(session, "the response is not understood");
+    else return SUCCEEDED;
+    return FAILED;
+}
+
+static enum verdict await(struct session *session, struct datagram *got) {
+    for (enum verdict verdict = WAITING; moment() < session->give_up;) {
+        enum event event = wait_until(&session->exchange, session->give_up, got);
+        if (event == NO_ANSWER) break;
+        if (event == DATAGRAM_CAME) verdict = judge(session, got);
+        if (verdict != WAITING) return verdict;
+    }
+    fails(session, "no answer");
+    return FAILED;
+}
+
+/* Asks, and anew where a challenge was taken up. `fill` writes what is asked. Answers whether the
+ * response, in `got`, is a success. */
+typedef void fill_request(struct draft *request, const struct session *session);
+
+static bool transact(struct session *session, const char *step, uint32_t method, fill_request *fill,
+                     struct datagram *got) {
+    struct draft request;
+    session->step = step;
+    for (int asks = 0; asks < MOST_ASKS; asks++) {
+        draft_new(&request, STUN_REQUEST, method);
+        fill(&request, session);
+        if (request.length > 0)
+            request.length = stun_client_sign(&session->client, request.bytes, sizeof request.bytes,
+                                              (size_t)request.length);
+        int64_t asked = ask(&session->exchange, &request);
+        if (asked < 0) return fails(session, stun_strerror(asked));
+        enum verdict verdict = await(session, got);
+        if (verdict != IS_TO_ASK_AGAIN) return verdict == SUCCEEDED;
+    }
+    return fails(session, "challenged too often");
+}
+
+/* The relayed address is of IPv4 where no family is asked for; the number of IPv6 is 2. */
+static void fill_allocate(struct draft *request, const struct session *session) {
+    draft_number(request, STUN_REQUESTED_TRANSPORT, IPPROTO_UDP << 24, 4);
+    if (session->peer.length == 16)
+        draft_number(request, STUN_REQUESTED_ADDRESS_FAMILY, 2 << 24, 4);
+}
+
+static void fill_peer(struct draft *request, const struct session *session) {
+    draft_address(request, STUN_XOR_PEER_ADDRESS, &session->peer);
+}
+
+static void fill_channel(struct draft *request, const struct session *session) {
+    draft_number(request, STUN_CHANNEL_NUMBER, CHANNEL << 16, 4);
+    fill_peer(request, session);
+}
+
+static void fill_end(struct draft *request, const struct session *session) {
+    (void)session;
+    draft_number(request, STUN_LIFETIME, 0, 4);
+}
+
+/* ---- Data: neither way is signed, and nothing tells whether it came */
+
+typedef void write_data(const struct session *session, const char *text, struct draft *out);
+typedef bool is_data(const struct session *session, const char *text, const struct datagram *got);
+
+static void write_indication(const struct session *session, const char *text, struct draft *out) {
+    draft_new(out, STUN_INDICATION, STUN_SEND);
+    draft_address(out, STUN_XOR_PEER_ADDRESS, &session->peer);
+    draft_text(out, STUN_DATA, text);
+}
+
+static bool is_indication(const struct session *session, const char *text,
+                          const struct datagram *got) {
+    stun_header header;
+    stun_address peer;
+    return is_message(got, &header)
+           && header.message_class == STUN_INDICATION && header.method == STUN_DATA_METHOD
+           && get_address(got, STUN_XOR_PEER_ADDRESS, &peer) && is_same(&peer, &session->peer)
+           && has_text(got, STUN_DATA, text);
+}
+
+/* The channel's number, a length, and so many bytes (section 12.4). */
+static void write_on_channel(const struct session *session, const char *text, struct draft *out) {
+    (void)session;
+    out->length = snprintf((char *)out->bytes, sizeof out->bytes, "....%s", text);
+    size_t length = (size_t)out->length - CHANNEL_HEADER;
+    const uint8_t header[CHANNEL_HEADER] = {CHANNEL >> 8, CHANNEL & 255, (uint8_t)(length >> 8),
+                                            (uint8_t)length};
+    memcpy(out->bytes, header, sizeof header);
+}
+
+static bool is_on_channel(const struct session *session, const char *text,
+                          const struct datagram *got) {
+    struct draft wanted;
+    write_on_channel(session, text, &wanted);
+    return got->length >= (size_t)wanted.length /* padding may follow */
+           && memcmp(got->bytes, wanted.bytes, (size_t)wanted.length) == 0;
+}
+
+/* Sends data to the peer until it comes back. */
+static bool carry(struct session *session, write_data *write, is_data *is, const char *text) {
+    struct datagram got;
+    struct draft out;
+    session->step = text;
+    for (uint64_t next = 0, now; (now = moment()) < session->give_up;) {
+        if (now >= next) {
+            write(session, text, &out);
+            tell(&session->exchange, &out, &session->exchange.peer);
+            next = now + REPEAT;
+        }
+        if (wait_until(&session->exchange, next, &got) == DATAGRAM_CAME
+            && is_same(&got.from, &session->exchange.to) && is(session, text, &got)) {
+            printf("came back: %s\n", text);
+            return true;
+        }
+    }
+    return fails(session, "nothing came back");
+}
+
+/* ---- The session */
+
+static bool allocate(struct session *session) {
+    struct datagram got;
+    stun_address relayed;
+    uint64_t lifetime;
+    if (!transact(session, "Allocate", STUN_ALLOCATE, fill_allocate, &got)) return false;
+    if (!get_address(&got, STUN_XOR_RELAYED_ADDRESS, &relayed)
+        || !get_number(&got, STUN_LIFETIME, 4, &lifetime))
+        return fails(session, "no address or no lifetime");
+    printf("relayed %s for %u s\n", text_of(&relayed), (unsigned)lifetime);
+    return true;
+}
+
+static bool run(struct session *session) {
+    struct datagram got;
+    if (!allocate(session)) return false;
+    bool is_right =
+        transact(session, "CreatePermission", STUN_CREATE_PERMISSION, fill_peer, &got)
+        && carry(session, write_indication, is_indication, "by indication")
+        && transact(session, "ChannelBind", STUN_CHANNEL_BIND, fill_channel, &got)
+        && carry(session, write_on_channel, is_on_channel, "on the channel");
+    session->give_up += SECOND;
+    if (!transact(session, "Refresh", STUN_REFRESH, fill_end, &got)) return false;
+    puts("ended");
+    return is_right;
+}
+
+static int64_t begin(struct session *session, const stun_address *own, const char *name,
+                     const char *password) {
+    session->step = "turn_client";
+    int64_t answer = stun_agent_new(&session->exchange.agent, STUN_UDP, own);
+    if (answer >= 0) answer = stun_client_new(&session->client);
+    if (answer >= 0)
+        answer = stun_client_set_algorithms(&session->client, STUN_SHA1 | STUN_SHA256);
+    if (answer < 0) return answer;
+    return stun_client_set_credentials(&session->client, (const uint8_t *)name, strlen(name),
+                                       (const uint8_t *)password, strlen(password));
+}
+
+int main(int count, char **words) {
+    static struct session session;
+    struct exchange *exchange = &session.exchange;
+    struct peer peer;
+    stun_address own;
+    uint64_t within = 30 * SECOND;
+    const struct option options[] = {
+        {"--within", .nanoseconds = &within, .least = 0, .most = 1000000},
+        {.name = NULL},
+    };
+    if (read_options(count, words, options) != 6) {
+        fprintf(stderr, "usage: turn_client HOST PORT NAME PASSWORD PEER PORT "
+                        "[--within SECONDS]\n");
+        return 2;
+    }
+    heap_bound(MOST_MEMORY);
+    session.give_up = moment() + within;
+    if (!find_peer(words[4], words[5], &peer)) return 1;
+    session.peer = address_of(&peer);
+    if ((exchange->socket = open_client(words[0], words[1], &exchange->peer, &own)) < 0) return 1;
+    exchange->to = address_of(&exchange->peer);
+    int64_t begun = begin(&session, &own, words[2], words[3]);
+    bool is_right = begun < 0 ? fails(&session, stun_strerror(begun)) : run(&session);
+    stun_agent_free(&exchange->agent);
+    stun_client_free(&session.client);
+    close(exchange->socket);
+    return is_right ? 0 : 1;
+}

@@ -1,0 +1,200 @@
+// stun.h and stun_state.h for C++17, to copy: handles that free themselves, messages that keep
+// their length, views in and results out. Nothing throws, but where C++ itself has no memory left.
+#ifndef STUN_HPP
+#define STUN_HPP
+
+#include "stun_state.h"
+#include <array>
+#include <optional>
+#include <string>
+#include <string_view>
+#include <tuple>
+#include <utility>
+#include <vector>
+
+namespace stun {
+
+// Bytes that are read during a call: of a text, a vector, an array. The calls of C take no null
+// pointer, which an empty std::string_view or std::vector may have, so an empty view has another.
+class view {
+    static constexpr uint8_t none = 0;
+    const uint8_t *first_;
+    size_t size_;
+
+  public:
+    view(const uint8_t *first, size_t size) : first_(size == 0 ? &none : first), size_(size) {}
+    view(std::string_view text)
+        : view(reinterpret_cast<const uint8_t *>(text.data()), text.size()) {}
+    view(const char *text = "") : view(std::string_view(text)) {}
+    view(const std::string &text) : view(std::string_view(text)) {}
+    view(const std::vector<uint8_t> &bytes) : view(bytes.data(), bytes.size()) {}
+    template <size_t N> view(const std::array<uint8_t, N> &bytes) : view(bytes.data(), N) {}
+    template <size_t N> view(const uint8_t (&bytes)[N]) : view(bytes, N) {}
+    const uint8_t *data() const { return first_; }
+    size_t size() const { return size_; }
+    std::string_view text() const { return {reinterpret_cast<const char *>(first_), size_}; }
+};
+
+// Makes a call of C, to which a view is a pointer and a length.
+inline auto spread(view bytes) { return std::make_tuple(bytes.data(), bytes.size()); }
+template <class T> auto spread(T one) { return std::make_tuple(one); }
+template <class Call, class... Arguments> int64_t call(Call call, Arguments... arguments) {
+    return std::apply(call, std::tuple_cat(spread(arguments)...));
+}
+
+// A value, or a number below zero, why a call refuses, with its text.
+template <class T = int64_t> class [[nodiscard]] result {
+    int64_t answer_;
+    T value_;
+
+  public:
+    explicit result(int64_t answer, T value = T{})
+        : answer_(answer), value_(answer < 0 ? T{} : std::move(value)) {}
+    explicit operator bool() const { return answer_ >= 0; }
+    T &operator*() { return value_; }
+    T *operator->() { return &value_; }
+    int64_t number() const { return answer_; }
+    const char *text() const { return stun_strerror(answer_); }
+};
+// Of a call whose value is its answer.
+template <class T = int64_t, class Call, class... Arguments>
+result<T> ask(Call of, Arguments... arguments) {
+    int64_t answer = call(of, arguments...);
+    return result<T>(answer, T(answer));
+}
+
+enum class kind : uint32_t { request, indication, success, error };
+enum class algorithm : uint32_t { sha1 = STUN_SHA1, sha256 = STUN_SHA256, both = 3 };
+using address = stun_address;
+
+// ---- Handles, which move and are not copied. Each call refuses one that was not made.
+template <class H, void (*Free)(H *)> class handle {
+    H handle_{};
+
+  public:
+    handle() = default;
+    handle(handle &&other) noexcept : handle_(std::exchange(other.handle_, H{})) {}
+    handle &operator=(handle &&other) noexcept { return std::swap(handle_, other.handle_), *this; }
+    ~handle() { Free(&handle_); }
+    H *get() { return &handle_; }
+};
+
+struct server : handle<stun_server, stun_server_free> {
+    static result<server> make(view realm, algorithm supported = algorithm::sha1) {
+        server made;
+        int64_t answer = call(stun_server_new, made.get(), realm);
+        if (answer == 0) answer = stun_server_set_algorithms(made.get(), uint32_t(supported));
+        return result<server>(answer, std::move(made));
+    }
+    result<> add_user(view name, view word) { return ask(stun_server_add_user, get(), name, word); }
+    result<algorithm> validate(view message, const address &from, uint64_t now,
+                               const std::array<uint32_t, 16> &words) {
+        return ask<algorithm>(stun_server_validate, get(), message, &from, now, words.data());
+    }
+    // Who was validated last at an address, or an empty name. One that USERHASH hid may be longer.
+    result<std::string> client(const address &at, size_t longest = 513) {
+        std::vector<uint8_t> name(longest + 1);
+        size_t length = 0;
+        int64_t by = stun_server_client(get(), &at, name.data(), longest, &length);
+        return result<std::string>(by, std::string(view(name.data(), length).text()));
+    }
+};
+
+struct client : handle<stun_client, stun_client_free> {
+    static result<client> make(view name, view password, algorithm supported = algorithm::sha1) {
+        client made;
+        int64_t answer = stun_client_new(made.get());
+        if (answer == 0) answer = stun_client_set_algorithms(made.get(), uint32_t(supported));
+        if (answer == 0) answer = call(stun_client_set_credentials, made.get(), name, password);
+        return result<client>(answer, std::move(made));
+    }
+    // The value is that of an algorithm, or one for which stun_is_resend holds.
+    result<> validate(view message) { return ask(stun_client_validate, get(), message); }
+};
+
+// Its calls are those of C, as `ask(stun_agent_handle, agent.get(), message, &from, now)`.
+struct agent : handle<stun_agent, stun_agent_free> {
+    static result<agent> make(const address &local, uint32_t transport = STUN_UDP) {
+        agent made;
+        int64_t answer = stun_agent_new(made.get(), transport, &local);
+        return result<agent>(answer, std::move(made));
+    }
+};
+
+// ---- A message that is written. Once a call was refused the others do nothing, so that it is
+// looked at once, by `finish`, whose view is of this object.
+class writer {
+    std::vector<uint8_t> bytes_;
+    int64_t length_;
+    template <class Call, class... Rest> writer &then(Call more, Rest... rest) {
+        if (length_ < 0) return *this;
+        return length_ = call(more, bytes_.data(), bytes_.size(), size_t(length_), rest...), *this;
+    }
+
+  public:
+    writer(kind of, uint32_t method, view id, size_t room = 2048) : bytes_(room ? room : 1) {
+        length_ = call(stun_begin, uint32_t(of), method, id, bytes_.data(), bytes_.size());
+    }
+    writer &add(uint32_t type, view value) { return then(stun_add, type, value); }
+    writer &add_address(uint32_t type, const address &at) {
+        return then(stun_add_xor_address, type, view(at.octets, at.length), at.port);
+    }
+    writer &add_error(uint32_t code, view why) { return then(stun_add_error, code, why); }
+    writer &sign(algorithm by, view key) { return then(stun_sign, uint32_t(by), key); }
+    writer &sign(client &by) {
+        return then([&](auto... message) { return stun_client_sign(by.get(), message...); });
+    }
+    writer &sign(server &by, const address &to) {
+        return then([&](auto... message) { return stun_server_sign(by.get(), message..., &to); });
+    }
+    writer &fingerprint() { return then(stun_add_fingerprint); }
+    result<view> finish() const {
+        return result<view>(length_, view(bytes_.data(), length_ < 0 ? 0 : size_t(length_)));
+    }
+};
+
+// ---- A message that is read, of which `for (auto attribute : message)` takes the visible ones.
+struct attribute { uint16_t type; view value; };
+struct message {
+    view bytes;
+    result<stun_header> header() const { // that of a whole message
+        stun_header header{};
+        int64_t answer = call(stun_parse, bytes);
+        if (answer == 0) answer = call(stun_read_header, bytes, &header);
+        return result<stun_header>(answer, header);
+    }
+    result<view> find(uint32_t type) const {
+        size_t length = 0;
+        int64_t at = call(stun_find, bytes, type, &length);
+        return result<view>(at, view(bytes.data() + (at < 0 ? 0 : at + 4), length));
+    }
+    result<address> find_address(uint32_t type) const { // of a type whose value is under XOR
+        address out{};
+        size_t length = 0;
+        int64_t at = call(stun_find, bytes, type, &length);
+        if (at > 0) at = call(stun_read_xor_address, bytes, size_t(at), out.octets, 16u, &out.port);
+        out.length = uint16_t(at);
+        return result<address>(at, out);
+    }
+    result<> error_code() const { return ask(stun_error_code, bytes); }
+    result<> fingerprint() const { return ask(stun_check_fingerprint, bytes); }
+    result<algorithm> verify(view key) const { return ask<algorithm>(stun_verify, bytes, key); }
+    struct iterator {
+        view bytes;
+        stun_cursor cursor{};
+        uint16_t type = 0;
+        size_t length = 0;
+        int64_t place = 0;
+        iterator &operator++() {
+            return place = call(stun_walk, bytes, &cursor, &type, &length), *this;
+        }
+        attribute operator*() const { return {type, {bytes.data() + place + 4, length}}; }
+        bool operator!=(std::nullptr_t) const { return place > 0; }
+    };
+    iterator begin() const { return ++iterator{bytes}; }
+    std::nullptr_t end() const { return nullptr; }
+};
+
+} // namespace stun
+
+#endif

@@ -1,0 +1,76 @@
+//! What a caller in C keeps: a flag and a pointer to a value on the heap.
+
+use crate::kit::alloc::Global;
+use crate::kit::prelude::Box;
+use alloc::boxed;
+use core::mem;
+use core::ptr;
+
+/// All zero where it is empty, and else what `put` wrote.
+#[repr(C)]
+pub struct Handle<T> {
+    is_full: bool,
+    at: *mut T,
+}
+
+impl<T> Handle<T> {
+    const EMPTY: Handle<T> = Handle {
+        is_full: false,
+        at: ptr::null_mut(),
+    };
+
+    /// Takes the value out, if there is one, and leaves the handle empty.
+    pub fn take(&mut self, _alloc: Global) -> Option<Box<T>> {
+        let Handle { is_full, at } = mem::replace(self, Handle::EMPTY);
+        // SAFETY: a full handle has what `put` wrote, and no call leaves two that do.
+        is_full.then(|| Box::from_std(unsafe { boxed::Box::from_raw(ptr::slice_from_raw_parts_mut(at, 1)) }))
+    }
+
+    /// Puts a value into an empty handle.
+    pub fn put(&mut self, _alloc: Global, value: Box<T>) {
+        let at = boxed::Box::into_raw(value.into_std()).cast();
+        *self = Handle { is_full: true, at };
+    }
+}
+
+pub mod agent {
+    //! The handle of an agent.
+
+    use crate::exported::stun_agent::agent::StunAgent;
+
+    /// An agent of the heap.
+    pub struct Agent {
+        pub agent: StunAgent,
+    }
+
+    /// What a caller keeps of an agent.
+    pub type AgentHandle = super::Handle<Agent>;
+}
+
+pub mod server {
+    //! The handle of a server.
+
+    use crate::exported::stun_auth::auth::LongTermServerAuth;
+
+    /// A server of the heap.
+    pub struct Server {
+        pub server: LongTermServerAuth,
+    }
+
+    /// What a caller keeps of a server.
+    pub type ServerHandle = super::Handle<Server>;
+}
+
+pub mod client {
+    //! The handle of a client.
+
+    use crate::exported::stun_auth::auth::LongTermClientAuth;
+
+    /// A client of the heap.
+    pub struct Client {
+        pub client: LongTermClientAuth,
+    }
+
+    /// What a caller keeps of a client.
+    pub type ClientHandle = super::Handle<Client>;
+}

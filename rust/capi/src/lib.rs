@@ -1,0 +1,21 @@
+//! STUN for programs in C, over the exported sources: what `include/stun.h` and
+//! `include/stun_state.h` declare, and nothing else.
+//!
+//! `cargo build --release -p seatcrane-stun-c` makes `libstun.a` and `libstun.so`. What is unsafe stands
+//! in `border.rs`, where a slice comes as a pointer and a length, in `handle.rs`, where a handle keeps a
+//! pointer, and in `memory.rs`, which asks the program for memory.
+
+extern crate alloc;
+
+mod calls;
+#[allow(dead_code, unused_imports)]
+#[path = "../../src/exported/mod.rs"]
+mod exported;
+mod handle;
+#[allow(dead_code, unused_imports)]
+#[path = "../../src/kit/mod.rs"]
+mod kit;
+#[cfg(feature = "program-memory")]
+mod memory;
+
+pub use calls::border::*;

@@ -1,0 +1,3 @@
+//! What an agent counts.
+
+pub use crate::exported::stun_agent::stats::StunAgentStats;

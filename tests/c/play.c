@@ -1,0 +1,399 @@
+/* Makes one call of the archives for each line of standard input, and answers it by a line: tests/play.py plays transcripts by it.
+ *
+ * A line is the name of a call without `stun_`, with `-` for `_`, and its words in the order of its arguments: a number; bytes as
+ * hexadecimal digits, or `-` for none; an address as its octets, `:` and its port; of a buffer and of an output its room, of a
+ * buffer then the message. A handle has no word, since there is one of each kind. The answer is that of the call, how many
+ * allocations it asked for, and the outputs that it wrote, byte by byte.
+ *
+ *     reset      frees the handles, and answers how many blocks and bytes are held
+ *     blocks     answers the same, and frees nothing
+ *     refuse N   the n-th allocation from here on is refused; 0 for none
+ *
+ * What is passed stands in a block of its own length, what is written to in one of its own room, so that an address sanitizer sees
+ * each byte outside. After each call this program looks itself that nothing was changed but what was written: nothing where
+ * the call refuses. A line that it cannot read, or a byte that was changed, ends it. */
+#include "heap.h"
+#include <stdio.h>
+#include <stdlib.h>
+#include <string.h>
+
+enum { LONGEST_LINE = 1 << 20, MOST_BLOCKS = 8, PATTERN = 0xa5 };
+
+static char line[LONGEST_LINE];
+
+static void fail(const char *why) {
+    fprintf(stderr, "play: %s: %.200s\n", why, line);
+    exit(1);
+}
+
+/* ---- What is passed: blocks, each with a copy of what was in it before the call. */
+
+typedef struct {
+    uint8_t *at, *before;
+    size_t length;  /* the bytes of the block */
+    size_t used;    /* those at its front that are a message */
+    size_t written; /* those at its front that the call may have changed */
+} block;
+
+static block blocks[MOST_BLOCKS];
+static size_t block_count;
+
+static block *block_of(size_t length) {
+    if (block_count == MOST_BLOCKS) fail("too many blocks");
+    block *made = &blocks[block_count++];
+    *made = (block){malloc(length), malloc(length), length, 0, 0};
+    if (made->at == NULL || made->before == NULL) fail("no memory");
+    memset(made->at, PATTERN, length);
+    memset(made->before, PATTERN, length);
+    return made;
+}
+
+static void fill(block *in, size_t place, uint8_t byte) { in->at[place] = in->before[place] = byte; }
+
+static char *next_word(void) {
+    char *word = strtok(NULL, " \n");
+    if (word == NULL) fail("a word is missing");
+    return word;
+}
+
+static uint64_t number_of(const char *word) {
+    char *end;
+    uint64_t number = strtoull(word, &end, 10);
+    if (end == word || *end != '\0') fail("no number");
+    return number;
+}
+
+static uint64_t number(void) { return number_of(next_word()); }
+static uint32_t short_number(void) { return (uint32_t)number(); }
+
+static uint8_t digit(char letter) {
+    static const char digits[] = "0123456789abcdef";
+    const char *found = letter == '\0' ? NULL : strchr(digits, letter);
+    if (found == NULL) fail("no digit");
+    return (uint8_t)(found - digits);
+}
+
+static uint8_t byte_of(const char *digits) { return (uint8_t)(digit(digits[0]) * 16 + digit(digits[1])); }
+
+/* The bytes of a word in a block of this room, or of their own length. */
+static block *block_with(const char *word, size_t room) {
+    size_t length = word[0] == '-' ? 0 : strlen(word) / 2;
+    if (length > room) fail("more than the room");
+    block *made = block_of(room == SIZE_MAX ? length : room);
+    for (size_t i = 0; i < length; i++) fill(made, i, byte_of(word + 2 * i));
+    made->used = length;
+    return made;
+}
+
+static block *bytes(void) { return block_with(next_word(), SIZE_MAX); }
+static block *output(void) { return block_of((size_t)number()); }
+
+/* A message in a buffer that may have room for more. */
+static block *buffer(void) {
+    size_t room = (size_t)number();
+    return block_with(next_word(), room);
+}
+
+/* A value in a block of its own. */
+static block *block_of_value(const void *value, size_t length) {
+    block *made = block_of(length);
+    for (size_t i = 0; i < length; i++) fill(made, i, ((const uint8_t *)value)[i]);
+    return made;
+}
+
+static void *copied(const void *value, size_t length) { return block_of_value(value, length)->at; }
+
+static const stun_address *address(void) {
+    char *word = next_word(), *port = strchr(word, ':');
+    stun_address address = {{0}, 0, 0};
+    if (port == NULL || port - word > 2 * (ptrdiff_t)sizeof address.octets) fail("no address");
+    address.length = (uint16_t)((port - word) / 2);
+    for (size_t i = 0; i < address.length; i++) address.octets[i] = byte_of(word + 2 * i);
+    address.port = (uint16_t)number_of(port + 1);
+    return copied(&address, sizeof address);
+}
+
+static const stun_timeouts *timeouts(void) {
+    stun_timeouts timeouts = {0, 0, 0, 0};
+    timeouts.initial = number();
+    timeouts.longest = number();
+    timeouts.last = number();
+    timeouts.transmissions = short_number();
+    return copied(&timeouts, sizeof timeouts);
+}
+
+/* Of a call that answers how many bytes it wrote. */
+static int64_t wrote(block *out, int64_t answer) {
+    out->written = answer > 0 ? (size_t)answer : 0;
+    return answer;
+}
+
+/* Of a call that writes a value of its own, if it does. */
+static void wrote_all(block *out, bool is_written) { out->written = is_written ? out->length : 0; }
+
+/* A call of its words, in the order of its arguments. */
+#define CALL(name, words, answer) static int64_t name(void) { words; return answer; }
+#define ALL(block) (block)->at, (block)->length
+#define USED(block) (block)->at, (block)->length, (block)->used
+#define VALUE(type, block) ((type *)(void *)(block)->at)
+
+/* ---- The calls on messages. */
+
+CALL(version, (void)0, stun_version())
+CALL(parse, block *message = bytes(), stun_parse(ALL(message)))
+CALL(class_of, block *message = bytes(), stun_class(ALL(message)))
+CALL(method, block *message = bytes(), stun_method(ALL(message)))
+CALL(error_code, block *message = bytes(), stun_error_code(ALL(message)))
+CALL(verify, block *message = bytes(); block *key = bytes(), stun_verify(ALL(message), ALL(key)))
+CALL(id, block *message = bytes(); block *out = output(), wrote(out, stun_id(ALL(message), ALL(out))))
+
+static int64_t next(void) {
+    block *message = bytes();
+    size_t place = (size_t)number();
+    block *type = block_of(sizeof(uint16_t)), *length = block_of(sizeof(size_t));
+    int64_t answer = stun_next(ALL(message), place, VALUE(uint16_t, type), VALUE(size_t, length));
+    wrote_all(type, answer > 0);
+    wrote_all(length, answer > 0);
+    return answer;
+}
+
+static int64_t xor_mapped_address(void) {
+    block *message = bytes(), *out = output(), *port = block_of(sizeof(uint16_t));
+    int64_t answer = stun_xor_mapped_address(ALL(message), ALL(out), VALUE(uint16_t, port));
+    wrote_all(port, answer > 0);
+    return wrote(out, answer);
+}
+
+CALL(begin, uint32_t class = short_number(); uint32_t method = short_number(); block *id = bytes(); block *out = output(),
+     wrote(out, stun_begin(class, method, ALL(id), ALL(out))))
+CALL(add, block *message = buffer(); uint32_t type = short_number(); block *value = bytes(),
+     wrote(message, stun_add(USED(message), type, ALL(value))))
+CALL(add_xor_mapped_address, block *message = buffer(); block *octets = bytes(),
+     wrote(message, stun_add_xor_mapped_address(USED(message), ALL(octets), short_number())))
+CALL(add_error, block *message = buffer(); uint32_t code = short_number(); block *reason = bytes(),
+     wrote(message, stun_add_error(USED(message), code, ALL(reason))))
+CALL(sign, block *message = buffer(); uint32_t algorithm = short_number(); block *key = bytes(),
+     wrote(message, stun_sign(USED(message), algorithm, ALL(key))))
+CALL(long_term_key, uint32_t algorithm = short_number(); block *name = bytes(); block *realm = bytes(); block *password = bytes();
+     block *out = output(), wrote(out, stun_long_term_key(algorithm, ALL(name), ALL(realm), ALL(password), ALL(out))))
+CALL(userhash, block *name = bytes(); block *realm = bytes(); block *out = output(),
+     wrote(out, stun_userhash(ALL(name), ALL(realm), ALL(out))))
+
+/* ---- The calls with state. What is made takes the place of the one before. */
+
+static stun_agent agent;
+static stun_server server;
+static stun_client client;
+
+#define MAKES(kind, call)                                                     \
+    do {                                                                      \
+        stun_##kind fresh = {false, NULL};                                    \
+        int64_t answer = call;                                                \
+        if (fresh.is_full != (answer == 0)) fail("a handle that is not made"); \
+        if (answer < 0) return answer;                                        \
+        stun_##kind##_free(&kind);                                            \
+        kind = fresh;                                                         \
+        return answer;                                                        \
+    } while (0)
+
+static int64_t agent_new(void) {
+    uint32_t transport = short_number();
+    const stun_address *local = address();
+    MAKES(agent, stun_agent_new(&fresh, transport, local));
+}
+
+static int64_t agent_new_with(void) {
+    uint32_t transport = short_number();
+    const stun_address *local = address(), *remote = address();
+    const stun_timeouts *waits = timeouts();
+    MAKES(agent, stun_agent_new_with(&fresh, transport, local, remote, waits));
+}
+
+static int64_t server_new(void) {
+    block *realm = bytes();
+    MAKES(server, stun_server_new(&fresh, ALL(realm)));
+}
+
+static int64_t client_new(void) { MAKES(client, stun_client_new(&fresh)); }
+
+CALL(agent_send_request, block *message = bytes(); const stun_address *to = address(),
+     stun_agent_send_request(&agent, ALL(message), to, number()))
+CALL(agent_send, block *message = bytes(), stun_agent_send(&agent, ALL(message), address()))
+CALL(agent_handle, block *message = bytes(); const stun_address *from = address(),
+     stun_agent_handle(&agent, ALL(message), from, number()))
+CALL(agent_validated_peer, (void)0, stun_agent_validated_peer(&agent, address()))
+CALL(agent_is_validated_peer, (void)0, stun_agent_is_validated_peer(&agent, address()))
+CALL(agent_cancel, block *id = bytes(), stun_agent_cancel(&agent, ALL(id)))
+CALL(agent_cancel_retransmissions, block *id = bytes(), stun_agent_cancel_retransmissions(&agent, ALL(id)))
+CALL(agent_configure, block *id = bytes(), stun_agent_configure(&agent, ALL(id), timeouts()))
+
+static int64_t agent_poll(void) {
+    uint64_t now = number();
+    block *until = block_of(sizeof(uint64_t)), *id = output();
+    int64_t answer = stun_agent_poll(&agent, now, VALUE(uint64_t, until), ALL(id));
+    wrote_all(until, answer == 0);
+    id->written = answer > 0 ? STUN_ID_LENGTH : 0;
+    return answer;
+}
+
+static int64_t agent_poll_transmit(void) {
+    uint64_t now = number();
+    block *out = output(), *to = block_of(sizeof(stun_address));
+    int64_t answer = stun_agent_poll_transmit(&agent, now, ALL(out), VALUE(stun_address, to));
+    wrote_all(to, answer > 0);
+    return wrote(out, answer);
+}
+
+static int64_t agent_is_outstanding(void) {
+    block *id = bytes(), *peer = block_of(sizeof(stun_address));
+    int64_t answer = stun_agent_is_outstanding(&agent, ALL(id), VALUE(stun_address, peer));
+    wrote_all(peer, answer == 1);
+    return answer;
+}
+
+static int64_t agent_statistics(void) {
+    block *counts = block_of(sizeof(stun_statistics));
+    int64_t answer = stun_agent_statistics(&agent, VALUE(stun_statistics, counts));
+    wrote_all(counts, answer == 0);
+    return answer;
+}
+
+CALL(server_set_algorithms, (void)0, stun_server_set_algorithms(&server, short_number()))
+CALL(server_set_anonymous_username, (void)0, stun_server_set_anonymous_username(&server, short_number()))
+CALL(server_set_nonce_expiry, (void)0, stun_server_set_nonce_expiry(&server, number()))
+CALL(server_add_user, block *name = bytes(); block *password = bytes(), stun_server_add_user(&server, ALL(name), ALL(password)))
+CALL(server_remove_user, block *name = bytes(), stun_server_remove_user(&server, ALL(name)))
+CALL(server_remove_client, (void)0, stun_server_remove_client(&server, address()))
+CALL(server_forget, (void)0, stun_server_forget(&server, address()))
+CALL(server_forget_expired, (void)0, stun_server_forget_expired(&server, number()))
+CALL(server_sign, block *message = buffer(), wrote(message, stun_server_sign(&server, USED(message), address())))
+
+static int64_t server_forget_expired_within(void) {
+    uint64_t now = number();
+    block *from = block_of_value(address(), sizeof(stun_address));
+    int64_t answer = stun_server_forget_expired_within(&server, now, VALUE(stun_address, from), (size_t)number());
+    wrote_all(from, answer >= 0);
+    return answer;
+}
+
+static int64_t server_client(void) {
+    const stun_address *at = address();
+    block *name = output(), *length = block_of(sizeof(size_t));
+    int64_t answer = stun_server_client(&server, at, ALL(name), VALUE(size_t, length));
+    wrote_all(length, answer > 0);
+    name->written = answer > 0 ? *VALUE(size_t, length) : 0;
+    return answer;
+}
+
+CALL(server_nonce, const stun_address *at = address(); block *nonce = output(),
+     wrote(nonce, stun_server_nonce(&server, at, ALL(nonce))))
+
+static int64_t server_validate(void) {
+    block *message = bytes();
+    const stun_address *from = address();
+    uint64_t now = number();
+    uint32_t words[16];
+    for (int i = 0; i < 16; i++) words[i] = short_number();
+    return stun_server_validate(&server, ALL(message), from, now, copied(words, sizeof words));
+}
+
+CALL(client_set_credentials, block *name = bytes(); block *password = bytes(),
+     stun_client_set_credentials(&client, ALL(name), ALL(password)))
+CALL(client_set_algorithms, (void)0, stun_client_set_algorithms(&client, short_number()))
+CALL(client_set_anonymous_username, (void)0, stun_client_set_anonymous_username(&client, short_number()))
+CALL(client_signing_algorithm, (void)0, stun_client_signing_algorithm(&client))
+CALL(client_sign, block *message = buffer(), wrote(message, stun_client_sign(&client, USED(message))))
+CALL(client_validate, block *message = bytes(), stun_client_validate(&client, ALL(message)))
+
+/* ---- Lines. */
+
+static const struct { const char *name; int64_t (*call)(void); } calls[] = {
+    {"version", version}, {"parse", parse}, {"class", class_of}, {"method", method}, {"error-code", error_code},
+    {"verify", verify}, {"id", id}, {"next", next}, {"xor-mapped-address", xor_mapped_address}, {"begin", begin},
+    {"add", add}, {"add-xor-mapped-address", add_xor_mapped_address}, {"add-error", add_error}, {"sign", sign},
+    {"long-term-key", long_term_key}, {"userhash", userhash}, {"agent-new", agent_new},
+    {"agent-new-with", agent_new_with}, {"agent-send-request", agent_send_request}, {"agent-send", agent_send},
+    {"agent-poll", agent_poll}, {"agent-poll-transmit", agent_poll_transmit}, {"agent-handle", agent_handle},
+    {"agent-validated-peer", agent_validated_peer}, {"agent-is-validated-peer", agent_is_validated_peer},
+    {"agent-is-outstanding", agent_is_outstanding}, {"agent-cancel", agent_cancel},
+    {"agent-cancel-retransmissions", agent_cancel_retransmissions}, {"agent-configure", agent_configure},
+    {"agent-statistics", agent_statistics}, {"server-new", server_new}, {"server-set-algorithms", server_set_algorithms},
+    {"server-set-anonymous-username", server_set_anonymous_username}, {"server-set-nonce-expiry", server_set_nonce_expiry},
+    {"server-add-user", server_add_user}, {"server-remove-user", server_remove_user},
+    {"server-remove-client", server_remove_client}, {"server-forget", server_forget},
+    {"server-forget-expired", server_forget_expired}, {"server-forget-expired-within", server_forget_expired_within},
+    {"server-client", server_client}, {"server-nonce", server_nonce}, {"server-validate", server_validate},
+    {"server-sign", server_sign}, {"client-new", client_new}, {"client-set-credentials", client_set_credentials},
+    {"client-set-algorithms", client_set_algorithms}, {"client-set-anonymous-username", client_set_anonymous_username},
+    {"client-signing-algorithm", client_signing_algorithm}, {"client-sign", client_sign},
+    {"client-validate", client_validate},
+};
+
+static void print_bytes(const uint8_t *at, size_t length) {
+    static const char digits[] = "0123456789abcdef";
+    putchar(' ');
+    for (size_t i = 0; i < length; i++) {
+        putchar(digits[at[i] >> 4]);
+        putchar(digits[at[i] & 15]);
+    }
+}
+
+/* Looks at each block, prints what was written, and gives the blocks back. */
+static void finish(int64_t answer) {
+    for (block *one = blocks; one < blocks + block_count; one++) {
+        size_t written = answer < 0 ? 0 : one->written;
+        if (written > one->length) fail("more is written than there is room");
+        if (memcmp(one->at + written, one->before + written, one->length - written) != 0) fail("a byte is changed");
+        if (written > 0) print_bytes(one->at, written);
+        free(one->at);
+        free(one->before);
+    }
+    block_count = 0;
+}
+
+#define IS_SAME(one, other) ((one).is_full == (other).is_full && (one).state == (other).state)
+
+static void make(int64_t (*call)(void)) {
+    stun_agent old_agent = agent;
+    stun_server old_server = server;
+    stun_client old_client = client;
+    size_t asked = heap_asked();
+    int64_t answer = call();
+    if (answer < 0 && !(IS_SAME(agent, old_agent) && IS_SAME(server, old_server) && IS_SAME(client, old_client)))
+        fail("a refusal changes a handle");
+    printf("%lld %zu", (long long)answer, heap_asked() - asked);
+    finish(answer);
+}
+
+static void play(const char *name) {
+    if (strcmp(name, "refuse") == 0) {
+        heap_refuse((size_t)number());
+        printf("0 0");
+        return;
+    }
+    if (strcmp(name, "reset") == 0) {
+        stun_agent_free(&agent);
+        stun_server_free(&server);
+        stun_client_free(&client);
+    }
+    if (strcmp(name, "reset") == 0 || strcmp(name, "blocks") == 0) {
+        printf("%zu %zu", heap_blocks(), heap_bytes());
+        return;
+    }
+    for (size_t i = 0; i < sizeof calls / sizeof *calls; i++)
+        if (strcmp(name, calls[i].name) == 0) {
+            make(calls[i].call);
+            return;
+        }
+    fail("no such call");
+}
+
+int main(void) {
+    while (fgets(line, sizeof line, stdin) != NULL) {
+        const char *name = strtok(line, " \n");
+        play(name == NULL ? "" : name);
+        putchar('\n');
+        fflush(stdout);
+    }
+    return 0;
+}

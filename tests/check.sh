@@ -1,0 +1,106 @@
+#!/bin/sh
+# Builds the archives, and tests them: by the transcripts (play.py), and by what only C can pass.
+# Where STUN_C and STUN_STATE name other archives, as libstun.a and libstun-program.a of
+# tools/rust_c.sh, nothing is proved. Sanitizers watch where the compiler has them. Without a C
+# compiler it checks nothing. The last line says what was checked.
+set -eu
+cd "$(dirname "$0")"
+cc=${CC:-cc} plus=${CXX:-c++}
+if ! "$cc" --version >/dev/null 2>&1; then
+    echo 'tests: no C compiler'
+    exit 0
+fi
+scratch=$(mktemp -d)
+trap 'rm -rf "$scratch"' EXIT
+
+# quiet COMMAND..: its output is told only where it fails.
+quiet() { "$@" >"$scratch/output" 2>&1 || { cat "$scratch/output" >&2 && exit 1; }; }
+
+# passes NAME COMMAND..: the command ends with the line `NAME: passed`.
+passes() {
+    wanted="$1: passed"
+    shift
+    printed=$("$@" || true)
+    if [ "$printed" != "$wanted" ]; then
+        echo "tests: $*: printed '$printed', not '$wanted'" >&2
+        exit 1
+    fi
+}
+
+proved='' system=''
+if [ -z "${STUN_C-}" ] || [ -z "${STUN_STATE-}" ]; then
+    for crate in stun_c stun_state; do (cd ../crates/$crate && quiet rt lib); done
+    STUN_C=$PWD/../crates/stun_c/out/libstun_c.a
+    STUN_STATE=$PWD/../crates/stun_state/out/libstun_state.a
+    proved=yes
+else
+    system='-lpthread -ldl -lm'
+fi
+export STUN_C STUN_STATE
+messages="$STUN_C $system" archives="$STUN_STATE $STUN_C $system"
+heap='../examples/c/heap.c'
+
+# The headers declare what the archives export, and so does the example for Rust.
+(cd .. && quiet python3 tools/exports.py)
+
+# The headers are C99 and C++17, with all warnings.
+strict='-Wall -Wextra -Wpedantic -Wconversion -Werror -I../include -I../examples/c'
+has_plus=''
+if "$plus" --version >/dev/null 2>&1; then has_plus=yes; fi
+for header in stun stun_state; do
+    alone="$strict -fsyntax-only -include ../include/$header.h"
+    "$cc" -std=c99 $alone -x c /dev/null
+    [ -z "$has_plus" ] || "$plus" -std=c++17 $alone -x c++ /dev/null
+done
+
+# sanitizers COMPILER..: those that it has.
+sanitizers() {
+    all='-fsanitize=address,undefined -fno-sanitize-recover=all'
+    echo 'int main(void) { return 0; }' | "$@" $all - -o "$scratch/empty" 2>/dev/null && echo "$all" || true
+}
+c99="-std=c99 -D_DEFAULT_SOURCE -O1 -g $strict $(sanitizers "$cc" -x c)"
+[ -z "$has_plus" ] || plus17="-std=c++17 $strict $(sanitizers "$plus" -x c++)"
+
+# The transcripts, and each allocation refused.
+"$cc" $c99 c/play.c $heap $archives -o "$scratch/play"
+python3 play.py "$scratch/play" ../crates/transcripts/data/*.txt >"$scratch/played" || { cat "$scratch/played" >&2 && exit 1; }
+
+# What only C can pass, what strangers may send, many addresses, and the worked examples of both headers, without the comment
+# round them. No call of the archive without state wants memory: it is linked with none.
+sed -n 's/^ \*     //p; /\*\/$/q' ../include/stun.h >"$scratch/answer.h"
+sed -n 's/^ \*     //p; /\*\/$/q' ../include/stun_state.h >"$scratch/ask.h"
+for name in arguments extra; do
+    "$cc" $c99 c/$name.c $messages -o "$scratch/$name"
+    passes $name "$scratch/$name"
+done
+for name in handles hostile many worked; do
+    "$cc" $c99 -Wno-conversion -I"$scratch" c/$name.c $heap $archives -o "$scratch/$name"
+    passes $name "$scratch/$name"
+done
+if [ -n "$has_plus" ]; then
+    for name in arguments extra; do
+        "$plus" $plus17 -x c++ c/$name.c -x none $messages -o "$scratch/$name"
+        passes $name "$scratch/$name"
+    done
+    "$plus" $plus17 -I"$scratch" -x c++ c/worked.c -x none $archives -o "$scratch/worked"
+    passes worked "$scratch/worked"
+fi
+
+# What strangers may send to each call: a few seconds of a fuzzer (fuzz/run.sh), or of mutations where there is none.
+fuzz/run.sh 10 >"$scratch/fuzzed"
+
+# asks_for NAMES CRATE: its archive asks for nothing but these.
+asks_for() {
+    needed=$(nm -u "../crates/$2/out/lib$2.a" | sed -n 's/^ *U //p' | grep -vxE "$1" || true)
+    if [ -n "$needed" ]; then
+        echo "tests: the archive of $2 needs" $needed >&2
+        exit 1
+    fi
+}
+bytes='memcpy|memmove|memset'
+if [ -n "$proved" ]; then
+    asks_for "$bytes" stun_c
+    asks_for "$bytes|__udivti3|__umodti3|rattle_alloc|rattle_realloc|rattle_dealloc" stun_state
+fi
+
+echo "tests: passed in C${has_plus:+ and C++}; $(tail -n 1 "$scratch/played"); $(tail -n 1 "$scratch/fuzzed")"

@@ -1,0 +1,876 @@
+/* A driver for libFuzzer over all calls of stun.h and stun_state.h: an input is a sequence of
+ * steps, and a step a byte that chooses the call, one that sets it, two of a length, and so many
+ * bytes, of which most are a message. A server, a client and an agent are kept over the steps of
+ * one input. What one call says is compared with what others say; a message lies between pages that
+ * may not be touched; what is written ends where it must; a refusal writes nothing; and no block is
+ * kept at the end.
+ *
+ * With PLAIN it has a main of its own, for where there is no libFuzzer: it plays the files that are
+ * named, and mutations of them in a fixed order. run.sh builds and runs it. */
+#include "../../bench/hostile.h"
+#include "heap.h"
+#include "stun_state.h"
+
+enum { MOST_ATTRIBUTES = 64, ROOM = 4096, BEHIND = 64, AMPLE = 256, MOST_ADDED = 2304 };
+enum { PATTERN = 0xa5, ID_AT = 8 };
+
+#define TEXT(letters) (const uint8_t *)(letters), sizeof(letters) - 1
+
+static void require(bool is_so, const char *what) {
+    if (is_so) return;
+    fprintf(stderr, "fuzz: %s\n", what);
+    abort();
+}
+
+/* The kinds of the steps. */
+enum step {
+    READ, VERIFY, WRITE, BEGIN, TEXTS, /* of stun.h */
+    SERVER_HEARS, CLIENT_HEARS, EXCHANGE, AGENT_SENDS, AGENT_HEARS, AGENT_IS_ASKED,
+    TIME, SERVER_IS_SET, CLIENT_IS_SET, USERS, FORGET, MEMORY, HANDLES,
+    STEPS
+};
+
+/* A step's bytes, flush against the end of memory, and where they are in the input. */
+struct bytes {
+    const uint8_t *at, *origin;
+    size_t length;
+};
+
+static struct {
+    stun_server server;
+    stun_client client;
+    stun_agent agent;
+    const stun_address *remote; /* to which alone the agent sends, or NULL */
+    uint64_t now;
+} world;
+
+static const stun_address addresses[] = {
+    {{192, 0, 2, 1}, 3478, 4},
+    {{192, 0, 2, 1}, 3479, 4},
+    {{0, 0, 0, 0, 0, 0, 0, 0, 0, 0, 0xff, 0xff, 192, 0, 2, 1}, 3478, 16},
+    {{0x20, 1, 0xd, 0xb8, 0, 0, 0, 0, 0, 0, 0, 0, 0, 0, 0, 1}, 65535, 16},
+    {{0}, 0, 5},
+};
+static const stun_address *address_of(uint8_t setting) {
+    return addresses + setting % (sizeof addresses / sizeof *addresses);
+}
+static bool is_address(const stun_address *address) {
+    return address->length == 4 || address->length == 16;
+}
+
+/* What is written goes here; behind the room that a call has, nothing may change. */
+static uint8_t out[STUN_LONGEST_MESSAGE + ROOM], before[sizeof out], blank[ROOM];
+
+static void fill_out(void) { memset(out, PATTERN, ROOM); }
+
+static void require_rest(size_t from, const char *what) {
+    require(memcmp(out + from, blank + from, ROOM - from) == 0, what);
+}
+
+/* An answer is a number of the header. */
+static int64_t named(int64_t answer) {
+    require(answer >= STUN_NO_WAIT, "a refusal without a name");
+    return answer;
+}
+
+/* ---- The calls that read. */
+
+/* The visible attributes of a message, by stun_walk: no more than have room. */
+static struct {
+    size_t place, length;
+    uint16_t type;
+} found[MOST_ATTRIBUTES];
+static size_t count;
+
+static void walk(struct bytes m, int64_t parsed) {
+    stun_cursor cursor = {0, 0};
+    size_t end = STUN_HEADER_LENGTH, length = 77;
+    uint16_t type = 7;
+    int64_t place;
+    count = 0;
+    while ((place = stun_walk(m.at, m.length, &cursor, &type, &length)) > 0) {
+        require((size_t)place >= end && (size_t)place + 4 + length <= m.length,
+                "an attribute outside");
+        end = (size_t)place + 4 + (length + 3) / 4 * 4;
+        require(cursor.place == end, "another cursor");
+        if (count == MOST_ATTRIBUTES) return;
+        found[count].place = (size_t)place, found[count].length = length, found[count].type = type;
+        count++;
+    }
+    require(place == (parsed < 0 ? parsed : 0), "another end of a walk");
+    require(parsed == 0 || (cursor.place == 0 && cursor.hidden == 0 && type == 7 && length == 77),
+            "a refused walk writes");
+}
+
+/* The first of a type among those found, or `count`. */
+static size_t first_of(uint32_t type) {
+    size_t i = 0;
+    while (i < count && found[i].type != type) i++;
+    return i;
+}
+
+/* stun_next and stun_find against the walk. */
+static void find(struct bytes m, int64_t parsed) {
+    static const uint16_t types[] = {
+        STUN_USERNAME, STUN_MESSAGE_INTEGRITY, STUN_ERROR_CODE, STUN_FINGERPRINT, 0, 0xffff};
+    int64_t place = 0;
+    for (size_t i = 0; i < count; i++) {
+        uint16_t type;
+        size_t length;
+        place = stun_next(m.at, m.length, (size_t)place, &type, &length);
+        require(place == (int64_t)found[i].place && type == found[i].type
+                    && length == found[i].length,
+                "stun_next goes elsewhere");
+        size_t first = first_of(type);
+        place = stun_find(m.at, m.length, type, &length);
+        require(place == (int64_t)found[first].place && length == found[first].length,
+                "stun_find finds another");
+        place = (int64_t)found[i].place;
+    }
+    for (size_t i = 0; i < sizeof types / sizeof *types; i++) {
+        size_t length = 77, first = first_of(types[i]);
+        int64_t at = stun_find(m.at, m.length, types[i], &length);
+        if (count == MOST_ATTRIBUTES && first == count) continue;
+        require(at
+                    == (parsed < 0       ? parsed
+                        : first == count ? STUN_MISSING_ATTRIBUTE
+                                         : (int64_t)found[first].place),
+                "stun_find");
+        require(at > 0 || length == 77, "a refused find writes");
+    }
+    size_t length;
+    require(stun_find(m.at, m.length, 65536, &length) == STUN_BAD_ARGUMENT, "a type that is none");
+}
+
+static void read_header(struct bytes m, int64_t parsed) {
+    stun_header header;
+    memset(&header, PATTERN, sizeof header);
+    int64_t answer = stun_read_header(m.at, m.length, &header),
+            frame = stun_next_frame(m.at, m.length);
+    uint8_t id[STUN_ID_LENGTH] = {0};
+    require(answer == 0 || parsed == answer, "a message without a header");
+    require(frame
+                == (m.length < 20 ? 20
+                    : answer < 0  ? STUN_NOT_STUN
+                                  : (int64_t)header.length),
+            "another frame");
+    require(stun_is_stun(m.at, m.length) == (answer == 0 && m.at[0] <= 3), "stun_is_stun");
+    require(stun_next_packet_frame(m.at, m.length) >= 2
+                && named(stun_next_turn_frame(m.at, m.length)) != 0,
+            "a frame");
+    require(stun_class(m.at, m.length) == (parsed < 0 ? parsed : (int64_t)header.message_class),
+            "another class");
+    require(stun_method(m.at, m.length) == (parsed < 0 ? parsed : (int64_t)header.method),
+            "another method");
+    require(stun_id(m.at, m.length, id, sizeof id) == (parsed < 0 ? parsed : 12), "no id");
+    require(parsed < 0 || (header.length == m.length && memcmp(id, header.id, sizeof id) == 0),
+            "another header");
+    require(stun_id(m.at, m.length, id, 11) == (parsed < 0 ? parsed : STUN_BUFFER_TOO_SMALL),
+            "a short id");
+}
+
+/* What plain addresses and numbers are read of the bytes at a place. */
+static void read_plainly(struct bytes m, size_t place) {
+    uint8_t octets[2][16];
+    uint16_t ports[2] = {0, 0};
+    uint64_t number = 7, wanted = 0;
+    int64_t answer = named(stun_read_address(m.at, m.length, place, octets[0], 16, ports));
+    int64_t size = named(stun_read_number(m.at, m.length, place, &number));
+    require(stun_read_xor_address(m.at, m.length, place, octets[1], 16, ports + 1) == answer,
+            "two answers of an address");
+    require(answer < 0
+                || (ports[0] == (ports[1] ^ 0x2112)
+                    && memcmp(octets[0], m.at + place + 8, (size_t)answer) == 0),
+            "another plain address");
+    require((size == STUN_BAD_ARGUMENT) == (answer == STUN_BAD_ARGUMENT), "a number of nothing");
+    for (int64_t i = 0; i < size; i++) wanted = wanted << 8 | m.at[place + 4 + (size_t)i];
+    require(number == (size < 0 ? 7 : wanted), "another number");
+}
+
+static void read_values(struct bytes m, int64_t parsed, uint8_t setting) {
+    uint8_t octets[2][16];
+    uint16_t ports[2] = {7, 7};
+    size_t code_at = first_of(STUN_ERROR_CODE), xor_at = first_of(STUN_XOR_MAPPED_ADDRESS),
+           room = setting % 17;
+    bool is_all = count < MOST_ATTRIBUTES;
+    int64_t code = named(stun_error_code(m.at, m.length));
+    require(code < 0 || (code >= 300 && code <= 699), "a code that is none");
+    if (parsed < 0 || is_all)
+        require(parsed < 0 ? code == parsed
+                           : (code == STUN_MISSING_ATTRIBUTE) == (code_at == count),
+                "another code");
+    memset(octets, PATTERN, sizeof octets);
+    int64_t answer = named(stun_xor_mapped_address(m.at, m.length, octets[0], room, ports));
+    require(answer <= (int64_t)room, "an address without room");
+    for (size_t i = answer < 0 ? 0 : (size_t)answer; i < 16; i++)
+        require(octets[0][i] == PATTERN, "behind an address");
+    require(answer > 0 || ports[0] == 7, "a refused address writes");
+    if (parsed < 0 || xor_at == count) {
+        if (parsed < 0 || is_all)
+            require(answer == (parsed < 0 ? parsed : STUN_MISSING_ATTRIBUTE),
+                    "an address of nothing");
+    } else {
+        require(
+            stun_read_xor_address(m.at, m.length, found[xor_at].place, octets[1], room, ports + 1)
+                == answer,
+            "two answers");
+        require(answer < 0
+                    || (ports[0] == ports[1] && memcmp(octets[0], octets[1], (size_t)answer) == 0),
+                "two addresses");
+    }
+    for (size_t place = setting; place < m.length + 8; place += 61) {
+        require(named(stun_read_xor_address(m.at, m.length, place, octets[1], 16, ports)) != 0,
+                "an address of no bytes");
+        read_plainly(m, place);
+    }
+}
+
+/* A copy of a message whose id is another. */
+static void change_id(struct bytes m) {
+    memcpy(before, m.at, m.length);
+    before[ID_AT] ^= 0x40;
+}
+
+static void check_fingerprint(struct bytes m, int64_t parsed) {
+    int64_t answer = named(stun_check_fingerprint(m.at, m.length));
+    require(parsed == 0 ? answer >= 0 && answer <= STUN_MISPLACED_FINGERPRINT : answer == parsed,
+            "FINGERPRINT");
+    if (parsed < 0) return;
+    if (count < MOST_ATTRIBUTES)
+        require((answer == STUN_NO_FINGERPRINT) == (first_of(STUN_FINGERPRINT) == count),
+                "no FINGERPRINT");
+    change_id(m);
+    int64_t changed = stun_check_fingerprint(before, m.length);
+    if (answer == STUN_RIGHT_FINGERPRINT)
+        require(changed == STUN_WRONG_FINGERPRINT, "a FINGERPRINT of two messages");
+    else if (answer != STUN_WRONG_FINGERPRINT)
+        require(changed == answer, "FINGERPRINT by the id");
+}
+
+static void read_unknown(struct bytes m, int64_t parsed, uint8_t setting) {
+    static const uint16_t known[] = {STUN_USERNAME, STUN_MESSAGE_INTEGRITY, STUN_REALM, STUN_NONCE};
+    uint16_t types[MOST_ATTRIBUTES + 1];
+    memset(types, PATTERN, sizeof types);
+    size_t room = setting % (MOST_ATTRIBUTES + 1), wanted = 0;
+    int64_t answer = stun_unknown_types(m.at, m.length, known, 4, types, room);
+    require(parsed == 0 || answer == parsed, "unknown types of no message");
+    for (size_t i = 0; i < count; i++) {
+        uint16_t type = found[i].type;
+        bool is_known = type >= 32768 || type == known[0] || type == known[1] || type == known[2]
+                        || type == known[3];
+        if (is_known || first_of(type) != i) continue;
+        if (parsed == 0 && wanted < room) require(types[wanted] == type, "another unknown type");
+        wanted++;
+    }
+    if (count < MOST_ATTRIBUTES && parsed == 0)
+        require(answer == (int64_t)wanted, "not as many unknown types");
+    for (size_t i = answer < 0 ? 0 : (size_t)answer; i < room; i++)
+        require(types[i] == 0xa5a5, "behind the types");
+    require(types[room] == 0xa5a5, "a type too many");
+    fill_out();
+    size_t space = (size_t)setting * 8;
+    int64_t length = named(stun_refuse_unknown(m.at, m.length, known, 4, out, space));
+    require_rest(length < 0 ? 0 : (size_t)length, "behind a 420");
+    require(length <= (int64_t)space, "a 420 without room");
+    if (parsed == 0 && length >= 0) require((length == 0) == (answer == 0), "another 420");
+    if (length > 0) require(stun_error_code(out, (size_t)length) == 420, "no 420");
+}
+
+static void read_all(struct bytes m, uint8_t setting) {
+    int64_t parsed = named(stun_parse(m.at, m.length));
+    require(parsed <= 0 && parsed >= STUN_TOO_LARGE, "another answer of stun_parse");
+    walk(m, parsed);
+    find(m, parsed);
+    read_header(m, parsed);
+    read_values(m, parsed, setting);
+    check_fingerprint(m, parsed);
+    read_unknown(m, parsed, setting);
+    stun_cursor anywhere = {setting, (uint32_t)setting << 24 | setting % 5};
+    uint16_t type;
+    size_t length;
+    for (int i = 0; i < MOST_ATTRIBUTES; i++) {
+        int64_t place = named(stun_walk(m.at, m.length, &anywhere, &type, &length));
+        if (place <= 0) break;
+        require((size_t)place + 4 + length <= m.length, "a walk from anywhere goes outside");
+    }
+}
+
+static void verify(struct bytes m, uint8_t setting) {
+    static const struct {
+        const char *bytes;
+        size_t length;
+    } keys[] = {
+        {"VOkJxbRl1RmTxUk/WvJxBt", 22},
+        {"\xe8\xca\x7a\xd5\x9d\x5e\xb0\x51\x8e\x31\x29\x11\xd2\xda\xb2\xa9",
+         16}, /* RFC 5769, section 2.4 */
+        {"key", 3},
+        {"", 0},
+    };
+    const uint8_t *key = (const uint8_t *)keys[setting % 4].bytes;
+    size_t length = keys[setting % 4].length;
+    int64_t parsed = stun_parse(m.at, m.length),
+            answer = named(stun_verify(m.at, m.length, key, length));
+    walk(m, parsed);
+    size_t weaker = first_of(STUN_MESSAGE_INTEGRITY),
+           stronger = first_of(STUN_MESSAGE_INTEGRITY_SHA256);
+    require(parsed == 0 || answer == parsed, "a digest of no message");
+    require(answer != 0 && answer <= STUN_SHA256, "another answer of stun_verify");
+    if (parsed < 0 || count == MOST_ATTRIBUTES) return;
+    require((answer == STUN_NO_INTEGRITY) == (weaker == count && stronger == count),
+            "no integrity");
+    if (answer < 0) return;
+    require(answer == (stronger < count ? STUN_SHA256 : STUN_SHA1), "another algorithm");
+    change_id(m);
+    require(stun_verify(before, m.length, key, length) == STUN_INTEGRITY_FAILED,
+            "a digest of two messages");
+}
+
+/* ---- The calls that write. */
+
+/* The calls that add to a message, in the order in which they are tried. */
+enum addition {
+    PLAINLY,
+    XOR_PEER,
+    XOR_MAPPED,
+    PLAIN_ADDRESS,
+    NUMBER,
+    ERROR_OF,
+    SIGNATURE,
+    CHECKSUM,
+    ADDITIONS
+};
+
+/* What they add: of a setting, and of the bytes of a step. */
+struct more {
+    uint32_t type, code, algorithm;
+    const stun_address *address;
+    const uint8_t *value, *reason;
+    size_t length, reason_length, size;
+    uint64_t number;
+};
+
+static int64_t add(enum addition which, size_t room, size_t length, const struct more *more) {
+    const stun_address *at = more->address;
+    switch (which) {
+    case PLAINLY: return stun_add(out, room, length, more->type, more->value, more->length);
+    case XOR_PEER:
+        return stun_add_xor_address(out, room, length, STUN_XOR_PEER_ADDRESS, at->octets,
+                                    at->length, at->port);
+    case XOR_MAPPED:
+        return stun_add_xor_mapped_address(out, room, length, at->octets, at->length, at->port);
+    case PLAIN_ADDRESS:
+        return stun_add_address(out, room, length, STUN_MAPPED_ADDRESS, at->octets, at->length,
+                                at->port);
+    case NUMBER:
+        return stun_add_number(out, room, length, STUN_PRIORITY, more->number, more->size);
+    case ERROR_OF:
+        return stun_add_error(out, room, length, more->code, more->reason, more->reason_length);
+    case SIGNATURE: return stun_sign(out, room, length, more->algorithm, TEXT("key"));
+    default: return stun_add_fingerprint(out, room, length);
+    }
+}
+
+/* The message of a length in `out` as it was, with an attribute more, where it has just the room
+ * that it wants, and one byte less. Returns its new length. */
+static size_t add_exactly(enum addition which, size_t length, const struct more *more) {
+    size_t whole = length + AMPLE + BEHIND;
+    memcpy(before, out, whole);
+    int64_t answer = named(add(which, length + AMPLE, length, more));
+    require(answer < 0 || ((size_t)answer > length && (size_t)answer <= length + AMPLE), "outside");
+    if (answer < 0) {
+        require(memcmp(out, before, whole) == 0, "a refusal writes");
+        return length;
+    }
+    size_t end = (size_t)answer;
+    memcpy(out, before, whole);
+    require(add(which, end - 1, length, more) == STUN_BUFFER_TOO_SMALL, "it needs no room");
+    require(memcmp(out, before, whole) == 0, "a refusal for want of room writes");
+    require(add(which, end, length, more) == answer, "it needs more room");
+    require(memcmp(out + end, before + end, whole - end) == 0, "written behind the message");
+    require(memcmp(out, before, 2) == 0 && memcmp(out + 4, before + 4, length - 4) == 0,
+            "what was there is changed");
+    return end;
+}
+
+static void write_more(struct bytes m, uint8_t setting) {
+    static const uint16_t types[] = {STUN_USERNAME, STUN_SOFTWARE, STUN_MESSAGE_INTEGRITY,
+                                     STUN_FINGERPRINT};
+    const struct more more = {.type = types[setting % 4],
+                              .code = 290 + 2u * setting,
+                              .algorithm = 1 + setting % 3,
+                              .address = address_of(setting),
+                              .value = m.at,
+                              .length = setting / 2u < m.length ? setting / 2u : m.length,
+                              .reason = setting % 8 ? (const uint8_t *)"Unknown Attribute" : m.at,
+                              .reason_length = setting / 16u < m.length ? setting / 16u : m.length,
+                              .size = setting % 16u,
+                              .number = (uint64_t)setting << setting % 57u};
+    const uint32_t wanted[ADDITIONS] = {
+        more.type, STUN_XOR_PEER_ADDRESS, STUN_XOR_MAPPED_ADDRESS, STUN_MAPPED_ADDRESS,
+        STUN_PRIORITY, STUN_ERROR_CODE,
+        more.algorithm == 1 ? STUN_MESSAGE_INTEGRITY : STUN_MESSAGE_INTEGRITY_SHA256,
+        STUN_FINGERPRINT};
+    size_t length = m.length, value;
+    memset(out, PATTERN, m.length + ADDITIONS * AMPLE + BEHIND);
+    memcpy(out, m.at, m.length);
+    for (int which = 0; which < ADDITIONS; which++) {
+        size_t end = add_exactly((enum addition)which, length, &more);
+        if (end == length) continue;
+        uint32_t type = (uint32_t)(out[length] << 8 | out[length + 1]);
+        require(type == wanted[which] && stun_parse(out, end) == 0, "another message is written");
+        require(stun_find(out, end, type, &value) > 0, "what was added is hidden");
+        length = end;
+        if (which == SIGNATURE)
+            require(stun_verify(out, length, TEXT("key")) == (int64_t)more.algorithm, "a digest");
+        if (which == CHECKSUM)
+            require(stun_check_fingerprint(out, length) == STUN_RIGHT_FINGERPRINT, "a FINGERPRINT");
+    }
+    require(add(PLAINLY, length, length + 1, &more) == STUN_BAD_ARGUMENT,
+            "a message longer than its room");
+}
+
+/* A message of a class, a method and an id that are the step's. */
+static void begin(struct bytes m, uint8_t setting) {
+    uint32_t kind = setting % 5, method = m.length < 2 ? 1 : (uint32_t)(m.at[0] << 8 | m.at[1]);
+    size_t room = setting / 5;
+    fill_out();
+    int64_t length = named(stun_begin(kind, method, m.at, m.length, out, room));
+    bool is_fit = kind <= STUN_ERROR && method < 4096 && m.length == STUN_ID_LENGTH;
+    require(length
+                == (!is_fit     ? STUN_BAD_ARGUMENT
+                    : room < 20 ? STUN_BUFFER_TOO_SMALL
+                                : 20),
+            "another beginning");
+    require_rest(length < 0 ? 0 : 20, "behind a header");
+    if (length < 0) return;
+    require(stun_class(out, 20) == kind && stun_method(out, 20) == (int64_t)method,
+            "another header is written");
+    require(memcmp(out + ID_AT, m.at, STUN_ID_LENGTH) == 0, "another id is written");
+}
+
+/* Keys, hashes and signed requests of strangers' texts. */
+static void write_texts(struct bytes m, uint8_t setting) {
+    uint32_t algorithm = setting % 4;
+    uint8_t keys[2][64], hash[64], id[STUN_ID_LENGTH] = {setting};
+    memset(keys, PATTERN, sizeof keys);
+    memset(hash, PATTERN, sizeof hash);
+    size_t half = m.length / 2, room = setting / 4;
+    int64_t length = named(stun_long_term_key(algorithm, m.at, half, m.at + half, m.length - half,
+                                              TEXT("word"), keys[0], room));
+    require(length < 0 || length == (algorithm == STUN_SHA1 ? 16 : 32), "a key of another length");
+    for (size_t i = length < 0 ? 0 : (size_t)length; i < sizeof hash; i++)
+        require(keys[0][i] == PATTERN, "behind a key");
+    int64_t hashed = named(stun_userhash(m.at, half, m.at + half, m.length - half, hash, room));
+    require(hashed < 0 || hashed == 32, "a hash of another length");
+    for (size_t i = hashed < 0 ? 0 : 32; i < sizeof hash; i++)
+        require(hash[i] == PATTERN, "behind a hash");
+    if (length > 0) require((hashed == 32) == (room >= 32), "a key and no hash");
+    fill_out();
+    size_t space = STUN_LONGEST_SIGNED - setting;
+    int64_t built =
+        named(stun_build_signed(algorithm, id, sizeof id, m.at, half, TEXT("key"), out, space));
+    require_rest(built < 0 ? 0 : (size_t)built, "behind a request");
+    if (built > 0)
+        require(built <= (int64_t)space
+                    && stun_verify(out, (size_t)built, TEXT("key")) == (int64_t)algorithm,
+                "a request");
+}
+
+/* ---- The calls with state. */
+
+static const uint32_t words[16] = {3, 1, 4, 1, 5, 9, 2, 6, 5, 3, 5, 8, 9, 7, 9, 3};
+
+/* What signing makes of the message in `out`: the new length, or 0. */
+static size_t signed_length(int64_t answer, size_t room, size_t length) {
+    named(answer);
+    require_rest(room, "signed outside");
+    if (answer < 0) require(memcmp(out, before, room) == 0, "a refused signature writes");
+    if (answer < 0) return 0;
+    require((size_t)answer >= length && (size_t)answer <= room
+                && (size_t)answer <= length + MOST_ADDED,
+            "signed to another length");
+    require(stun_parse(out, (size_t)answer) == 0, "what was signed is no message");
+    return (size_t)answer;
+}
+
+/* The server's answer to a request with this id, in `out`, and its length, or 0. */
+static size_t answer_to(const uint8_t *id, int64_t verdict, const stun_address *to, size_t room) {
+    uint32_t code = verdict == STUN_BAD_REQUEST ? 400 : verdict == STUN_STALE_NONCE ? 438 : 401;
+    fill_out();
+    int64_t length = stun_begin(verdict > 0 ? STUN_SUCCESS : STUN_ERROR, STUN_BINDING, id,
+                                STUN_ID_LENGTH, out, room);
+    if (length > 0 && verdict > 0)
+        length = stun_add_xor_mapped_address(out, room, (size_t)length, to->octets, to->length,
+                                             to->port);
+    else if (length > 0)
+        length = stun_add_error(out, room, (size_t)length, code, TEXT("no"));
+    if (length < 0) return 0;
+    memcpy(before, out, ROOM);
+    return signed_length(stun_server_sign(&world.server, out, room, (size_t)length, to), room,
+                         (size_t)length);
+}
+
+static int64_t server_hears(const uint8_t *message, size_t length, const stun_address *from) {
+    uint8_t name[1024], nonce[64];
+    size_t name_length = 77;
+    bool is_full = world.server.is_full;
+    int64_t parsed = stun_parse(message, length);
+    int64_t verdict =
+        named(stun_server_validate(&world.server, message, length, from, world.now, words));
+    require(verdict != 0 && verdict <= STUN_SHA256, "another verdict of the server");
+    if (!is_full || !is_address(from) || parsed < 0)
+        require(verdict
+                    == (!is_full            ? STUN_EMPTY_HANDLE
+                        : !is_address(from) ? STUN_BAD_ARGUMENT
+                                            : parsed),
+                "a message is heard");
+    int64_t noted = named(stun_server_nonce(&world.server, from, nonce, sizeof nonce));
+    int64_t who = named(stun_server_client(&world.server, from, name, sizeof name, &name_length));
+    require(noted <= 29, "a nonce that is longer");
+    require(who > 0 ? name_length <= sizeof name : name_length == 77, "a name without room");
+    if (verdict > 0 && stun_class(message, length) < STUN_SUCCESS)
+        require(who == verdict || who == STUN_BUFFER_TOO_SMALL, "nobody was validated");
+    return verdict;
+}
+
+static int64_t client_hears(const uint8_t *message, size_t length) {
+    bool is_full = world.client.is_full;
+    int64_t parsed = stun_parse(message, length),
+            answer = named(stun_client_validate(&world.client, message, length));
+    require(answer != 0 && answer <= STUN_RESEND_SHA256, "another verdict of the client");
+    if (!is_full || parsed < 0)
+        require(answer == (is_full ? parsed : STUN_EMPTY_HANDLE), "no message is heard");
+    return answer;
+}
+
+/* The step's bytes as a message to the server, and its answer to the client. */
+static void to_server(struct bytes m, uint8_t setting) {
+    stun_header header;
+    const stun_address *from = address_of(setting);
+    int64_t verdict = server_hears(m.at, m.length, from);
+    if (stun_read_header(m.at, m.length, &header) < 0 || !is_address(from)) return;
+    size_t length =
+        answer_to(header.id, verdict, from, setting % 2 == 0 ? ROOM / 2 : (size_t)setting);
+    if (length > 0 && setting % 4 < 2) client_hears(out, length);
+}
+
+/* Changes bytes of the message in `out`, by those of the step, and says whether one is changed that
+ * a digest covers. */
+static bool change(struct bytes m, size_t length) {
+    bool is_changed = false;
+    size_t place = m.length < 2 ? 0 : (size_t)(m.at[0] << 8 | m.at[1]) % length;
+    for (size_t i = 2; i < m.length && place < length; i++, place++) {
+        out[place] ^= m.at[i];
+        is_changed |= m.at[i] != 0 && place != 2 && place != 3;
+    }
+    return is_changed;
+}
+
+/* A request of the client, the server's answer, and what the client says: either message is changed
+ * on its way, or neither. */
+static void exchange(struct bytes m, uint8_t setting) {
+    uint8_t id[STUN_ID_LENGTH] = {setting, 1};
+    const stun_address *from = address_of(setting);
+    bool is_both_full = world.server.is_full && world.client.is_full, is_request_changed = false;
+    fill_out();
+    int64_t begun = stun_begin(STUN_REQUEST, STUN_BINDING, id, sizeof id, out, ROOM / 2);
+    memcpy(before, out, ROOM);
+    size_t length = signed_length(stun_client_sign(&world.client, out, ROOM / 2, (size_t)begun),
+                                  ROOM / 2, (size_t)begun);
+    if (length == 0) return;
+    if (setting & 64) is_request_changed = change(m, length);
+    uint8_t *at = pages + pages_length - length;
+    memcpy(at, out, length);
+    int64_t verdict = server_hears(at, length, from);
+    if (is_request_changed) require(verdict <= 0, "a changed request is validated");
+    if (!is_address(from) || !is_both_full) return;
+    length = answer_to(id, verdict, from, ROOM / 2);
+    if (length == 0) return;
+    bool is_answer_changed = setting & 128 && change(m, length);
+    at = pages + pages_length - length;
+    memcpy(at, out, length);
+    int64_t answer = client_hears(at, length);
+    if (is_answer_changed)
+        require(answer != STUN_SHA1 && answer != STUN_SHA256, "a changed answer is validated");
+    if (setting & 32) stun_server_remove_client(&world.server, from);
+}
+
+static void agent_sends(struct bytes m, uint8_t setting) {
+    stun_address to = {{0}, 0, 0};
+    const stun_address *peer = address_of(setting);
+    int64_t parsed = stun_parse(m.at, m.length), kind = stun_class(m.at, m.length);
+    bool is_full = world.agent.is_full, is_allowed = world.remote == NULL || world.remote == peer;
+    int64_t was =
+        parsed < 0 ? 0 : stun_agent_is_outstanding(&world.agent, m.at + ID_AT, STUN_ID_LENGTH, &to);
+    int64_t answer = named(stun_agent_send_request(&world.agent, m.at, m.length, peer, world.now));
+    require(answer <= 0, "another answer of stun_agent_send_request");
+    if (!is_full || !is_address(peer)) {
+        require(answer == (is_full ? STUN_BAD_ARGUMENT : STUN_EMPTY_HANDLE),
+                "sent by nobody or to nobody");
+        return;
+    }
+    if (parsed < 0)
+        require(answer == parsed, "no message is sent");
+    else if (kind != STUN_REQUEST || !is_allowed)
+        require(answer == STUN_PROTOCOL_VIOLATION, "no request is sent, or to another");
+    else if (was == 1)
+        require(answer == STUN_ALREADY_IN_PROGRESS, "sent twice");
+    if (answer == 0) {
+        require(stun_agent_is_outstanding(&world.agent, m.at + ID_AT, STUN_ID_LENGTH, &to) == 1,
+                "not outstanding");
+        require(memcmp(&to, peer, sizeof to) == 0, "sent elsewhere");
+    }
+    int64_t told = named(stun_agent_send(&world.agent, m.at, m.length, peer));
+    require(told
+                == (parsed < 0                            ? parsed
+                    : kind == STUN_REQUEST || !is_allowed ? STUN_PROTOCOL_VIOLATION
+                                                          : 0),
+            "told otherwise");
+}
+
+static void agent_hears(struct bytes m, uint8_t setting) {
+    stun_address to = {{0}, 0, 0};
+    const stun_address *from = address_of(setting);
+    int64_t parsed = stun_parse(m.at, m.length), kind = stun_class(m.at, m.length), asked = 0;
+    if (parsed == 0)
+        asked = stun_agent_is_outstanding(&world.agent, m.at + ID_AT, STUN_ID_LENGTH, &to);
+    bool is_asked = asked == 1 && memcmp(&to, from, sizeof to) == 0, is_full = world.agent.is_full;
+    int64_t answer = named(stun_agent_handle(&world.agent, m.at, m.length, from, world.now));
+    if (answer == STUN_OUT_OF_MEMORY) return;
+    require(answer
+                == (!is_full            ? STUN_EMPTY_HANDLE
+                    : !is_address(from) ? STUN_BAD_ARGUMENT
+                    : parsed < 0        ? parsed
+                                        : kind < STUN_SUCCESS || is_asked),
+            "another answer of stun_agent_handle");
+    if (answer < 0) return;
+    int64_t now_asked = stun_agent_is_outstanding(&world.agent, m.at + ID_AT, STUN_ID_LENGTH, &to);
+    require(now_asked == (kind >= STUN_SUCCESS && is_asked ? 0 : asked), "another request ends");
+    if (answer == 1) require(stun_agent_is_validated_peer(&world.agent, from) == 1, "not a peer");
+}
+
+/* What is due, some of it, and what the agent is told of one request. */
+static void agent_is_asked(struct bytes m, uint8_t setting) {
+    const stun_timeouts timeouts = {setting % 16 * 100000000u, setting % 5 * 1000000000u,
+                                    setting * 10000000u, setting % 9};
+    stun_statistics statistics;
+    stun_address to;
+    uint8_t id[STUN_ID_LENGTH] = {0};
+    memcpy(id, m.at, m.length < sizeof id ? m.length : sizeof id);
+    if (setting & 1) named(stun_agent_cancel(&world.agent, id, sizeof id));
+    if (setting & 2) named(stun_agent_cancel_retransmissions(&world.agent, id, sizeof id));
+    if (setting & 4) named(stun_agent_configure(&world.agent, id, sizeof id, &timeouts));
+    if (setting & 8) named(stun_agent_validated_peer(&world.agent, address_of(setting / 16)));
+    require(stun_agent_cancel(&world.agent, id, m.length % 12) < 0, "an id that is none");
+    for (int i = 0; i < 16; i++) {
+        fill_out();
+        int64_t length = named(
+            stun_agent_poll_transmit(&world.agent, world.now, out, ROOM / 4 + setting * 2, &to));
+        require_rest(length < 0 ? 0 : (size_t)length, "behind a transmission");
+        if (length <= 0) break;
+        require(stun_class(out, (size_t)length) == STUN_REQUEST && is_address(&to),
+                "no request is sent again");
+        require(stun_agent_is_outstanding(&world.agent, out + ID_AT, STUN_ID_LENGTH, &to) == 1,
+                "what is over is sent again");
+    }
+    for (int i = 0; i < 16; i++) {
+        uint64_t until = 77;
+        int64_t answer = named(stun_agent_poll(&world.agent, world.now, &until, id, sizeof id));
+        require(answer <= STUN_CANCELLED
+                    && (answer == 0 ? until <= world.now + 3600000000000 || until < world.now
+                                    : until == 77),
+                "another wait");
+        if (answer <= 0) break;
+        require(stun_agent_is_outstanding(&world.agent, id, sizeof id, &to) == 0,
+                "what is over is outstanding");
+    }
+    require(stun_agent_statistics(&world.agent, &statistics)
+                == (world.agent.is_full ? 0 : STUN_EMPTY_HANDLE),
+            "no statistics");
+}
+
+static void go_on(struct bytes m, uint8_t setting) {
+    uint64_t step = (uint64_t)setting << setting % 36;
+    for (size_t i = 0; i < m.length && i < 4; i++) step += (uint64_t)m.at[i] << 8 * i;
+    if (step <= UINT64_MAX - world.now) world.now += step;
+}
+
+static void set_server(uint8_t setting) {
+    named(stun_server_set_algorithms(&world.server, setting % 5));
+    named(stun_server_set_anonymous_username(&world.server, setting / 5 % 4));
+    if (setting & 1) named(stun_server_set_nonce_expiry(&world.server, (uint64_t)setting << 30));
+}
+
+static void set_client(struct bytes m, uint8_t setting) {
+    size_t half = m.length / 2;
+    named(stun_client_set_algorithms(&world.client, setting % 5));
+    named(stun_client_set_anonymous_username(&world.client, setting / 5 % 4));
+    if (setting & 1)
+        named(stun_client_set_credentials(&world.client, m.at, half, m.at + half, m.length - half));
+    else
+        named(stun_client_set_credentials(&world.client, TEXT("name"), TEXT("word")));
+    require(named(stun_client_signing_algorithm(&world.client)) <= STUN_SHA256,
+            "another algorithm signs");
+}
+
+static void set_users(struct bytes m, uint8_t setting) {
+    size_t half = m.length / 2;
+    if (setting & 1)
+        named(stun_server_add_user(&world.server, m.at, half, m.at + half, m.length - half));
+    else if (setting & 2)
+        named(stun_server_remove_user(&world.server, m.at, m.length));
+    else if (setting & 4)
+        named(stun_server_remove_user(&world.server, TEXT("name")));
+    else
+        named(stun_server_add_user(&world.server, TEXT("name"), TEXT("word")));
+}
+
+static void forget(uint8_t setting) {
+    uint8_t nonce[64];
+    const stun_address *at = address_of(setting);
+    stun_address next = {{0}, 0, 0};
+    uint64_t moment = setting & 1 ? world.now : UINT64_MAX;
+    switch (setting / 2 % 4) {
+    case 0: named(stun_server_remove_client(&world.server, at)); break;
+    case 1: named(stun_server_forget_expired(&world.server, moment)); break;
+    case 2:
+        for (int i = 0;
+             i < 8
+             && named(stun_server_forget_expired_within(&world.server, moment, &next, 1)) == 1;
+             i++)
+            require(is_address(&next), "goes on nowhere");
+        break;
+    default:
+        if (named(stun_server_forget(&world.server, at)) == 0)
+            require(stun_server_nonce(&world.server, at, nonce, sizeof nonce) == 0,
+                    "a forgotten address has a nonce");
+    }
+}
+
+/* Frees a handle or more, and makes those that are empty anew. */
+static void make_handles(struct bytes m, uint8_t setting) {
+    const stun_timeouts timeouts = {500000000u * (setting / 8u % 4), UINT64_MAX, setting,
+                                    1 + setting % 8};
+    if (setting & 1) stun_server_free(&world.server);
+    if (setting & 2) stun_client_free(&world.client);
+    if (setting & 4) stun_agent_free(&world.agent);
+    bool were_full[] = {world.server.is_full, world.client.is_full, world.agent.is_full};
+    int64_t answers[] = {
+        setting & 8 ? stun_server_new(&world.server, m.at, m.length)
+                    : stun_server_new(&world.server, TEXT("realm")),
+        stun_client_new(&world.client),
+        setting & 16 ? stun_agent_new_with(&world.agent, setting / 32 % 3, addresses,
+                                           address_of(setting), &timeouts)
+                     : stun_agent_new(&world.agent, setting / 32 % 2, addresses),
+    };
+    bool are_full[] = {world.server.is_full, world.client.is_full, world.agent.is_full};
+    if (answers[2] == 0) world.remote = setting & 16 ? address_of(setting) : NULL;
+    for (int i = 0; i < 3; i++) {
+        require(were_full[i] == (named(answers[i]) == STUN_FULL_HANDLE), "a full handle is filled");
+        require(are_full[i] == (were_full[i] || answers[i] == 0),
+                "a handle is not what the answer says");
+    }
+}
+
+/* ---- Inputs. */
+
+static void play_step(enum step step, uint8_t setting, struct bytes m) {
+    switch (step) {
+    case READ: read_all(m, setting); break;
+    case VERIFY: verify(m, setting); break;
+    case WRITE: write_more(m, setting); break;
+    case BEGIN: begin(m, setting); break;
+    case TEXTS: write_texts(m, setting); break;
+    case SERVER_HEARS: to_server(m, setting); break;
+    case CLIENT_HEARS: client_hears(m.at, m.length); break;
+    case EXCHANGE: exchange((struct bytes){m.origin, m.origin, m.length}, setting); break;
+    case AGENT_SENDS: agent_sends(m, setting); break;
+    case AGENT_HEARS: agent_hears(m, setting); break;
+    case AGENT_IS_ASKED: agent_is_asked(m, setting); break;
+    case TIME: go_on(m, setting); break;
+    case SERVER_IS_SET: set_server(setting); break;
+    case CLIENT_IS_SET: set_client(m, setting); break;
+    case USERS: set_users(m, setting); break;
+    case FORGET: forget(setting); break;
+    case MEMORY: heap_refuse(setting % 16); break;
+    default: make_handles(m, setting);
+    }
+    if (step != EXCHANGE)
+        require(m.length == 0 || memcmp(m.at, m.origin, m.length) == 0, "what was read is changed");
+}
+
+int LLVMFuzzerTestOneInput(const uint8_t *input, size_t size);
+
+int LLVMFuzzerTestOneInput(const uint8_t *input, size_t size) {
+    if (pages == NULL) {
+        make_pages();
+        memset(blank, PATTERN, sizeof blank);
+    }
+    memset(&world, 0, sizeof world);
+    make_handles((struct bytes){pages, pages, 0}, 0);
+    set_users((struct bytes){pages, pages, 0}, 0);
+    set_client((struct bytes){pages, pages, 0}, STUN_SHA1 * 2);
+    for (size_t at = 0; size - at >= 4;) {
+        size_t length = (size_t)(input[at + 2] << 8 | input[at + 3]);
+        struct bytes m = {NULL, input + at + 4, length < size - at - 4 ? length : size - at - 4};
+        if (m.length > STUN_LONGEST_MESSAGE) m.length = STUN_LONGEST_MESSAGE;
+        uint8_t *place = pages + pages_length - m.length;
+        if (m.length > 0) memcpy(place, m.origin, m.length);
+        m.at = place;
+        play_step(input[at] % STEPS, input[at + 1], m);
+        at += 4 + m.length;
+    }
+    heap_refuse(0);
+    stun_agent_free(&world.agent);
+    stun_client_free(&world.client);
+    stun_server_free(&world.server);
+    require(heap_blocks() == 0 && heap_bytes() == 0, "a block is lost");
+    return 0;
+}
+
+#ifdef PLAIN
+
+enum { MOST_SEEDS = 512, MOST_BYTES = 1 << 14, MUTATIONS = 20000 };
+static struct {
+    uint8_t *bytes;
+    size_t length;
+} seeds[MOST_SEEDS];
+
+/* A seed with some bytes changed, and now and then the steps of another one behind it. */
+static size_t mutate_seed(uint8_t *bytes, uint32_t number) {
+    uint32_t from = draw(number), more = draw(number);
+    size_t length = seeds[from].length;
+    memcpy(bytes, seeds[from].bytes, length);
+    if (draw(4) == 0) {
+        memcpy(bytes + length, seeds[more].bytes, seeds[more].length);
+        length += seeds[more].length;
+    }
+    for (uint32_t changes = 1 + draw(6); changes > 0 && length > 0; changes--) {
+        uint8_t *byte = bytes + draw((uint32_t)length);
+        *byte = draw(2) == 0 ? (uint8_t)draw(256) : *byte ^ (uint8_t)(1 << draw(8));
+    }
+    return draw(8) == 0 ? draw((uint32_t)length + 1) : length;
+}
+
+int main(int words_count, char **names) {
+    static uint8_t bytes[2 * MOST_BYTES];
+    uint32_t number = 0;
+    for (int i = 1; i < words_count && number < MOST_SEEDS; i++, number++) {
+        FILE *file = fopen(names[i], "rb");
+        require(file != NULL, names[i]);
+        size_t length = fread(bytes, 1, MOST_BYTES, file);
+        fclose(file);
+        uint8_t *copy = malloc(length + 1);
+        require(copy != NULL, "no memory");
+        memcpy(copy, bytes, length);
+        seeds[number].bytes = copy, seeds[number].length = length;
+        LLVMFuzzerTestOneInput(copy, length);
+    }
+    require(number > 0, "no seeds");
+    for (int i = 0; i < MUTATIONS; i++) LLVMFuzzerTestOneInput(bytes, mutate_seed(bytes, number));
+    for (uint32_t i = 0; i < number; i++) free(seeds[i].bytes);
+    printf("fuzz: %u inputs\n", number + MUTATIONS);
+    return 0;
+}
+
+#endif

@@ -1,0 +1,116 @@
+#!/bin/sh
+# Installs the archives that STUN_C and STUN_STATE name, by absolute paths, or those of `rt lib`,
+# into a scratch folder, builds programs over it, by pkg-config and by CMake where they are there,
+# and takes all of it out again. Where an archive is missing, make says what to run, and proves
+# nothing. Without a C compiler and make this checks nothing. The last line says what was checked.
+set -eu
+cd "$(dirname "$0")"
+cc=${CC:-cc}
+if ! "$cc" --version >/dev/null 2>&1 || ! command -v make >/dev/null; then
+    echo 'install: no C compiler and make'
+    exit 0
+fi
+scratch=$(mktemp -d)
+trap 'rm -rf "$scratch"' EXIT
+root=$scratch/root
+STUN_C=${STUN_C:-../crates/stun_c/out/libstun_c.a}
+STUN_STATE=${STUN_STATE:-../crates/stun_state/out/libstun_state.a}
+unset MAKEFLAGS MAKELEVEL
+
+fail() {
+    echo "install: $*" >&2
+    exit 1
+}
+
+# quiet COMMAND..: its output is told only where it fails.
+quiet() { "$@" >"$scratch/output" 2>&1 || { cat "$scratch/output" >&2 && exit 1; }; }
+
+# refuses FOLDER WORD..: make fails there with one line that names `rt lib`, and starts no rt.
+mkdir "$scratch/bin"
+printf '#!/bin/sh\necho "$@" >>%s/started\n' "$scratch" >"$scratch/bin/rt"
+chmod +x "$scratch/bin/rt"
+refuses() {
+    ! PATH="$scratch/bin:$PATH" make -s -C "$@" >"$scratch/told" 2>&1 || fail "make -C $* passed"
+    grep -q 'is missing: `rt lib`' "$scratch/told" && [ "$(wc -l <"$scratch/told")" = 1 ] ||
+        fail "make -C $* told $(cat "$scratch/told")"
+    [ ! -e "$scratch/started" ] || fail "make -C $* started rt"
+}
+absent=$scratch/absent.a
+refuses ../include install DESTDIR="$root" MESSAGES="$absent" STATE="$STUN_STATE" OUT="$scratch"
+refuses ../include install DESTDIR="$root" MESSAGES="$STUN_C" STATE="$absent" OUT="$scratch"
+refuses ../examples/c OUT="$scratch/examples" LIBRARY="$absent" STATE="$STUN_STATE"
+refuses ../examples/c udp OUT="$scratch/examples" LIBRARY="$STUN_C" STATE="$absent"
+
+# One program is built, and one is not.
+echo tool >"$scratch/bin/stun_tool"
+chmod +x "$scratch/bin/stun_tool"
+in_root() {
+    make -s -C ../include "$@" CC="$cc" DESTDIR="$root" PREFIX=/usr OUT="$scratch/heap" \
+        MESSAGES="$STUN_C" STATE="$STUN_STATE" \
+        PROGRAMS="$scratch/bin/stun_tool $scratch/bin/stun_inspect"
+}
+told=$(in_root install)
+[ "$told" = "left out: $scratch/bin/stun_inspect is not built" ] || fail "told $told"
+for file in bin/stun_tool share/man/man1/stun_tool.1 share/man/man1/stun_inspect.1 \
+    share/stun/heap.c; do
+    [ -s "$root/usr/$file" ] || fail "no $file"
+done
+cmp -s "$STUN_STATE" "$root/usr/lib/libstun_state.a" || fail 'another archive'
+
+# prints WANTED PROGRAM
+prints() {
+    printed=$("$2") || fail "$2 ended with $?"
+    [ "$printed" = "$1" ] || fail "$2 printed '$printed', not '$1'"
+}
+version=$(sed -n 's/^Version: //p' "$root/usr/lib/pkgconfig/stun.pc")
+checked='make'
+
+# flags NAME..: for a compiler, of the files for pkg-config.
+flags() {
+    if command -v pkg-config >/dev/null; then
+        PKG_CONFIG_PATH="$root/usr/lib/pkgconfig" PKG_CONFIG_SYSROOT_DIR="$root" \
+            PKG_CONFIG_ALLOW_SYSTEM_CFLAGS=1 PKG_CONFIG_ALLOW_SYSTEM_LIBS=1 \
+            pkg-config --cflags --libs "$@"
+    else
+        echo "-I$root/usr/include -L$root/usr/lib -lstun_state -lstun_c -lstun_heap"
+    fi
+}
+strict='-std=c99 -Wall -Wextra -Wpedantic -Werror'
+for memory in LIBRARYS_MEMORY OWN_MEMORY; do
+    "$cc" $strict -D$memory c/installed.c $(flags stun_state) -o "$scratch/installed"
+    prints "$version" "$scratch/installed"
+done
+# The first archive wants no memory, but for one of the exported crate with the program's memory.
+messages='stun'
+! nm -u "$STUN_C" 2>/dev/null | grep -q rattle_alloc || messages='stun stun_heap'
+"$cc" c/arguments.c $(flags $messages) -o "$scratch/arguments"
+prints 'arguments: passed' "$scratch/arguments"
+if command -v pkg-config >/dev/null; then checked="$checked, pkg-config"; fi
+
+if command -v cmake >/dev/null; then
+    mkdir "$scratch/project"
+    cat >"$scratch/project/CMakeLists.txt" <<'PROJECT'
+cmake_minimum_required(VERSION 3.13)
+project(installed C)
+find_package(stun 99 QUIET)
+if(stun_FOUND)
+    message(FATAL_ERROR "version 99 is found")
+endif()
+find_package(stun ${RELEASE} REQUIRED)
+add_executable(installed ${SOURCE})
+target_link_libraries(installed stun::stun_state)
+PROJECT
+    quiet cmake -S "$scratch/project" -B "$scratch/built" -DCMAKE_C_COMPILER="$cc" \
+        -DCMAKE_PREFIX_PATH="$root/usr" -DRELEASE="$version" -DSOURCE="$PWD/c/installed.c"
+    quiet cmake --build "$scratch/built"
+    prints "$version" "$scratch/built/installed"
+    checked="$checked, CMake"
+fi
+
+in_root uninstall
+left=$(find "$root" ! -type d)
+[ -z "$left" ] || fail "left $left"
+left=$(find "$root" -name '*stun*')
+[ -z "$left" ] || fail "left $left"
+in_root uninstall
+echo "install: passed with $checked"

@@ -2,7 +2,7 @@
  *
  * `bench COUNTS` prints the table: COUNTS has a line `NAME INSTRUCTIONS` for each call, as run.sh takes them.
  * `bench call NAME TIMES` makes one of the calls so often, for callgrind. */
-#include "stun.h"
+#include "stunp.h"
 #include <openssl/evp.h>
 #include <openssl/hmac.h>
 #include <openssl/md5.h>
@@ -36,7 +36,7 @@ static const char user_password[] = "TheMatrIX";
 /* The request of section 2.1 with MESSAGE-INTEGRITY-SHA256 in place of MESSAGE-INTEGRITY. */
 static uint8_t sha256_request[120];
 static uint8_t long_term_key[16];
-static uint8_t out[STUN_LONGEST_SIGNED];
+static uint8_t out[STUNP_LONGEST_SIGNED];
 
 /* What a digest covers, behind a block for the key; and the block and the digest of the outer hash. */
 static struct covered {
@@ -82,33 +82,33 @@ static const uint8_t *bytes(const char *text) {
 }
 
 static int64_t parse(void) {
-    return stun_parse(short_term, sizeof short_term);
+    return stunp_parse(short_term, sizeof short_term);
 }
 
 static int64_t verify(void) {
-    return stun_verify(short_term, sizeof short_term, bytes(password), strlen(password));
+    return stunp_verify(short_term, sizeof short_term, bytes(password), strlen(password));
 }
 
 static int64_t verify_long_term(void) {
-    return stun_verify(long_term, sizeof long_term, long_term_key, sizeof long_term_key);
+    return stunp_verify(long_term, sizeof long_term, long_term_key, sizeof long_term_key);
 }
 
 static int64_t verify_sha256(void) {
-    return stun_verify(sha256_request, sizeof sha256_request, bytes(password), strlen(password));
+    return stunp_verify(sha256_request, sizeof sha256_request, bytes(password), strlen(password));
 }
 
 static int64_t build(void) {
-    return stun_build_signed(STUN_SHA1, short_term + 8, STUN_ID_LENGTH, bytes("evtj:h6vY"), 9, bytes(password),
+    return stunp_build_signed(STUNP_SHA1, short_term + 8, STUNP_ID_LENGTH, bytes("evtj:h6vY"), 9, bytes(password),
                              strlen(password), out, sizeof out);
 }
 
 static int64_t md5_key(void) {
-    return stun_long_term_key(STUN_SHA1, bytes(username), strlen(username), bytes(realm), strlen(realm),
+    return stunp_long_term_key(STUNP_SHA1, bytes(username), strlen(username), bytes(realm), strlen(realm),
                               bytes(user_password), strlen(user_password), out, sizeof out);
 }
 
 static int64_t sha256_key(void) {
-    return stun_long_term_key(STUN_SHA256, bytes(username), strlen(username), bytes(realm), strlen(realm),
+    return stunp_long_term_key(STUNP_SHA256, bytes(username), strlen(username), bytes(realm), strlen(realm),
                               bytes(user_password), strlen(user_password), out, sizeof out);
 }
 
@@ -151,13 +151,13 @@ static const struct work {
     double ratio_bar;
     long instructions_bar;
 } works[] = {
-    {"parse", "parse (RFC 5769 section 2.1)", "stun_parse", parse, 0, NULL, 0, 200},
-    {"verify", "parse and verify (2.1), HMAC-SHA1", "stun_verify", verify, STUN_SHA1, digest_short, 1.6, 9400},
-    {"verify_long_term", "parse and verify (2.4), HMAC-SHA1", "stun_verify", verify_long_term, STUN_SHA1, digest_long, 0, 0},
-    {"verify_sha256", "parse and verify (2.1 signed anew), HMAC-SHA256", "stun_verify", verify_sha256, STUN_SHA256, digest_sha256, 1.55, 16750},
-    {"build", "build and sign, HMAC-SHA1", "stun_build_signed", build, 60, digest_built, 1.6, 7450},
-    {"md5_key", "long-term key by MD5", "stun_long_term_key", md5_key, 16, digest_md5, 0, 1150},
-    {"sha256_key", "long-term key by SHA-256", "stun_long_term_key", sha256_key, 32, digest_key_sha256, 0, 0},
+    {"parse", "parse (RFC 5769 section 2.1)", "stunp_parse", parse, 0, NULL, 0, 200},
+    {"verify", "parse and verify (2.1), HMAC-SHA1", "stunp_verify", verify, STUNP_SHA1, digest_short, 1.6, 9400},
+    {"verify_long_term", "parse and verify (2.4), HMAC-SHA1", "stunp_verify", verify_long_term, STUNP_SHA1, digest_long, 0, 0},
+    {"verify_sha256", "parse and verify (2.1 signed anew), HMAC-SHA256", "stunp_verify", verify_sha256, STUNP_SHA256, digest_sha256, 1.55, 16750},
+    {"build", "build and sign, HMAC-SHA1", "stunp_build_signed", build, 60, digest_built, 1.6, 7450},
+    {"md5_key", "long-term key by MD5", "stunp_long_term_key", md5_key, 16, digest_md5, 0, 1150},
+    {"sha256_key", "long-term key by SHA-256", "stunp_long_term_key", sha256_key, 32, digest_key_sha256, 0, 0},
 };
 
 static void fail(const char *what) {

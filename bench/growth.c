@@ -1,7 +1,7 @@
 /* How the calls on messages grow with the number of attributes: microseconds of processor at messages of so many attributes of 4
  * bytes, the least of several runs, as rows of a table. The last column is the power of the number that the time grows by, from
  * 1,000 attributes to 16,376. hostile.sh builds this without a sanitizer. */
-#include "stun.h"
+#include "stunp.h"
 #include <math.h>
 #include <stdio.h>
 #include <stdlib.h>
@@ -11,7 +11,7 @@ enum { SIZES = 4, FIRST_TYPE = 0x4000, RUNS = 5 };
 
 static const size_t counts[SIZES] = {100, 1000, 10000, 16376};
 static const uint8_t key[16] = "sixteen letters";
-static uint8_t message[STUN_LONGEST_MESSAGE], other[STUN_LONGEST_MESSAGE];
+static uint8_t message[STUNP_LONGEST_MESSAGE], other[STUNP_LONGEST_MESSAGE];
 static size_t count, length;
 
 static void want(const char *what, int64_t answer, int64_t wanted) {
@@ -22,69 +22,69 @@ static void want(const char *what, int64_t answer, int64_t wanted) {
 
 /* A request of so many attributes, each of another type, and so many bytes that its length field says. */
 static void spell(size_t attributes) {
-    static const uint8_t id[STUN_ID_LENGTH] = {1};
+    static const uint8_t id[STUNP_ID_LENGTH] = {1};
     count = attributes;
-    length = STUN_HEADER_LENGTH + 4 * count;
-    want("stun_begin", stun_begin(STUN_REQUEST, STUN_BINDING, id, sizeof id, message, sizeof message), STUN_HEADER_LENGTH);
+    length = STUNP_HEADER_LENGTH + 4 * count;
+    want("stunp_begin", stunp_begin(STUNP_REQUEST, STUNP_BINDING, id, sizeof id, message, sizeof message), STUNP_HEADER_LENGTH);
     message[2] = (uint8_t)((4 * count) >> 8);
     message[3] = (uint8_t)(4 * count);
     for (size_t i = 0; i < count; i++) {
-        uint8_t *at = message + STUN_HEADER_LENGTH + 4 * i;
+        uint8_t *at = message + STUNP_HEADER_LENGTH + 4 * i;
         at[0] = (uint8_t)((FIRST_TYPE + i) >> 8), at[1] = (uint8_t)(FIRST_TYPE + i), at[2] = at[3] = 0;
     }
 }
 
-static void parses(void) { want("stun_parse", stun_parse(message, length), 0); }
-static void verifies(void) { want("stun_verify", stun_verify(message, length, key, sizeof key), STUN_NO_INTEGRITY); }
-static void tells_class(void) { want("stun_class", stun_class(message, length), STUN_REQUEST); }
-static void tells_method(void) { want("stun_method", stun_method(message, length), STUN_BINDING); }
-static void tells_error(void) { want("stun_error_code", stun_error_code(message, length), STUN_MISSING_ATTRIBUTE); }
+static void parses(void) { want("stunp_parse", stunp_parse(message, length), 0); }
+static void verifies(void) { want("stunp_verify", stunp_verify(message, length, key, sizeof key), STUNP_NO_INTEGRITY); }
+static void tells_class(void) { want("stunp_class", stunp_class(message, length), STUNP_REQUEST); }
+static void tells_method(void) { want("stunp_method", stunp_method(message, length), STUNP_BINDING); }
+static void tells_error(void) { want("stunp_error_code", stunp_error_code(message, length), STUNP_MISSING_ATTRIBUTE); }
 
 static void tells_id(void) {
-    uint8_t id[STUN_ID_LENGTH];
-    want("stun_id", stun_id(message, length, id, sizeof id), STUN_ID_LENGTH);
+    uint8_t id[STUNP_ID_LENGTH];
+    want("stunp_id", stunp_id(message, length, id, sizeof id), STUNP_ID_LENGTH);
 }
 
 static void reads_header(void) {
-    stun_header header;
-    want("stun_read_header", stun_read_header(message, length, &header), 0);
+    stunp_header header;
+    want("stunp_read_header", stunp_read_header(message, length, &header), 0);
 }
 
 static void tells_address(void) {
     uint8_t octets[16];
     uint16_t port;
-    want("stun_xor_mapped_address", stun_xor_mapped_address(message, length, octets, sizeof octets, &port), STUN_MISSING_ATTRIBUTE);
+    want("stunp_xor_mapped_address", stunp_xor_mapped_address(message, length, octets, sizeof octets, &port), STUNP_MISSING_ATTRIBUTE);
 }
 
 static void finds(void) {
     size_t value_length;
-    want("stun_find", stun_find(message, length, (uint32_t)(FIRST_TYPE + count - 1), &value_length), (int64_t)length - 4);
+    want("stunp_find", stunp_find(message, length, (uint32_t)(FIRST_TYPE + count - 1), &value_length), (int64_t)length - 4);
 }
 
 static void walks(void) {
-    stun_cursor cursor = {0, 0};
+    stunp_cursor cursor = {0, 0};
     uint16_t type;
     size_t value_length, met = 0;
-    while (stun_walk(message, length, &cursor, &type, &value_length) > 0) met++;
+    while (stunp_walk(message, length, &cursor, &type, &value_length) > 0) met++;
     want("a walk", (int64_t)met, (int64_t)count);
 }
 
 static void goes_to_the_next(void) {
     uint16_t type;
     size_t value_length, met = 0;
-    for (int64_t at = 0; (at = stun_next(message, length, (size_t)at, &type, &value_length)) > 0;) met++;
-    want("a walk by stun_next", (int64_t)met, (int64_t)count);
+    for (int64_t at = 0; (at = stunp_next(message, length, (size_t)at, &type, &value_length)) > 0;) met++;
+    want("a walk by stunp_next", (int64_t)met, (int64_t)count);
 }
 
 static void builds(void) {
-    int64_t at = stun_begin(STUN_REQUEST, STUN_BINDING, message + 8, STUN_ID_LENGTH, other, sizeof other);
-    for (size_t i = 0; i < count; i++) at = stun_add(other, sizeof other, (size_t)at, (uint32_t)(FIRST_TYPE + i), key, 0);
+    int64_t at = stunp_begin(STUNP_REQUEST, STUNP_BINDING, message + 8, STUNP_ID_LENGTH, other, sizeof other);
+    for (size_t i = 0; i < count; i++) at = stunp_add(other, sizeof other, (size_t)at, (uint32_t)(FIRST_TYPE + i), key, 0);
     want("building", at, (int64_t)length);
 }
 
 static void signs(void) {
     for (size_t i = 0; i < length; i++) other[i] = message[i];
-    want("stun_sign", stun_sign(other, length + 24, length, STUN_SHA1, key, sizeof key), (int64_t)length + 24);
+    want("stunp_sign", stunp_sign(other, length + 24, length, STUNP_SHA1, key, sizeof key), (int64_t)length + 24);
 }
 
 static double now(void) {
@@ -111,19 +111,19 @@ static const struct {
     const char *name;
     void (*call)(void);
 } rows[] = {
-    {"`stun_parse`", parses},
-    {"`stun_read_header`", reads_header},
-    {"`stun_class`", tells_class},
-    {"`stun_method`", tells_method},
-    {"`stun_id`", tells_id},
-    {"`stun_walk`, all attributes", walks},
-    {"`stun_next`, all attributes", goes_to_the_next},
-    {"`stun_find`, the last", finds},
-    {"`stun_error_code`, none", tells_error},
-    {"`stun_xor_mapped_address`, none", tells_address},
-    {"`stun_verify`, no digest", verifies},
-    {"`stun_sign`, SHA-1, after all", signs},
-    {"`stun_add`, all attributes", builds},
+    {"`stunp_parse`", parses},
+    {"`stunp_read_header`", reads_header},
+    {"`stunp_class`", tells_class},
+    {"`stunp_method`", tells_method},
+    {"`stunp_id`", tells_id},
+    {"`stunp_walk`, all attributes", walks},
+    {"`stunp_next`, all attributes", goes_to_the_next},
+    {"`stunp_find`, the last", finds},
+    {"`stunp_error_code`, none", tells_error},
+    {"`stunp_xor_mapped_address`, none", tells_address},
+    {"`stunp_verify`, no digest", verifies},
+    {"`stunp_sign`, SHA-1, after all", signs},
+    {"`stunp_add`, all attributes", builds},
 };
 
 int main(void) {

@@ -12,13 +12,13 @@ static int64_t answer_on(const uint8_t *message, size_t length, const char *key)
     const uint8_t *key_bytes = (const uint8_t *)key;
     uint8_t *at_end = pages + pages_length - length;
     memcpy(at_end, message, length);
-    int64_t answer = stun_verify(at_end, length, key_bytes, strlen(key));
-    int64_t parsed = stun_parse(at_end, length);
+    int64_t answer = stunp_verify(at_end, length, key_bytes, strlen(key));
+    int64_t parsed = stunp_parse(at_end, length);
     if (memcmp(at_end, message, length) != 0) fail("a message was written to", (long)length);
     memcpy(pages, message, length);
-    if (stun_verify(pages, length, key_bytes, strlen(key)) != answer) fail("two answers", (long)answer);
-    if (stun_parse(pages, length) != parsed) fail("two answers of parsing", (long)parsed);
-    if ((parsed < 0) != (answer < 0 && answer > STUN_NO_INTEGRITY) || (parsed < 0 && parsed != answer))
+    if (stunp_verify(pages, length, key_bytes, strlen(key)) != answer) fail("two answers", (long)answer);
+    if (stunp_parse(pages, length) != parsed) fail("two answers of parsing", (long)parsed);
+    if ((parsed < 0) != (answer < 0 && answer > STUNP_NO_INTEGRITY) || (parsed < 0 && parsed != answer))
         fail("parsing and verifying disagree", (long)answer);
     return answer;
 }
@@ -29,9 +29,9 @@ static void run_table(void) {
         size_t length = spell(message, table[i].digits, 4);
         if (answer_on(message, length, table_key) != table[i].verdict) fail(table[i].name, (long)i);
         for (size_t front = 0; front < length; front++)
-            if (answer_on(message, front, table_key) != STUN_TRUNCATED) fail("a front of a message", (long)front);
+            if (answer_on(message, front, table_key) != STUNP_TRUNCATED) fail("a front of a message", (long)front);
         message[length] = 0;
-        if (answer_on(message, length + 1, table_key) != STUN_TOO_LARGE) fail("a byte behind a message", (long)i);
+        if (answer_on(message, length + 1, table_key) != STUNP_TOO_LARGE) fail("a byte behind a message", (long)i);
     }
 }
 
@@ -46,7 +46,7 @@ static void run_lengths(void) {
                 uint8_t message[256];
                 const char *pieces[] = {digits, behind == 0 ? NULL : FINGERPRINT};
                 bool has = kind == 0 ? value == 20 : value >= 16 && value <= 32 && value % 4 == 0;
-                int64_t wanted = has ? STUN_INTEGRITY_FAILED : STUN_MALFORMED_INTEGRITY;
+                int64_t wanted = has ? STUNP_INTEGRITY_FAILED : STUNP_MALFORMED_INTEGRITY;
                 if (answer_on(message, spell(message, pieces, 2), table_key) != wanted) fail("an integrity of this length", value);
             }
 }
@@ -63,8 +63,8 @@ static void run_mutations(void) {
         size_t length = mutate(message, sample, sizeof sample);
         int64_t answer = answer_on(message, length, password);
         if (answer > 0 && is_covered_changed(message, length)) fail("a changed message verifies", i);
-        if (answer <= STUN_NO_INTEGRITY && !is_covered_changed(message, length)) fail("an unchanged message fails", i);
-        if (answer == 0 || answer > STUN_SHA1 || answer < STUN_INTEGRITY_FAILED) fail("another answer", (long)answer);
+        if (answer <= STUNP_NO_INTEGRITY && !is_covered_changed(message, length)) fail("an unchanged message fails", i);
+        if (answer == 0 || answer > STUNP_SHA1 || answer < STUNP_INTEGRITY_FAILED) fail("another answer", (long)answer);
         if (answer > 0) stood++;
         else refused[-answer]++;
     }
@@ -77,16 +77,16 @@ static void run_mutations(void) {
 typedef int64_t writer(uint8_t *out, size_t room);
 
 static int64_t write_request(uint8_t *out, size_t room) {
-    return stun_build_signed(STUN_SHA256, sample + 8, STUN_ID_LENGTH, (const uint8_t *)"evtj:h6vY", 9, (const uint8_t *)password,
+    return stunp_build_signed(STUNP_SHA256, sample + 8, STUNP_ID_LENGTH, (const uint8_t *)"evtj:h6vY", 9, (const uint8_t *)password,
                              strlen(password), out, room);
 }
 
 static int64_t write_key(uint8_t *out, size_t room) {
-    return stun_long_term_key(STUN_SHA256, (const uint8_t *)"a", 1, (const uint8_t *)"b", 1, (const uint8_t *)"c", 1, out, room);
+    return stunp_long_term_key(STUNP_SHA256, (const uint8_t *)"a", 1, (const uint8_t *)"b", 1, (const uint8_t *)"c", 1, out, room);
 }
 
 static int64_t write_hash(uint8_t *out, size_t room) {
-    return stun_userhash((const uint8_t *)"a", 1, (const uint8_t *)"b", 1, out, room);
+    return stunp_userhash((const uint8_t *)"a", 1, (const uint8_t *)"b", 1, out, room);
 }
 
 /* With each room up to 100 bytes: too little is refused and leaves the buffer, and what is left over stays. */
@@ -94,7 +94,7 @@ static void run_buffers(writer *call, int64_t needed) {
     for (size_t room = 0; room <= 100; room++) {
         uint8_t *out = pages + pages_length - room;
         memset(out - 16, 0xa5, room + 16);
-        int64_t wanted = (int64_t)room < needed ? STUN_BUFFER_TOO_SMALL : needed;
+        int64_t wanted = (int64_t)room < needed ? STUNP_BUFFER_TOO_SMALL : needed;
         if (call(out, room) != wanted) fail("a buffer of this length", (long)room);
         size_t written = wanted < 0 ? 0 : (size_t)wanted;
         for (uint8_t *at = out - 16; at < out; at++)
@@ -105,21 +105,21 @@ static void run_buffers(writer *call, int64_t needed) {
 }
 
 static void run_arguments(void) {
-    static uint8_t name[514], out[STUN_LONGEST_SIGNED];
+    static uint8_t name[514], out[STUNP_LONGEST_SIGNED];
     memset(name, 'a', sizeof name);
     const uint8_t *id = sample + 8, *key = (const uint8_t *)password;
-    if (stun_build_signed(2, id, 12, name, 513, key, 1, out, sizeof out) != 576) fail("the longest name", 513);
-    if (stun_build_signed(1, id, 12, name, 0, key, 0, out, sizeof out) != 48) fail("no name and no key", 0);
-    if (stun_build_signed(2, id, 12, name, 514, key, 1, out, sizeof out) != STUN_TEXT_TOO_LONG) fail("too long a name", 514);
+    if (stunp_build_signed(2, id, 12, name, 513, key, 1, out, sizeof out) != 576) fail("the longest name", 513);
+    if (stunp_build_signed(1, id, 12, name, 0, key, 0, out, sizeof out) != 48) fail("no name and no key", 0);
+    if (stunp_build_signed(2, id, 12, name, 514, key, 1, out, sizeof out) != STUNP_TEXT_TOO_LONG) fail("too long a name", 514);
     name[513] = 0xff;
-    if (stun_build_signed(2, id, 12, name, 514, key, 1, out, sizeof out) != STUN_NOT_TEXT) fail("no text", 514);
-    if (stun_build_signed(2, id, 11, name, 514, key, 1, out, sizeof out) != STUN_BAD_ARGUMENT) fail("a short id", 11);
-    if (stun_build_signed(3, id, 12, name, 514, key, 1, out, sizeof out) != STUN_BAD_ARGUMENT) fail("algorithm", 3);
-    if (stun_build_signed(0, id, 12, name, 1, key, 1, out, sizeof out) != STUN_BAD_ARGUMENT) fail("algorithm", 0);
-    if (stun_long_term_key(3, name, 1, name, 1, name, 514, out, 0) != STUN_BAD_ARGUMENT) fail("algorithm of a key", 3);
-    if (stun_long_term_key(1, name, 1, name, 1, name, 514, out, 0) != STUN_NOT_TEXT) fail("a password that is no text", 1);
-    if (stun_long_term_key(1, name, 1, name, 1, name, 513, out, 15) != STUN_BUFFER_TOO_SMALL) fail("room for a key", 15);
-    if (stun_userhash(name, 514, name, 1, out, 0) != STUN_NOT_TEXT) fail("a user name that is no text", 1);
+    if (stunp_build_signed(2, id, 12, name, 514, key, 1, out, sizeof out) != STUNP_NOT_TEXT) fail("no text", 514);
+    if (stunp_build_signed(2, id, 11, name, 514, key, 1, out, sizeof out) != STUNP_BAD_ARGUMENT) fail("a short id", 11);
+    if (stunp_build_signed(3, id, 12, name, 514, key, 1, out, sizeof out) != STUNP_BAD_ARGUMENT) fail("algorithm", 3);
+    if (stunp_build_signed(0, id, 12, name, 1, key, 1, out, sizeof out) != STUNP_BAD_ARGUMENT) fail("algorithm", 0);
+    if (stunp_long_term_key(3, name, 1, name, 1, name, 514, out, 0) != STUNP_BAD_ARGUMENT) fail("algorithm of a key", 3);
+    if (stunp_long_term_key(1, name, 1, name, 1, name, 514, out, 0) != STUNP_NOT_TEXT) fail("a password that is no text", 1);
+    if (stunp_long_term_key(1, name, 1, name, 1, name, 513, out, 15) != STUNP_BUFFER_TOO_SMALL) fail("room for a key", 15);
+    if (stunp_userhash(name, 514, name, 1, out, 0) != STUNP_NOT_TEXT) fail("a user name that is no text", 1);
 }
 
 int main(void) {
@@ -128,8 +128,8 @@ int main(void) {
     run_lengths();
     run_mutations();
     run_buffers(write_request, 72);
-    run_buffers(write_key, STUN_SHA256_KEY_LENGTH);
-    run_buffers(write_hash, STUN_USERHASH_LENGTH);
+    run_buffers(write_key, STUNP_SHA256_KEY_LENGTH);
+    run_buffers(write_hash, STUNP_USERHASH_LENGTH);
     run_arguments();
     printf("hostile: passed\n");
     return 0;

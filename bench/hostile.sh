@@ -6,7 +6,7 @@ set -eu
 cd "$(dirname "$0")"
 if [ "${1-}" = exported ]; then
     CC=${CC:-cc}
-    archive=../target/c/libstun.a system='-lpthread -ldl' told='the exported crate, not proved'
+    archive=../target/c/libstunp.a system='-lpthread -ldl' told='the exported crate, not proved'
     mkdir -p out
     tried() {
         shift

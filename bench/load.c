@@ -8,7 +8,7 @@
  * Prints one line: how many were sent, how many drew a success, a 401, another error or nothing, and the seconds.
  * Build: cc -O2 -I../include load.c ../crates/stun_c/out/libstun_c.a */
 #define _GNU_SOURCE
-#include "stun.h"
+#include "stunp.h"
 #include <arpa/inet.h>
 #include <netinet/in.h>
 #include <stdio.h>
@@ -42,7 +42,7 @@ static void fail(const char *what) {
 static size_t value_of(const uint8_t *message, size_t length, uint16_t wanted, const uint8_t **value) {
     uint16_t type;
     size_t value_length;
-    for (int64_t at = 0; (at = stun_next(message, length, (size_t)at, &type, &value_length)) > 0;)
+    for (int64_t at = 0; (at = stunp_next(message, length, (size_t)at, &type, &value_length)) > 0;)
         if (type == wanted) {
             *value = message + at + 4;
             return value_length;
@@ -53,37 +53,37 @@ static size_t value_of(const uint8_t *message, size_t length, uint16_t wanted, c
 /* A request that answers a challenge, by HMAC-SHA1. */
 static void sign(struct datagram *out, const uint8_t *challenge, size_t length) {
     const uint8_t *realm = NULL, *nonce = NULL, *offer = NULL;
-    uint8_t id[STUN_ID_LENGTH], key[STUN_SHA1_KEY_LENGTH];
+    uint8_t id[STUNP_ID_LENGTH], key[STUNP_SHA1_KEY_LENGTH];
     const size_t room = sizeof out->bytes;
-    size_t realm_length = value_of(challenge, length, STUN_REALM, &realm);
-    size_t nonce_length = value_of(challenge, length, STUN_NONCE, &nonce);
-    size_t offer_length = value_of(challenge, length, STUN_PASSWORD_ALGORITHMS, &offer);
+    size_t realm_length = value_of(challenge, length, STUNP_REALM, &realm);
+    size_t nonce_length = value_of(challenge, length, STUNP_NONCE, &nonce);
+    size_t offer_length = value_of(challenge, length, STUNP_PASSWORD_ALGORITHMS, &offer);
     if (realm == NULL || nonce == NULL) fail("load: no challenge");
     if (getrandom(id, sizeof id, 0) != sizeof id) fail("getrandom");
-    stun_long_term_key(STUN_SHA1, (const uint8_t *)name, strlen(name), realm, realm_length, (const uint8_t *)password,
+    stunp_long_term_key(STUNP_SHA1, (const uint8_t *)name, strlen(name), realm, realm_length, (const uint8_t *)password,
                        strlen(password), key, sizeof key);
-    int64_t at = stun_begin(STUN_REQUEST, STUN_BINDING, id, sizeof id, out->bytes, room);
-    at = stun_add(out->bytes, room, (size_t)at, STUN_USERNAME, (const uint8_t *)name, strlen(name));
-    at = stun_add(out->bytes, room, (size_t)at, STUN_REALM, realm, realm_length);
-    at = stun_add(out->bytes, room, (size_t)at, STUN_NONCE, nonce, nonce_length);
+    int64_t at = stunp_begin(STUNP_REQUEST, STUNP_BINDING, id, sizeof id, out->bytes, room);
+    at = stunp_add(out->bytes, room, (size_t)at, STUNP_USERNAME, (const uint8_t *)name, strlen(name));
+    at = stunp_add(out->bytes, room, (size_t)at, STUNP_REALM, realm, realm_length);
+    at = stunp_add(out->bytes, room, (size_t)at, STUNP_NONCE, nonce, nonce_length);
     if (offer != NULL) {
-        at = stun_add(out->bytes, room, (size_t)at, STUN_PASSWORD_ALGORITHMS, offer, offer_length);
-        at = stun_add(out->bytes, room, (size_t)at, STUN_PASSWORD_ALGORITHM, (const uint8_t *)"\0\1\0\0", 4);
+        at = stunp_add(out->bytes, room, (size_t)at, STUNP_PASSWORD_ALGORITHMS, offer, offer_length);
+        at = stunp_add(out->bytes, room, (size_t)at, STUNP_PASSWORD_ALGORITHM, (const uint8_t *)"\0\1\0\0", 4);
     }
-    at = stun_sign(out->bytes, room, (size_t)at, STUN_SHA1, key, sizeof key);
+    at = stunp_sign(out->bytes, room, (size_t)at, STUNP_SHA1, key, sizeof key);
     if (at < 0) fail("load: sign");
     out->length = (size_t)at;
 }
 
 /* Opens a port, and draws a challenge where requests are to be signed. */
 static void open_sender(struct sender *sender, const struct sockaddr_in *server, int epoll) {
-    uint8_t id[STUN_ID_LENGTH], answer[1024], random_bytes[128];
+    uint8_t id[STUNP_ID_LENGTH], answer[1024], random_bytes[128];
     struct timeval wait = {1, 0};
     sender->fd = socket(AF_INET, SOCK_DGRAM, 0);
     if (sender->fd < 0 || connect(sender->fd, (const struct sockaddr *)server, sizeof *server) < 0) fail("load: socket");
     if (getrandom(id, sizeof id, 0) < 0 || getrandom(random_bytes, sizeof random_bytes, 0) < 0) fail("getrandom");
     sender->unsigned_one.length =
-        (size_t)stun_begin(STUN_REQUEST, STUN_BINDING, id, sizeof id, sender->unsigned_one.bytes, 512);
+        (size_t)stunp_begin(STUNP_REQUEST, STUNP_BINDING, id, sizeof id, sender->unsigned_one.bytes, 512);
     sender->garbage.length = 20 + random_bytes[127] % 80;
     memcpy(sender->garbage.bytes, random_bytes, sender->garbage.length);
     sender->garbage.bytes[0] |= 0x80; /* no message of STUN */
@@ -116,8 +116,8 @@ static int send_next(struct sender *sender, unsigned long count) {
 }
 
 static void count_answer(const uint8_t *answer, size_t length) {
-    int64_t code = stun_error_code(answer, length);
-    if (stun_class(answer, length) == STUN_SUCCESS) counts.successes++;
+    int64_t code = stunp_error_code(answer, length);
+    if (stunp_class(answer, length) == STUNP_SUCCESS) counts.successes++;
     else if (code == 401) counts.challenges++;
     else counts.errors++;
 }

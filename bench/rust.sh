@@ -17,7 +17,7 @@ measured() {
     (cd ../target/export
      cargo build --quiet --release -p seatcrane-stun-c --target-dir "$out" "$@"
      cargo build --quiet --release -p seatcrane-stun --example bench --target-dir "$out" "$@")
-    "$CC" -O2 -Wno-deprecated-declarations -I../include bench.c "$out/release/libstun.a" -lcrypto -lpthread -ldl -lm -o "$out/bench"
+    "$CC" -O2 -Wno-deprecated-declarations -I../include bench.c "$out/release/libstunp.a" -lcrypto -lpthread -ldl -lm -o "$out/bench"
     : > "$out/counts"
     printf '\nThe calls for C beside OpenSSL:\n\n'
     "$out/bench" "$out/counts"

@@ -5,14 +5,14 @@
  * processor: by one call, and by the longest of the calls that look at so many at once; where all records are kept, and where all
  * are forgotten. Each is the least of several rounds. */
 #define _DEFAULT_SOURCE
-#include "stun_state.h"
+#include "stunp_state.h"
 #include <stdbool.h>
 #include <stdio.h>
 #include <stdlib.h>
 #include <string.h>
 #include <time.h>
 
-enum { MOST_TIMES = 100, ID = STUN_ID_LENGTH };
+enum { MOST_TIMES = 100, ID = STUNP_ID_LENGTH };
 
 /* The calls, each named once before the first is made. */
 enum call {
@@ -42,8 +42,8 @@ static void write_id(uint32_t number, uint8_t *id) {
     for (int i = 0; i < ID; i++) id[i] = i < 4 ? 0 : (uint8_t)(scattered >> (88 - 8 * i));
 }
 
-static stun_address address_of(uint32_t number) {
-    stun_address address = {{0}, 3478, 4};
+static stunp_address address_of(uint32_t number) {
+    stunp_address address = {{0}, 3478, 4};
     for (int i = 0; i < 4; i++) address.octets[i] = (uint8_t)(number >> (24 - 8 * i));
     return address;
 }
@@ -51,10 +51,10 @@ static stun_address address_of(uint32_t number) {
 static uint64_t moment(uint32_t number) { return number * (uint64_t)1000; }
 
 static struct message message_of(uint32_t class, uint32_t number) {
-    struct message message = {{0}, STUN_HEADER_LENGTH};
+    struct message message = {{0}, STUNP_HEADER_LENGTH};
     uint8_t id[ID];
     write_id(number, id);
-    if (stun_begin(class, STUN_BINDING, id, ID, message.bytes, sizeof message.bytes) < 0) fail("no message");
+    if (stunp_begin(class, STUNP_BINDING, id, ID, message.bytes, sizeof message.bytes) < 0) fail("no message");
     return message;
 }
 
@@ -81,77 +81,77 @@ void rattle_dealloc(void *at) { free(at); }
 
 /* ---- Calls of an agent that has sent a request in each microsecond. */
 
-static stun_agent agent;
+static stunp_agent agent;
 static struct message messages[MOST_TIMES];
 
 static void prepare_agent(uint32_t size, uint32_t transmissions, uint32_t class, uint32_t first) {
-    stun_address local = address_of(1), none = {{0}, 0, 0}, to = address_of(0);
-    stun_timeouts timeouts = {SECOND / 2, UINT64_MAX, 8 * SECOND, transmissions};
-    if (stun_agent_new_with(&agent, STUN_UDP, &local, &none, &timeouts) < 0) fail("no agent");
+    stunp_address local = address_of(1), none = {{0}, 0, 0}, to = address_of(0);
+    stunp_timeouts timeouts = {SECOND / 2, UINT64_MAX, 8 * SECOND, transmissions};
+    if (stunp_agent_new_with(&agent, STUNP_UDP, &local, &none, &timeouts) < 0) fail("no agent");
     for (uint32_t number = 0; number < size; number++) {
-        struct message request = message_of(STUN_REQUEST, number);
-        if (stun_agent_send_request(&agent, request.bytes, request.length, &to, moment(number + 1)) < 0) fail("not sent");
+        struct message request = message_of(STUNP_REQUEST, number);
+        if (stunp_agent_send_request(&agent, request.bytes, request.length, &to, moment(number + 1)) < 0) fail("not sent");
     }
     for (uint32_t i = 0; i < MOST_TIMES; i++) messages[i] = message_of(class, first + i);
 }
 
 static bool agent_does(enum call call, uint32_t size, uint32_t turn) {
     const struct message *message = &messages[turn];
-    stun_address to = address_of(0);
+    stunp_address to = address_of(0);
     uint8_t out[64], *id = messages[turn].bytes + 8;
     uint64_t until;
     switch (call) {
-    case POLL: return stun_agent_poll(&agent, moment(size), &until, out, sizeof out) == 0;
-    case POLL_TRANSMIT: return stun_agent_poll_transmit(&agent, moment(size), out, sizeof out, &to) == 0;
-    case TRANSMITS_ONE: return stun_agent_poll_transmit(&agent, moment(turn + 1 + 500000), out, sizeof out, &to) > 0;
-    case ENDS_ONE: return stun_agent_poll(&agent, moment(turn + 1 + 8000000), &until, out, sizeof out) == STUN_TIMED_OUT;
-    case SENDS_LAST: return stun_agent_send_request(&agent, message->bytes, message->length, &to, moment(size)) == 0;
-    case RESPONDS: return stun_agent_handle(&agent, message->bytes, message->length, &to, 0) == 1;
-    case CANCELS: return stun_agent_cancel(&agent, id, ID) == 1;
-    default: return stun_agent_is_outstanding(&agent, id, ID, &to) == 1;
+    case POLL: return stunp_agent_poll(&agent, moment(size), &until, out, sizeof out) == 0;
+    case POLL_TRANSMIT: return stunp_agent_poll_transmit(&agent, moment(size), out, sizeof out, &to) == 0;
+    case TRANSMITS_ONE: return stunp_agent_poll_transmit(&agent, moment(turn + 1 + 500000), out, sizeof out, &to) > 0;
+    case ENDS_ONE: return stunp_agent_poll(&agent, moment(turn + 1 + 8000000), &until, out, sizeof out) == STUNP_TIMED_OUT;
+    case SENDS_LAST: return stunp_agent_send_request(&agent, message->bytes, message->length, &to, moment(size)) == 0;
+    case RESPONDS: return stunp_agent_handle(&agent, message->bytes, message->length, &to, 0) == 1;
+    case CANCELS: return stunp_agent_cancel(&agent, id, ID) == 1;
+    default: return stunp_agent_is_outstanding(&agent, id, ID, &to) == 1;
     }
 }
 
 /* ---- Calls of a server that knows so many users and addresses. */
 
-static stun_server server;
-static stun_client client;
+static stunp_server server;
+static stunp_client client;
 static struct message signed_request;
 
 static void challenge(uint32_t number, struct message *error) {
-    stun_address from = address_of(number);
-    struct message unsigned_request = message_of(STUN_REQUEST, 1);
-    stun_server_validate(&server, unsigned_request.bytes, unsigned_request.length, &from, 0, words);
-    *error = message_of(STUN_ERROR, 1);
-    int64_t length = stun_add_error(error->bytes, sizeof error->bytes, error->length, 401, (const uint8_t *)"Unauthorized", 12);
-    if (length > 0) length = stun_server_sign(&server, error->bytes, sizeof error->bytes, (size_t)length, &from);
+    stunp_address from = address_of(number);
+    struct message unsigned_request = message_of(STUNP_REQUEST, 1);
+    stunp_server_validate(&server, unsigned_request.bytes, unsigned_request.length, &from, 0, words);
+    *error = message_of(STUNP_ERROR, 1);
+    int64_t length = stunp_add_error(error->bytes, sizeof error->bytes, error->length, 401, (const uint8_t *)"Unauthorized", 12);
+    if (length > 0) length = stunp_server_sign(&server, error->bytes, sizeof error->bytes, (size_t)length, &from);
     if (length < 0) fail("no challenge");
     error->length = (size_t)length;
 }
 
 static bool is_validated(uint32_t number) {
-    stun_address from = address_of(number);
-    return stun_server_validate(&server, signed_request.bytes, signed_request.length, &from, 0, words) > 0;
+    stunp_address from = address_of(number);
+    return stunp_server_validate(&server, signed_request.bytes, signed_request.length, &from, 0, words) > 0;
 }
 
 static void prepare_server(uint32_t size, bool is_strong) {
     const uint8_t *password = (const uint8_t *)"pass";
-    uint32_t algorithms = is_strong ? STUN_SHA1 | STUN_SHA256 : STUN_SHA1;
-    stun_server_new(&server, (const uint8_t *)"realm", 5);
-    stun_server_set_algorithms(&server, algorithms);
+    uint32_t algorithms = is_strong ? STUNP_SHA1 | STUNP_SHA256 : STUNP_SHA1;
+    stunp_server_new(&server, (const uint8_t *)"realm", 5);
+    stunp_server_set_algorithms(&server, algorithms);
     for (uint32_t number = 0; number < size; number++) {
         char name[16];
         int length = sprintf(name, "user%u", number);
-        stun_server_add_user(&server, (const uint8_t *)name, (size_t)length, password, 4);
+        stunp_server_add_user(&server, (const uint8_t *)name, (size_t)length, password, 4);
     }
-    stun_client_new(&client);
-    stun_client_set_algorithms(&client, algorithms);
-    stun_client_set_credentials(&client, (const uint8_t *)"user0", 5, password, 4);
+    stunp_client_new(&client);
+    stunp_client_set_algorithms(&client, algorithms);
+    stunp_client_set_credentials(&client, (const uint8_t *)"user0", 5, password, 4);
     struct message error;
     challenge(0, &error);
-    if (!stun_is_resend(stun_client_validate(&client, error.bytes, error.length))) fail("no request");
-    signed_request = message_of(STUN_REQUEST, 2);
-    int64_t length = stun_client_sign(&client, signed_request.bytes, sizeof signed_request.bytes, signed_request.length);
+    if (!stunp_is_resend(stunp_client_validate(&client, error.bytes, error.length))) fail("no request");
+    signed_request = message_of(STUNP_REQUEST, 2);
+    int64_t length = stunp_client_sign(&client, signed_request.bytes, sizeof signed_request.bytes, signed_request.length);
     if (length < 0) fail("not signed");
     signed_request.length = (size_t)length;
     for (uint32_t number = 0; number < size; number++) {
@@ -162,23 +162,23 @@ static void prepare_server(uint32_t size, bool is_strong) {
 
 /* A success of 20 bytes to the first address, and a request of the client. */
 static bool answers(void) {
-    struct message success = message_of(STUN_SUCCESS, 2);
-    stun_address to = address_of(0);
-    return stun_server_sign(&server, success.bytes, sizeof success.bytes, success.length, &to) > STUN_HEADER_LENGTH;
+    struct message success = message_of(STUNP_SUCCESS, 2);
+    stunp_address to = address_of(0);
+    return stunp_server_sign(&server, success.bytes, sizeof success.bytes, success.length, &to) > STUNP_HEADER_LENGTH;
 }
 
 static bool asks(void) {
-    struct message request = message_of(STUN_REQUEST, 2);
-    return stun_client_sign(&client, request.bytes, sizeof request.bytes, request.length) > STUN_HEADER_LENGTH;
+    struct message request = message_of(STUNP_REQUEST, 2);
+    return stunp_client_sign(&client, request.bytes, sizeof request.bytes, request.length) > STUNP_HEADER_LENGTH;
 }
 
 /* ---- A message of 44 bytes under a key of four. */
 
 static bool verifies(void) {
-    return stun_verify(signed_request.bytes, signed_request.length, (const uint8_t *)"pass", 4) == STUN_SHA1;
+    return stunp_verify(signed_request.bytes, signed_request.length, (const uint8_t *)"pass", 4) == STUNP_SHA1;
 }
 
-static bool parses(void) { return stun_parse(signed_request.bytes, signed_request.length) == 0; }
+static bool parses(void) { return stunp_parse(signed_request.bytes, signed_request.length) == 0; }
 
 /* ---- Pauses of a server that forgets. */
 
@@ -193,21 +193,21 @@ static double microseconds(void) {
 
 /* An unsigned request of each address makes its record, where it has none. */
 static void ask_of_all(uint32_t size) {
-    struct message request = message_of(STUN_REQUEST, 1);
+    struct message request = message_of(STUNP_REQUEST, 1);
     for (uint32_t number = 0; number < size; number++) {
-        stun_address from = address_of(number);
-        if (stun_server_validate(&server, request.bytes, request.length, &from, 0, words) != STUN_UNAUTHORIZED) fail("no record");
+        stunp_address from = address_of(number);
+        if (stunp_server_validate(&server, request.bytes, request.length, &from, 0, words) != STUNP_UNAUTHORIZED) fail("no record");
     }
 }
 
 /* The longest pause until all records were looked at once: by so many at once, or by one call where it is 0. */
 static double longest_pause(uint64_t now, size_t at_once) {
-    stun_address next = {{0}, 0, 0};
+    stunp_address next = {{0}, 0, 0};
     double longest = 0;
     int64_t more = 1;
     while (more == 1) {
         double begun = microseconds();
-        more = at_once == 0 ? stun_server_forget_expired(&server, now) : stun_server_forget_expired_within(&server, now, &next, at_once);
+        more = at_once == 0 ? stunp_server_forget_expired(&server, now) : stunp_server_forget_expired_within(&server, now, &next, at_once);
         double took = microseconds() - begun;
         if (took > longest) longest = took;
     }
@@ -226,11 +226,11 @@ static double least_pause(uint32_t size, uint64_t now, size_t at_once) {
 }
 
 static void print_pauses(uint32_t size, size_t at_once) {
-    stun_server_new(&server, (const uint8_t *)"realm", 5);
+    stunp_server_new(&server, (const uint8_t *)"realm", 5);
     const uint64_t moments[] = {0, FOREVER}; /* all are kept, all are forgotten */
     for (int i = 0; i < 2; i++)
         printf("%.0f %.0f\n", least_pause(size, moments[i], 0), least_pause(size, moments[i], at_once));
-    stun_server_free(&server);
+    stunp_server_free(&server);
 }
 
 static enum call named(const char *name) {
@@ -245,11 +245,11 @@ static void prepare(enum call call, uint32_t size) {
     case VALIDATES_SHA1: case PARSES_SHA1: case ANSWERS_SHA1: case ASKS_SHA1: prepare_server(size, false); break;
     case VALIDATES_SHA256: case PARSES_SHA256: case ANSWERS_SHA256: case ASKS_SHA256: prepare_server(size, true); break;
     case VERIFIES:
-        signed_request = message_of(STUN_REQUEST, 2);
-        signed_request.length = (size_t)stun_sign(signed_request.bytes, 512, 20, STUN_SHA1, (const uint8_t *)"pass", 4);
+        signed_request = message_of(STUNP_REQUEST, 2);
+        signed_request.length = (size_t)stunp_sign(signed_request.bytes, 512, 20, STUNP_SHA1, (const uint8_t *)"pass", 4);
         break;
     default:
-        prepare_agent(size, call == ENDS_ONE ? 1 : 7, call == RESPONDS ? STUN_SUCCESS : STUN_REQUEST, call == SENDS_LAST ? size : 0);
+        prepare_agent(size, call == ENDS_ONE ? 1 : 7, call == RESPONDS ? STUNP_SUCCESS : STUNP_REQUEST, call == SENDS_LAST ? size : 0);
     }
 }
 
@@ -277,8 +277,8 @@ int main(int count, char **arguments) {
     unsigned before = asked;
     for (uint32_t turn = 0; turn < times; turn++) done += is_done(call, size, turn);
     printf("%u\n%u allocations\n", done, asked - before);
-    stun_agent_free(&agent);
-    stun_server_free(&server);
-    stun_client_free(&client);
+    stunp_agent_free(&agent);
+    stunp_server_free(&server);
+    stunp_client_free(&client);
     return 0;
 }

@@ -1,6 +1,6 @@
 #!/bin/sh
 # Builds the archives, and tests them: by the transcripts (play.py), and by what only C can pass.
-# Where STUN_C and STUN_STATE name other archives, as libstun.a and libstun-program.a of
+# Where STUN_C and STUN_STATE name other archives, as libstunp.a and libstunp-program.a of
 # tools/rust_c.sh, nothing is proved. Sanitizers watch where the compiler has them. Without a C
 # compiler it checks nothing. The last line says what was checked.
 set -eu
@@ -47,7 +47,7 @@ heap='../examples/c/heap.c'
 strict='-Wall -Wextra -Wpedantic -Wconversion -Werror -I../include -I../examples/c'
 has_plus=''
 if "$plus" --version >/dev/null 2>&1; then has_plus=yes; fi
-for header in stun stun_state; do
+for header in stunp stunp_state; do
     alone="$strict -fsyntax-only -include ../include/$header.h"
     "$cc" -std=c99 $alone -x c /dev/null
     [ -z "$has_plus" ] || "$plus" -std=c++17 $alone -x c++ /dev/null
@@ -67,8 +67,8 @@ python3 play.py "$scratch/play" ../crates/transcripts/data/*.txt >"$scratch/play
 
 # What only C can pass, what strangers may send, many addresses, and the worked examples of both headers, without the comment
 # round them. No call of the archive without state wants memory: it is linked with none.
-sed -n 's/^ \*     //p; /\*\/$/q' ../include/stun.h >"$scratch/answer.h"
-sed -n 's/^ \*     //p; /\*\/$/q' ../include/stun_state.h >"$scratch/ask.h"
+sed -n 's/^ \*     //p; /\*\/$/q' ../include/stunp.h >"$scratch/answer.h"
+sed -n 's/^ \*     //p; /\*\/$/q' ../include/stunp_state.h >"$scratch/ask.h"
 for name in arguments extra; do
     "$cc" $c99 c/$name.c $messages -o "$scratch/$name"
     passes $name "$scratch/$name"

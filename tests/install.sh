@@ -52,17 +52,17 @@ in_root() {
 told=$(in_root install)
 [ "$told" = "left out: $scratch/bin/stun_inspect is not built" ] || fail "told $told"
 for file in bin/stun_tool share/man/man1/stun_tool.1 share/man/man1/stun_inspect.1 \
-    share/stun/heap.c; do
+    share/stunp/heap.c; do
     [ -s "$root/usr/$file" ] || fail "no $file"
 done
-cmp -s "$STUN_STATE" "$root/usr/lib/libstun_state.a" || fail 'another archive'
+cmp -s "$STUN_STATE" "$root/usr/lib/libstunp_state.a" || fail 'another archive'
 
 # prints WANTED PROGRAM
 prints() {
     printed=$("$2") || fail "$2 ended with $?"
     [ "$printed" = "$1" ] || fail "$2 printed '$printed', not '$1'"
 }
-version=$(sed -n 's/^Version: //p' "$root/usr/lib/pkgconfig/stun.pc")
+version=$(sed -n 's/^Version: //p' "$root/usr/lib/pkgconfig/stunp.pc")
 checked='make'
 
 # flags NAME..: for a compiler, of the files for pkg-config.
@@ -72,17 +72,17 @@ flags() {
             PKG_CONFIG_ALLOW_SYSTEM_CFLAGS=1 PKG_CONFIG_ALLOW_SYSTEM_LIBS=1 \
             pkg-config --cflags --libs "$@"
     else
-        echo "-I$root/usr/include -L$root/usr/lib -lstun_state -lstun_c -lstun_heap"
+        echo "-I$root/usr/include -L$root/usr/lib -lstunp_state -lstunp -lstunp_heap"
     fi
 }
 strict='-std=c99 -Wall -Wextra -Wpedantic -Werror'
 for memory in LIBRARYS_MEMORY OWN_MEMORY; do
-    "$cc" $strict -D$memory c/installed.c $(flags stun_state) -o "$scratch/installed"
+    "$cc" $strict -D$memory c/installed.c $(flags stunp_state) -o "$scratch/installed"
     prints "$version" "$scratch/installed"
 done
 # The first archive wants no memory, but for one of the exported crate with the program's memory.
-messages='stun'
-! nm -u "$STUN_C" 2>/dev/null | grep -q rattle_alloc || messages='stun stun_heap'
+messages='stunp'
+! nm -u "$STUN_C" 2>/dev/null | grep -q rattle_alloc || messages='stunp stunp_heap'
 "$cc" c/arguments.c $(flags $messages) -o "$scratch/arguments"
 prints 'arguments: passed' "$scratch/arguments"
 if command -v pkg-config >/dev/null; then checked="$checked, pkg-config"; fi
@@ -92,13 +92,13 @@ if command -v cmake >/dev/null; then
     cat >"$scratch/project/CMakeLists.txt" <<'PROJECT'
 cmake_minimum_required(VERSION 3.13)
 project(installed C)
-find_package(stun 99 QUIET)
-if(stun_FOUND)
+find_package(stunp 99 QUIET)
+if(stunp_FOUND)
     message(FATAL_ERROR "version 99 is found")
 endif()
-find_package(stun ${RELEASE} REQUIRED)
+find_package(stunp ${RELEASE} REQUIRED)
 add_executable(installed ${SOURCE})
-target_link_libraries(installed stun::stun_state)
+target_link_libraries(installed stunp::stunp_state)
 PROJECT
     quiet cmake -S "$scratch/project" -B "$scratch/built" -DCMAKE_C_COMPILER="$cc" \
         -DCMAKE_PREFIX_PATH="$root/usr" -DRELEASE="$version" -DSOURCE="$PWD/c/installed.c"

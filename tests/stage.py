@@ -14,7 +14,7 @@ ALGORITHM_NUMBERS = {"sha1": 1, "sha256": 2}
 FEATURES = {"auto": 0, "required": 1, "disabled": 2}
 TRANSPORTS = {"udp": 0, "tcp": 1}
 
-# Refusals of stun.h in the words of transcripts. STUN_CLOSED comes before all other refusals of a call that writes, and also where
+# Refusals of stunp.h in the words of transcripts. STUNP_CLOSED comes before all other refusals of a call that writes, and also where
 # nothing would be written: there the transcripts have MessageIntegrityExists, or another reason, or no refusal. Which type is in
 # the way or missing C does not say. Two numbers are one word where the library tells TooLarge of a text and of a message.
 REFUSALS = {
@@ -58,7 +58,7 @@ def wide(address):
 
 
 def address_in(raw):
-    """The address in the bytes of a stun_address."""
+    """The address in the bytes of a stunp_address."""
     port, length = struct.unpack_from("=HH", raw, 16)
     return raw[:length], port
 
@@ -217,7 +217,7 @@ class Stage:
         return self.written_by(message, self.ask(f"{object}-sign", room, message, *to))
 
     def walk(self, message):
-        """Type, place and length of each visible attribute, by stun_next."""
+        """Type, place and length of each visible attribute, by stunp_next."""
         answer = self.ask("next", message, 0)
         while answer[0] > 0:
             yield native(answer[1][0]), answer[0], native(answer[1][1])

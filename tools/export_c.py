@@ -46,7 +46,7 @@ def write(out, exported, places, root):
     """Writes the folder of the calls."""
     calls = out / "capi" / "src" / "calls"
     shutil.rmtree(calls, ignore_errors=True)
-    border = ("//! The calls that `include/stun.h` and `include/stun_state.h` declare.\n\n"
+    border = ("//! The calls that `include/stunp.h` and `include/stunp_state.h` declare.\n\n"
               "use super::stun_c::header::Header;\nuse super::stun_c::walk::Cursor;\n"
               "use super::stun_state::address::Address;\n"
               "use super::stun_state::agent::{Statistics, Timeouts};\n"

@@ -1,5 +1,5 @@
 #!/usr/bin/env python3
-"""Compares include/stun.h and include/stun_state.h with the exports of stun_c and stun_state and with what examples/rust declares.
+"""Compares include/stunp.h and include/stunp_state.h with the exports of stun_c and stun_state and with what examples/rust declares.
 
 Functions by name, result, and the types of parameters in their order; the structs but the handles by their fields; refusals by
 number. Not the handles' fields, nor the numbers of other answers. Run at the top of the repository. Prints each difference, then a
@@ -13,9 +13,9 @@ PASSED = {
     "": "void", "Global": "", "&[u8]": "const uint8_t *, size_t", "&mut [u8]": "uint8_t *, size_t",
     "u8": "uint8_t", "u16": "uint16_t", "u32": "uint32_t", "u64": "uint64_t", "usize": "size_t", "i64": "int64_t",
     "&[u32; 16]": "const uint32_t *", "&[u16]": "const uint16_t *, size_t", "&mut [u16]": "uint16_t *, size_t",
-    "AgentHandle": "stun_agent", "ServerHandle": "stun_server", "ClientHandle": "stun_client",
-    "Address": "stun_address", "Timeouts": "stun_timeouts", "Statistics": "stun_statistics",
-    "Header": "stun_header", "Cursor": "stun_cursor",
+    "AgentHandle": "stunp_agent", "ServerHandle": "stunp_server", "ClientHandle": "stunp_client",
+    "Address": "stunp_address", "Timeouts": "stunp_timeouts", "Statistics": "stunp_statistics",
+    "Header": "stunp_header", "Cursor": "stunp_cursor",
 }
 wrong, compared = [], 0
 
@@ -54,21 +54,21 @@ def structs_of_rust(text):
 def structs_of_header(text):
     return {name: [(kind, field.replace("[", "; ")) for kind, fields in re.findall(r"(\w+) ([^;]+);", body)
                    for field in re.split(r",\s*", fields)]
-            for body, name in re.findall(r"typedef struct \{([^}]*)\} (stun_(?:address|cursor|header|timeouts|statistics));", text)}
+            for body, name in re.findall(r"typedef struct \{([^}]*)\} (stunp_(?:address|cursor|header|timeouts|statistics));", text)}
 
 def main():
-    header = read("include/stun.h", "include/stun_state.h")
+    header = read("include/stunp.h", "include/stunp_state.h")
     crates = read(*(f"crates/stun_c/src/{name}.rt" for name in ("lib", "header", "walk")),
                   *(f"crates/stun_state/src/{name}.rt" for name in ("lib", "address", "agent")))
     # The functions that give memory are the program's.
-    declared = {name: kinds for name, kinds in functions_of_header(header).items() if name.startswith("stun_")}
+    declared = {name: kinds for name, kinds in functions_of_header(header).items() if name.startswith("stunp_")}
     defined = functions_of_rust(crates, r'#\[(?:unsafe\(no_mangle\)|no_mangle)\]\s*(?:pub |unsafe )?extern "C" ')
     compare("declaration", declared, defined)
     compare("definition", defined, declared)
     imported = "".join(re.findall(r'extern "C" \{(.*?)\n\}', read("examples/rust/main.rs"), re.DOTALL))
-    compare("extern of examples/rust", functions_of_rust(imported, r"(?=fn stun_)"), declared)
+    compare("extern of examples/rust", functions_of_rust(imported, r"(?=fn stunp_)"), declared)
     compare("struct", structs_of_header(header), structs_of_rust(crates))
-    numbers = {name.replace("_", ""): int(number) for name, number in re.findall(r"STUN_(\w+) = (-\d+)", header)}
+    numbers = {name.replace("_", ""): int(number) for name, number in re.findall(r"STUNP_(\w+) = (-\d+)", header)}
     for crate in ("stun_c", "stun_state"):
         found = re.findall(r"Refusal::(\w+) => (-\d+)", read(f"crates/{crate}/src/codes.rt"))
         compare("number of " + crate, {name.upper(): int(number) for name, number in found}, numbers)

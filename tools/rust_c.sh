@@ -1,7 +1,7 @@
 #!/bin/sh
 # Builds the calls for C of the exported crate (target/export, by tools/rust.sh), and runs the tests of
 # tests/c and the transcripts over them. It needs cargo, a C compiler, ld, objcopy and nm. What it leaves in target/c:
-# libstun.a and libstun.so with malloc, and libstun-program.a, whose memory comes from the program.
+# libstunp.a and libstunp.so with malloc, and libstunp-program.a, whose memory comes from the program.
 set -eu
 cd "$(dirname "$0")/.."
 out=$PWD/target/c
@@ -10,22 +10,22 @@ mkdir -p "$out"
  cargo build --quiet --release -p seatcrane-stun-c
  cargo build --quiet --release -p seatcrane-stun-c --features program-memory --target-dir target/program)
 
-# only FROM TO: the archive again, in which no symbol is seen but stun_ ones.
+# only FROM TO: the archive again, in which no symbol is seen but stunp_ ones.
 only() {
     ld -r --whole-archive "$1" -o "$out/one.o"
-    objcopy --wildcard --keep-global-symbol='stun_*' -R .llvmbc -R .llvmcmd "$out/one.o"
+    objcopy --wildcard --keep-global-symbol='stunp_*' -R .llvmbc -R .llvmcmd "$out/one.o"
     rm -f "$2"
     ar rcs "$2" "$out/one.o"
     rm "$out/one.o"
 }
-only target/export/target/release/libstun.a "$out/libstun.a"
-only target/export/target/program/release/libstun.a "$out/libstun-program.a"
-cp target/export/target/release/libstun.so "$out/libstun.so.0"
-ln -sf libstun.so.0 "$out/libstun.so"
+only target/export/target/release/libstunp.a "$out/libstunp.a"
+only target/export/target/program/release/libstunp.a "$out/libstunp-program.a"
+cp target/export/target/release/libstunp.so "$out/libstunp.so.0"
+ln -sf libstunp.so.0 "$out/libstunp.so"
 
 # Each library has the calls that the headers declare, and shows no other symbol.
-sed -n 's/^[a-z0-9_]* \(stun_[a-z0-9_]*\)(.*/\1/p' include/stun.h include/stun_state.h | sort > "$out/declared"
-for seen in "-g $out/libstun.a" "-g $out/libstun-program.a" "-D $out/libstun.so"; do
+sed -n 's/^[a-z0-9_]* \(stunp_[a-z0-9_]*\)(.*/\1/p' include/stunp.h include/stunp_state.h | sort > "$out/declared"
+for seen in "-g $out/libstunp.a" "-g $out/libstunp-program.a" "-D $out/libstunp.so"; do
     nm --defined-only $seen 2>/dev/null | awk 'NF == 3 {print $3}' | sort > "$out/defined"
     cmp "$out/declared" "$out/defined"
 done
@@ -40,26 +40,26 @@ expect() {
 strict='-std=c99 -O1 -g -Wall -Wextra -Wpedantic -Werror -Iinclude -Iexamples/c -D_DEFAULT_SOURCE'
 libraries='-lpthread -ldl -lm'
 for name in arguments extra; do
-    ${CC:-cc} $strict tests/c/$name.c "$out/libstun.a" $libraries -o "$out/$name"
-    ${CC:-cc} $strict tests/c/$name.c -L"$out" -lstun "-Wl,-rpath,$out" -o "$out/$name-shared"
+    ${CC:-cc} $strict tests/c/$name.c "$out/libstunp.a" $libraries -o "$out/$name"
+    ${CC:-cc} $strict tests/c/$name.c -L"$out" -lstunp "-Wl,-rpath,$out" -o "$out/$name-shared"
     expect "$name: passed" "$out/$name"
     expect "$name: passed" "$out/$name-shared"
 done
 # These look at the memory that is taken.
 for name in handles hostile many play; do
-    ${CC:-cc} $strict "tests/c/$name.c" examples/c/heap.c "$out/libstun-program.a" $libraries -o "$out/$name"
+    ${CC:-cc} $strict "tests/c/$name.c" examples/c/heap.c "$out/libstunp-program.a" $libraries -o "$out/$name"
     [ $name = play ] || expect "$name: passed" "$out/$name"
 done
 python3 tests/play.py "$out/play" crates/transcripts/data/*.txt > "$out/played" || { cat "$out/played" >&2; exit 1; }
 tail -n 1 "$out/played"
 # The same installed, in the place of the two archives.
-STUN_C="$out/libstun.a" STUN_STATE="$out/libstun-program.a" tests/install.sh
+STUN_C="$out/libstunp.a" STUN_STATE="$out/libstunp-program.a" tests/install.sh
 if [ "${1-}" = udp ]; then
     built=target/export/target/debug/examples
     (cd target/export && cargo build --quiet --examples)
     # Either archive's place is this one's.
-    cp "$out/libstun-program.a" "$out/again.a"
-    STUN_C="$out/libstun-program.a" STUN_STATE="$out/again.a" \
+    cp "$out/libstunp-program.a" "$out/again.a"
+    STUN_C="$out/libstunp-program.a" STUN_STATE="$out/again.a" \
         python3 examples/udp/check.py --server "$built/udp_server" --client "$built/udp_client"
 fi
 echo "rust_c: passed"

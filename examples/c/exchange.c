@@ -8,13 +8,13 @@
 
 /* ---- Writing */
 
-void draft_response(struct draft *draft, uint32_t message_class, const stun_header *request) {
-    draft->length = stun_begin(message_class, request->method, request->id, sizeof request->id,
+void draft_response(struct draft *draft, uint32_t message_class, const stunp_header *request) {
+    draft->length = stunp_begin(message_class, request->method, request->id, sizeof request->id,
                                draft->bytes, sizeof draft->bytes);
 }
 
 void draft_new(struct draft *draft, uint32_t message_class, uint32_t method) {
-    stun_header header = {.method = method};
+    stunp_header header = {.method = method};
     fill_randomly(header.id, sizeof header.id);
     draft_response(draft, message_class, &header);
 }
@@ -23,7 +23,7 @@ void draft_new(struct draft *draft, uint32_t message_class, uint32_t method) {
 #define SO_FAR draft->bytes, sizeof draft->bytes, (size_t)draft->length
 
 void draft_bytes(struct draft *draft, uint32_t type, const void *value, size_t length) {
-    if (draft->length > 0) draft->length = stun_add(SO_FAR, type, value, length);
+    if (draft->length > 0) draft->length = stunp_add(SO_FAR, type, value, length);
 }
 
 void draft_text(struct draft *draft, uint32_t type, const char *text) {
@@ -31,42 +31,42 @@ void draft_text(struct draft *draft, uint32_t type, const char *text) {
 }
 
 void draft_number(struct draft *draft, uint32_t type, uint64_t number, size_t length) {
-    if (draft->length > 0) draft->length = stun_add_number(SO_FAR, type, number, length);
+    if (draft->length > 0) draft->length = stunp_add_number(SO_FAR, type, number, length);
 }
 
-void draft_address(struct draft *draft, uint32_t type, const stun_address *address) {
+void draft_address(struct draft *draft, uint32_t type, const stunp_address *address) {
     if (draft->length > 0)
-        draft->length = stun_add_xor_address(SO_FAR, type, address->octets, address->length,
+        draft->length = stunp_add_xor_address(SO_FAR, type, address->octets, address->length,
                                              address->port);
 }
 
 void draft_error(struct draft *draft, uint32_t code, const char *reason) {
     if (draft->length > 0)
-        draft->length = stun_add_error(SO_FAR, code, (const uint8_t *)reason, strlen(reason));
+        draft->length = stunp_add_error(SO_FAR, code, (const uint8_t *)reason, strlen(reason));
 }
 
 void draft_sign(struct draft *draft, const char *password) {
     if (draft->length > 0)
         draft->length =
-            stun_sign(SO_FAR, STUN_SHA1, (const uint8_t *)password, strlen(password));
+            stunp_sign(SO_FAR, STUNP_SHA1, (const uint8_t *)password, strlen(password));
 }
 
 void draft_fingerprint(struct draft *draft) {
-    if (draft->length > 0) draft->length = stun_add_fingerprint(SO_FAR);
+    if (draft->length > 0) draft->length = stunp_add_fingerprint(SO_FAR);
 }
 
 /* ---- Reading */
 
-bool is_message(const struct datagram *got, stun_header *header) {
-    int64_t fingerprint = stun_check_fingerprint(got->bytes, got->length);
-    return (fingerprint == STUN_RIGHT_FINGERPRINT || fingerprint == STUN_NO_FINGERPRINT)
-           && stun_read_header(got->bytes, got->length, header) == 0;
+bool is_message(const struct datagram *got, stunp_header *header) {
+    int64_t fingerprint = stunp_check_fingerprint(got->bytes, got->length);
+    return (fingerprint == STUNP_RIGHT_FINGERPRINT || fingerprint == STUNP_NO_FINGERPRINT)
+           && stunp_read_header(got->bytes, got->length, header) == 0;
 }
 
 /* The value of the first visible attribute of a type, or NULL. */
 static const uint8_t *value_of(const struct datagram *got, uint32_t type, size_t *length) {
-    int64_t place = stun_find(got->bytes, got->length, type, length);
-    return place > 0 ? got->bytes + place + STUN_ATTRIBUTE_HEADER_LENGTH : NULL;
+    int64_t place = stunp_find(got->bytes, got->length, type, length);
+    return place > 0 ? got->bytes + place + STUNP_ATTRIBUTE_HEADER_LENGTH : NULL;
 }
 
 bool has(const struct datagram *got, uint32_t type) {
@@ -82,17 +82,17 @@ bool has_text(const struct datagram *got, uint32_t type, const char *text) {
 
 bool get_number(const struct datagram *got, uint32_t type, size_t length, uint64_t *number) {
     size_t found;
-    int64_t place = stun_find(got->bytes, got->length, type, &found);
+    int64_t place = stunp_find(got->bytes, got->length, type, &found);
     return place > 0 && found == length
-           && stun_read_number(got->bytes, got->length, (size_t)place, number) > 0;
+           && stunp_read_number(got->bytes, got->length, (size_t)place, number) > 0;
 }
 
-bool get_address(const struct datagram *got, uint32_t type, stun_address *address) {
-    stun_address read = {{0}, 0, 0};
+bool get_address(const struct datagram *got, uint32_t type, stunp_address *address) {
+    stunp_address read = {{0}, 0, 0};
     size_t length;
-    int64_t place = stun_find(got->bytes, got->length, type, &length);
+    int64_t place = stunp_find(got->bytes, got->length, type, &length);
     if (place < 0) return false;
-    int64_t octets = stun_read_xor_address(got->bytes, got->length, (size_t)place, read.octets,
+    int64_t octets = stunp_read_xor_address(got->bytes, got->length, (size_t)place, read.octets,
                                            sizeof read.octets, &read.port);
     if (octets < 0) return false;
     read.length = (uint16_t)octets;
@@ -100,7 +100,7 @@ bool get_address(const struct datagram *got, uint32_t type, stun_address *addres
     return true;
 }
 
-bool is_same(const stun_address *one, const stun_address *other) {
+bool is_same(const stunp_address *one, const stunp_address *other) {
     return one->length == other->length && one->port == other->port
            && memcmp(one->octets, other->octets, one->length) == 0;
 }
@@ -120,7 +120,7 @@ bool find_peer(const char *host, const char *port, struct peer *peer) {
     return true;
 }
 
-int open_at(const char *host, stun_address *own) {
+int open_at(const char *host, stunp_address *own) {
     struct peer at;
     if (!find_peer(host, "0", &at)) return -1;
     int fd = socket(at.name.ss_family, SOCK_DGRAM, 0);
@@ -142,36 +142,36 @@ int64_t tell(struct exchange *exchange, const struct draft *draft, const struct 
 
 int64_t ask(struct exchange *exchange, const struct draft *request) {
     if (request->length < 0) return request->length;
-    int64_t kept = stun_agent_send_request(&exchange->agent, request->bytes,
+    int64_t kept = stunp_agent_send_request(&exchange->agent, request->bytes,
                                            (size_t)request->length, &exchange->to, moment());
     return kept < 0 ? kept : tell(exchange, request, &exchange->peer);
 }
 
-bool is_answer(struct exchange *exchange, const struct datagram *got, const stun_header *header) {
-    stun_address asked;
-    if (header->message_class != STUN_SUCCESS && header->message_class != STUN_ERROR) return false;
-    return stun_agent_is_outstanding(&exchange->agent, header->id, STUN_ID_LENGTH, &asked) == 1
+bool is_answer(struct exchange *exchange, const struct datagram *got, const stunp_header *header) {
+    stunp_address asked;
+    if (header->message_class != STUNP_SUCCESS && header->message_class != STUNP_ERROR) return false;
+    return stunp_agent_is_outstanding(&exchange->agent, header->id, STUNP_ID_LENGTH, &asked) == 1
            && is_same(&asked, &got->from);
 }
 
 int64_t end_request(struct exchange *exchange, const struct datagram *got) {
-    return stun_agent_handle(&exchange->agent, got->bytes, got->length, &got->from, moment());
+    return stunp_agent_handle(&exchange->agent, got->bytes, got->length, &got->from, moment());
 }
 
 /* One request is outstanding at most, so few are due. */
 static void send_again(struct exchange *exchange, uint64_t now) {
     struct draft again;
-    stun_address to;
-    while ((again.length = stun_agent_poll_transmit(&exchange->agent, now, again.bytes,
+    stunp_address to;
+    while ((again.length = stunp_agent_poll_transmit(&exchange->agent, now, again.bytes,
                                                     sizeof again.bytes, &to)) > 0)
         tell(exchange, &again, &exchange->peer);
 }
 
 enum event wait_until(struct exchange *exchange, uint64_t until, struct datagram *got) {
-    uint8_t id[STUN_ID_LENGTH];
+    uint8_t id[STUNP_ID_LENGTH];
     uint64_t now = moment(), next;
     send_again(exchange, now);
-    if (stun_agent_poll(&exchange->agent, now, &next, id, sizeof id) != 0) return NO_ANSWER;
+    if (stunp_agent_poll(&exchange->agent, now, &next, id, sizeof id) != 0) return NO_ANSWER;
     if (until < next) next = until;
     enum arrival came = wait_for(exchange->socket, next > now ? next - now : 0);
     if (came == ERROR_REPORT) return hard_error(exchange->socket) != 0 ? NO_ANSWER : NOTHING_CAME;

@@ -88,10 +88,10 @@ void rattle_dealloc(void *at) {
     wipe_and_free(block);
 }
 
-void heap_bound(size_t most) { __atomic_store_n(&bound, most, __ATOMIC_SEQ_CST); }
-size_t heap_blocks(void) { return __atomic_load_n(&blocks, __ATOMIC_SEQ_CST); }
-size_t heap_bytes(void) { return __atomic_load_n(&bytes, __ATOMIC_SEQ_CST); }
-size_t heap_asked(void) { return __atomic_load_n(&asked, __ATOMIC_SEQ_CST); }
-void heap_refuse(size_t n) {
-    __atomic_store_n(&refused, n == 0 ? 0 : heap_asked() + n, __ATOMIC_SEQ_CST);
+void stunp_heap_bound(size_t most) { __atomic_store_n(&bound, most, __ATOMIC_SEQ_CST); }
+size_t stunp_heap_blocks(void) { return __atomic_load_n(&blocks, __ATOMIC_SEQ_CST); }
+size_t stunp_heap_bytes(void) { return __atomic_load_n(&bytes, __ATOMIC_SEQ_CST); }
+size_t stunp_heap_asked(void) { return __atomic_load_n(&asked, __ATOMIC_SEQ_CST); }
+void stunp_heap_refuse(size_t n) {
+    __atomic_store_n(&refused, n == 0 ? 0 : stunp_heap_asked() + n, __ATOMIC_SEQ_CST);
 }

@@ -33,9 +33,9 @@ enum { PEER_REFLEXIVE = (110 << 24) + (65535 << 8) + 255 };
 
 /* Types that must be understood, and are. */
 static const uint16_t KNOWN[] = {
-    STUN_USERNAME,   STUN_MESSAGE_INTEGRITY,  STUN_MESSAGE_INTEGRITY_SHA256,
-    STUN_ERROR_CODE, STUN_UNKNOWN_ATTRIBUTES, STUN_XOR_MAPPED_ADDRESS,
-    STUN_PRIORITY,   STUN_USE_CANDIDATE,
+    STUNP_USERNAME,   STUNP_MESSAGE_INTEGRITY,  STUNP_MESSAGE_INTEGRITY_SHA256,
+    STUNP_ERROR_CODE, STUNP_UNKNOWN_ATTRIBUTES, STUNP_XOR_MAPPED_ADDRESS,
+    STUNP_PRIORITY,   STUNP_USE_CANDIDATE,
 };
 enum { KNOWN_TYPES = sizeof KNOWN / sizeof *KNOWN };
 
@@ -59,7 +59,7 @@ struct pair {
     bool is_valid;                                     /* a check of ours succeeded */
     bool is_told;                                      /* a check of theirs had USE-CANDIDATE */
     bool is_nominated, has_data;
-    stun_address seen; /* our candidate, as they see it */
+    stunp_address seen; /* our candidate, as they see it */
 };
 
 static bool fails(const char *why) {
@@ -69,23 +69,23 @@ static bool fails(const char *why) {
 
 static bool is_understood(const struct datagram *got) {
     uint16_t unknown[1];
-    return stun_unknown_types(got->bytes, got->length, KNOWN, KNOWN_TYPES, unknown, 1) == 0;
+    return stunp_unknown_types(got->bytes, got->length, KNOWN, KNOWN_TYPES, unknown, 1) == 0;
 }
 
 static bool is_signed(const struct datagram *got, const char *password) {
-    return stun_verify(got->bytes, got->length, (const uint8_t *)password, strlen(password))
-           == STUN_SHA1;
+    return stunp_verify(got->bytes, got->length, (const uint8_t *)password, strlen(password))
+           == STUNP_SHA1;
 }
 
 /* ---- A check of ours (section 7.2) */
 
 static void write_check(const struct pair *pair, struct draft *request) {
-    uint32_t role = pair->is_controlling ? STUN_ICE_CONTROLLING : STUN_ICE_CONTROLLED;
-    draft_new(request, STUN_REQUEST, STUN_BINDING);
-    draft_text(request, STUN_USERNAME, pair->name_to_them);
-    draft_number(request, STUN_PRIORITY, PEER_REFLEXIVE, 4);
+    uint32_t role = pair->is_controlling ? STUNP_ICE_CONTROLLING : STUNP_ICE_CONTROLLED;
+    draft_new(request, STUNP_REQUEST, STUNP_BINDING);
+    draft_text(request, STUNP_USERNAME, pair->name_to_them);
+    draft_number(request, STUNP_PRIORITY, PEER_REFLEXIVE, 4);
     draft_number(request, role, pair->tie_breaker, 8);
-    if (pair->was_nominating) draft_bytes(request, STUN_USE_CANDIDATE, "", 0);
+    if (pair->was_nominating) draft_bytes(request, STUNP_USE_CANDIDATE, "", 0);
     draft_sign(request, pair->theirs.password);
     draft_fingerprint(request);
 }
@@ -98,13 +98,13 @@ static bool send_check(struct pair *pair) {
     pair->was_nominating = pair->is_controlling && pair->is_valid;
     write_check(pair, &request);
     int64_t asked = ask(&pair->exchange, &request);
-    return asked == 0 || fails(stun_strerror(asked));
+    return asked == 0 || fails(stunp_strerror(asked));
 }
 
 /* What an error response asks for: where both had one role, a check in the other one, with another
  * tie-breaker (section 7.2.5.1). */
 static bool read_error(struct pair *pair, const struct datagram *got) {
-    if (stun_error_code(got->bytes, got->length) != 487) return fails("an error response");
+    if (stunp_error_code(got->bytes, got->length) != 487) return fails("an error response");
     pair->is_controlling = !pair->was_controlling;
     pair->is_valid = false;
     fill_randomly(&pair->tie_breaker, sizeof pair->tie_breaker);
@@ -115,15 +115,15 @@ static bool read_error(struct pair *pair, const struct datagram *got) {
  * dropped, also where another address sent it: then the check fails for want of an answer. So is
  * what has not their digest. */
 static bool read_response(struct pair *pair, const struct datagram *got,
-                          const stun_header *header) {
+                          const stunp_header *header) {
     if (!is_answer(&pair->exchange, got, header) || !is_signed(got, pair->theirs.password))
         return true;
     int64_t ended = end_request(&pair->exchange, got);
-    if (ended < 0) return fails(stun_strerror(ended));
+    if (ended < 0) return fails(stunp_strerror(ended));
     pair->is_checking = false;
     if (!is_understood(got)) return fails("a response that is not understood");
-    if (header->message_class == STUN_ERROR) return read_error(pair, got);
-    if (!get_address(got, STUN_XOR_MAPPED_ADDRESS, &pair->seen)) return fails("no mapped address");
+    if (header->message_class == STUNP_ERROR) return read_error(pair, got);
+    if (!get_address(got, STUNP_XOR_MAPPED_ADDRESS, &pair->seen)) return fails("no mapped address");
     pair->is_valid = true;
     pair->is_nominated |= pair->was_nominating && pair->is_controlling;
     return true;
@@ -134,10 +134,10 @@ static bool read_response(struct pair *pair, const struct datagram *got,
 /* The code that it draws: 200 for a success. Where both have one role, the larger tie-breaker
  * controls (section 7.3.1.1). */
 static uint32_t judge_check(struct pair *pair, const struct datagram *got) {
-    uint32_t our_role = pair->is_controlling ? STUN_ICE_CONTROLLING : STUN_ICE_CONTROLLED;
+    uint32_t our_role = pair->is_controlling ? STUNP_ICE_CONTROLLING : STUNP_ICE_CONTROLLED;
     uint64_t theirs;
-    if (!has(got, STUN_USERNAME) || !has(got, STUN_MESSAGE_INTEGRITY)) return 400;
-    if (!has_text(got, STUN_USERNAME, pair->name_to_us)) return 401;
+    if (!has(got, STUNP_USERNAME) || !has(got, STUNP_MESSAGE_INTEGRITY)) return 400;
+    if (!has_text(got, STUNP_USERNAME, pair->name_to_us)) return 401;
     if (!is_signed(got, pair->ours.password)) return 401;
     if (!is_understood(got)) return 420;
     if (!get_number(got, our_role, 8, &theirs)) return 200;
@@ -147,25 +147,25 @@ static uint32_t judge_check(struct pair *pair, const struct datagram *got) {
 }
 
 static void write_answer(const struct pair *pair, const struct datagram *got,
-                         const stun_header *header, uint32_t code, struct draft *response) {
-    draft_response(response, code == 200 ? STUN_SUCCESS : STUN_ERROR, header);
-    if (code == 200) draft_address(response, STUN_XOR_MAPPED_ADDRESS, &got->from);
+                         const stunp_header *header, uint32_t code, struct draft *response) {
+    draft_response(response, code == 200 ? STUNP_SUCCESS : STUNP_ERROR, header);
+    if (code == 200) draft_address(response, STUNP_XOR_MAPPED_ADDRESS, &got->from);
     else if (code != 420) draft_error(response, code, code == 487 ? "Role Conflict" : "");
     else
-        response->length = stun_refuse_unknown(got->bytes, got->length, KNOWN, KNOWN_TYPES,
+        response->length = stunp_refuse_unknown(got->bytes, got->length, KNOWN, KNOWN_TYPES,
                                                response->bytes, sizeof response->bytes);
     if (code != 400 && code != 401) draft_sign(response, pair->ours.password);
     draft_fingerprint(response);
 }
 
 /* Answers a check. One that comes from elsewhere is of another pair. */
-static void answer_check(struct pair *pair, const struct datagram *got, const stun_header *header) {
+static void answer_check(struct pair *pair, const struct datagram *got, const stunp_header *header) {
     struct draft response;
     uint32_t code = judge_check(pair, got);
     write_answer(pair, got, header, code, &response);
     tell(&pair->exchange, &response, &got->peer);
     if (code == 200 && is_same(&got->from, &pair->exchange.to))
-        pair->is_told |= has(got, STUN_USE_CANDIDATE);
+        pair->is_told |= has(got, STUNP_USE_CANDIDATE);
 }
 
 /* ---- The pair */
@@ -182,11 +182,11 @@ static void take_data(struct pair *pair, const struct datagram *got) {
 /* Takes a datagram: data, or a message of ICE, each of which has FINGERPRINT. False where the pair
  * fails. */
 static bool take(struct pair *pair, const struct datagram *got) {
-    stun_header header;
-    if (stun_is_stun(got->bytes, got->length) == 0) take_data(pair, got);
-    else if (!is_message(got, &header) || !has(got, STUN_FINGERPRINT)) return true;
-    else if (header.method != STUN_BINDING) return true;
-    else if (header.message_class != STUN_REQUEST) return read_response(pair, got, &header);
+    stunp_header header;
+    if (stunp_is_stun(got->bytes, got->length) == 0) take_data(pair, got);
+    else if (!is_message(got, &header) || !has(got, STUNP_FINGERPRINT)) return true;
+    else if (header.method != STUNP_BINDING) return true;
+    else if (header.message_class != STUNP_REQUEST) return read_response(pair, got, &header);
     else answer_check(pair, got, &header);
     return true;
 }
@@ -238,7 +238,7 @@ static void fill_word(char *word, size_t length) {
 }
 
 /* Opens our candidate, prints our line, and reads theirs. */
-static bool introduce(struct pair *pair, const char *host, stun_address *own) {
+static bool introduce(struct pair *pair, const char *host, stunp_address *own) {
     struct side *ours = &pair->ours, *theirs = &pair->theirs;
     if ((pair->exchange.socket = open_at(host, own)) < 0) return false;
     fill_word(ours->ufrag, 4);
@@ -259,7 +259,7 @@ int main(int count, char **words) {
     const char *host = "127.0.0.1";
     unsigned long tie_breaker = 0;
     uint64_t within = 30 * SECOND;
-    stun_address own;
+    stunp_address own;
     const struct option options[] = {
         {"--at", .text = &host},
         {"--tie-breaker", .number = &tie_breaker, .least = 1, .most = UINT64_MAX},
@@ -273,14 +273,14 @@ int main(int count, char **words) {
                         "[--within SECONDS]\n");
         return 2;
     }
-    heap_bound(MOST_MEMORY);
+    stunp_heap_bound(MOST_MEMORY);
     setvbuf(stdout, NULL, _IOLBF, 0);
     fill_randomly(&pair.tie_breaker, sizeof pair.tie_breaker);
     if (tie_breaker != 0) pair.tie_breaker = tie_breaker;
     if (!introduce(&pair, host, &own)) return 1;
-    int64_t begun = stun_agent_new(&pair.exchange.agent, STUN_UDP, &own);
-    bool is_right = begun == 0 ? run(&pair, moment() + within) : fails(stun_strerror(begun));
-    stun_agent_free(&pair.exchange.agent);
+    int64_t begun = stunp_agent_new(&pair.exchange.agent, STUNP_UDP, &own);
+    bool is_right = begun == 0 ? run(&pair, moment() + within) : fails(stunp_strerror(begun));
+    stunp_agent_free(&pair.exchange.agent);
     close(pair.exchange.socket);
     return is_right ? 0 : 1;
 }

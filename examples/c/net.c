@@ -45,8 +45,8 @@ void draw_words(uint32_t words[16]) {
 
 /* ---- Addresses */
 
-stun_address address_of(const struct peer *peer) {
-    stun_address address = {{0}, 0, 4};
+stunp_address address_of(const struct peer *peer) {
+    stunp_address address = {{0}, 0, 4};
     if (peer->name.ss_family == AF_INET) {
         const struct sockaddr_in *four = (const struct sockaddr_in *)&peer->name;
         address.port = ntohs(four->sin_port);
@@ -61,7 +61,7 @@ stun_address address_of(const struct peer *peer) {
     return address;
 }
 
-const char *text_of(const stun_address *address) {
+const char *text_of(const stunp_address *address) {
     static char text[INET6_ADDRSTRLEN + 9];
     char octets[INET6_ADDRSTRLEN] = "?";
     inet_ntop(address->length == 4 ? AF_INET : AF_INET6, address->octets, octets, sizeof octets);
@@ -137,7 +137,7 @@ int open_server(unsigned long *port, bool is_shared) {
     return fd;
 }
 
-int open_client(const char *host, const char *port, struct peer *server, stun_address *own) {
+int open_client(const char *host, const char *port, struct peer *server, stunp_address *own) {
     struct addrinfo wanted = {.ai_socktype = SOCK_DGRAM}, *found;
     int error = getaddrinfo(host, port, &wanted, &found);
     if (error != 0) {

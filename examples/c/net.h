@@ -2,7 +2,7 @@
 #ifndef STUN_NET_H
 #define STUN_NET_H
 
-#include "stun_state.h"
+#include "stunp_state.h"
 #include <netinet/in.h>
 #include <sys/socket.h>
 #include <sys/types.h>
@@ -29,10 +29,10 @@ struct peer {
 };
 
 /* The address of a peer for the library. An IPv4 address that is mapped into IPv6 is IPv4. */
-stun_address address_of(const struct peer *peer);
+stunp_address address_of(const struct peer *peer);
 
 /* An address as `IPv4:PORT` or `[IPv6]:PORT`, until the next call. */
-const char *text_of(const stun_address *address);
+const char *text_of(const stunp_address *address);
 
 /* A socket on a port for IPv6 and IPv4, or for IPv4 where there is no IPv6. Port 0 becomes the one
  * that was found. A shared port may have more sockets. Waits for a datagram end after a second.
@@ -41,7 +41,7 @@ int open_server(unsigned long *port, bool is_shared);
 
 /* Finds a server, and opens a socket of its kind, whose own address it writes. Answers -1 after it
  * told why. */
-int open_client(const char *host, const char *port, struct peer *server, stun_address *own);
+int open_client(const char *host, const char *port, struct peer *server, stunp_address *own);
 
 /* What comes to a socket within so many nanoseconds: a datagram, or word of one that was sent. */
 enum arrival { NOTHING, DATAGRAM, ERROR_REPORT };

@@ -9,11 +9,11 @@
 
 enum kind { STRANGER, CLIENT, KINDS };
 enum crowds { ALL, OF_NETWORK, CROWDS };
-enum { WORDS = sizeof(stun_address) / sizeof(uint32_t) };
+enum { WORDS = sizeof(stunp_address) / sizeof(uint32_t) };
 
 /* What is found by a name: a place by its address, and a network by an address without a port. */
 struct named {
-    stun_address name;
+    stunp_address name;
     struct named *next; /* in its chain, or among what is free */
 };
 
@@ -67,7 +67,7 @@ bool make_places(size_t most) {
 
 /* Where a name is in its chain, or the end of it. The chain is chosen by a sum of products with
  * secret numbers, so that nobody can choose addresses that share one. */
-static struct named **find(const stun_address *name) {
+static struct named **find(const stunp_address *name) {
     uint32_t words[WORDS];
     uint64_t sum = secret[WORDS];
     memcpy(words, name, sizeof words);
@@ -77,8 +77,8 @@ static struct named **find(const stun_address *name) {
     return at;
 }
 
-static stun_address network_of(const stun_address *at) {
-    stun_address network = {{0}, at->length, 0};
+static stunp_address network_of(const stunp_address *at) {
+    stunp_address network = {{0}, at->length, 0};
     memcpy(network.octets, at->octets, at->length == 4 ? 4 : 8);
     return network;
 }
@@ -122,8 +122,8 @@ static void join(struct place *place, enum kind kind) {
 }
 
 /* The network of an address, which is new where it has no other place. */
-static struct network *enter(const stun_address *from) {
-    stun_address name = network_of(from);
+static struct network *enter(const stunp_address *from) {
+    stunp_address name = network_of(from);
     struct named **at = find(&name);
     if (*at != NULL) return (struct network *)*at;
     struct named *one = free_networks;
@@ -148,8 +148,8 @@ static void put_out(struct place *place) {
 
 /* The place that is to be had, of the network where it has its share, else of all; or NULL where
  * nobody need go. */
-static struct place *to_go(const stun_address *from) {
-    stun_address name = network_of(from);
+static struct place *to_go(const stunp_address *from) {
+    stunp_address name = network_of(from);
     struct network *network = (struct network *)*find(&name);
     bool has_share = network != NULL && size_of(&network->crowd) >= most_of(OF_NETWORK);
     enum crowds which = has_share ? OF_NETWORK : ALL;
@@ -158,7 +158,7 @@ static struct place *to_go(const stun_address *from) {
     return oldest(crowd, which, crowd->numbers[STRANGER] > 0 ? STRANGER : CLIENT);
 }
 
-bool take_place(const stun_address *from, stun_address *gone) {
+bool take_place(const stunp_address *from, stunp_address *gone) {
     struct place *place = (struct place *)*find(from);
     if (place != NULL) {
         leave(place);
@@ -178,7 +178,7 @@ bool take_place(const stun_address *from, stun_address *gone) {
     return other != NULL;
 }
 
-void keep_place(const stun_address *at) {
+void keep_place(const stunp_address *at) {
     struct place *place = (struct place *)*find(at);
     if (place == NULL || place->kind == CLIENT) return;
     leave(place);

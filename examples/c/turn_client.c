@@ -16,11 +16,11 @@
 
 /* Types that must be understood, and are. */
 static const uint16_t KNOWN[] = {
-    STUN_USERNAME,           STUN_MESSAGE_INTEGRITY,  STUN_MESSAGE_INTEGRITY_SHA256,
-    STUN_ERROR_CODE,         STUN_UNKNOWN_ATTRIBUTES, STUN_REALM,
-    STUN_NONCE,              STUN_USERHASH,           STUN_PASSWORD_ALGORITHM,
-    STUN_XOR_MAPPED_ADDRESS, STUN_CHANNEL_NUMBER,     STUN_LIFETIME,
-    STUN_XOR_PEER_ADDRESS,   STUN_DATA,               STUN_XOR_RELAYED_ADDRESS,
+    STUNP_USERNAME,           STUNP_MESSAGE_INTEGRITY,  STUNP_MESSAGE_INTEGRITY_SHA256,
+    STUNP_ERROR_CODE,         STUNP_UNKNOWN_ATTRIBUTES, STUNP_REALM,
+    STUNP_NONCE,              STUNP_USERHASH,           STUNP_PASSWORD_ALGORITHM,
+    STUNP_XOR_MAPPED_ADDRESS, STUNP_CHANNEL_NUMBER,     STUNP_LIFETIME,
+    STUNP_XOR_PEER_ADDRESS,   STUNP_DATA,               STUNP_XOR_RELAYED_ADDRESS,
 };
 enum { KNOWN_TYPES = sizeof KNOWN / sizeof *KNOWN };
 
@@ -30,8 +30,8 @@ static const uint64_t REPEAT = SECOND / 2; /* data that does not come back goes 
 
 struct session {
     struct exchange exchange;
-    stun_client client;
-    stun_address peer;
+    stunp_client client;
+    stunp_address peer;
     uint64_t give_up; /* at this moment */
     const char *step;
 };
@@ -49,19 +49,19 @@ enum verdict { FAILED, SUCCEEDED, WAITING, IS_TO_ASK_AGAIN };
  * What is no answer or is forged is dropped, and so is data that comes meanwhile, which another
  * program would take. */
 static enum verdict judge(struct session *session, const struct datagram *got) {
-    stun_header header;
+    stunp_header header;
     uint16_t unknown[1];
     if (!is_message(got, &header) || !is_answer(&session->exchange, got, &header)) return WAITING;
-    int64_t verdict = stun_client_validate(&session->client, got->bytes, got->length);
-    if (verdict == STUN_INTEGRITY_FAILED) return WAITING;
+    int64_t verdict = stunp_client_validate(&session->client, got->bytes, got->length);
+    if (verdict == STUNP_INTEGRITY_FAILED) return WAITING;
     int64_t ended = end_request(&session->exchange, got);
     if (ended < 0) verdict = ended;
-    if (stun_is_resend(verdict)) return IS_TO_ASK_AGAIN;
-    if (verdict < 0 && verdict != STUN_UNAUTHORIZED) fails(session, stun_strerror(verdict));
-    else if (header.message_class == STUN_ERROR)
+    if (stunp_is_resend(verdict)) return IS_TO_ASK_AGAIN;
+    if (verdict < 0 && verdict != STUNP_UNAUTHORIZED) fails(session, stunp_strerror(verdict));
+    else if (header.message_class == STUNP_ERROR)
         fprintf(stderr, "%s: refused %d\n", session->step,
-                (int)stun_error_code(got->bytes, got->length));
-    else if (stun_unknown_types(got->bytes, got->length, KNOWN, KNOWN_TYPES, unknown, 1) != 0)
+                (int)stunp_error_code(got->bytes, got->length));
+    else if (stunp_unknown_types(got->bytes, got->length, KNOWN, KNOWN_TYPES, unknown, 1) != 0)
         fails(session, "the response is not understood");
     else return SUCCEEDED;
     return FAILED;
@@ -87,13 +87,13 @@ static bool transact(struct session *session, const char *step, uint32_t method,
     struct draft request;
     session->step = step;
     for (int asks = 0; asks < MOST_ASKS; asks++) {
-        draft_new(&request, STUN_REQUEST, method);
+        draft_new(&request, STUNP_REQUEST, method);
         fill(&request, session);
         if (request.length > 0)
-            request.length = stun_client_sign(&session->client, request.bytes, sizeof request.bytes,
+            request.length = stunp_client_sign(&session->client, request.bytes, sizeof request.bytes,
                                               (size_t)request.length);
         int64_t asked = ask(&session->exchange, &request);
-        if (asked < 0) return fails(session, stun_strerror(asked));
+        if (asked < 0) return fails(session, stunp_strerror(asked));
         enum verdict verdict = await(session, got);
         if (verdict != IS_TO_ASK_AGAIN) return verdict == SUCCEEDED;
     }
@@ -102,23 +102,23 @@ static bool transact(struct session *session, const char *step, uint32_t method,
 
 /* The relayed address is of IPv4 where no family is asked for; the number of IPv6 is 2. */
 static void fill_allocate(struct draft *request, const struct session *session) {
-    draft_number(request, STUN_REQUESTED_TRANSPORT, IPPROTO_UDP << 24, 4);
+    draft_number(request, STUNP_REQUESTED_TRANSPORT, IPPROTO_UDP << 24, 4);
     if (session->peer.length == 16)
-        draft_number(request, STUN_REQUESTED_ADDRESS_FAMILY, 2 << 24, 4);
+        draft_number(request, STUNP_REQUESTED_ADDRESS_FAMILY, 2 << 24, 4);
 }
 
 static void fill_peer(struct draft *request, const struct session *session) {
-    draft_address(request, STUN_XOR_PEER_ADDRESS, &session->peer);
+    draft_address(request, STUNP_XOR_PEER_ADDRESS, &session->peer);
 }
 
 static void fill_channel(struct draft *request, const struct session *session) {
-    draft_number(request, STUN_CHANNEL_NUMBER, CHANNEL << 16, 4);
+    draft_number(request, STUNP_CHANNEL_NUMBER, CHANNEL << 16, 4);
     fill_peer(request, session);
 }
 
 static void fill_end(struct draft *request, const struct session *session) {
     (void)session;
-    draft_number(request, STUN_LIFETIME, 0, 4);
+    draft_number(request, STUNP_LIFETIME, 0, 4);
 }
 
 /* ---- Data: neither way is signed, and nothing tells whether it came */
@@ -127,19 +127,19 @@ typedef void write_data(const struct session *session, const char *text, struct 
 typedef bool is_data(const struct session *session, const char *text, const struct datagram *got);
 
 static void write_indication(const struct session *session, const char *text, struct draft *out) {
-    draft_new(out, STUN_INDICATION, STUN_SEND);
-    draft_address(out, STUN_XOR_PEER_ADDRESS, &session->peer);
-    draft_text(out, STUN_DATA, text);
+    draft_new(out, STUNP_INDICATION, STUNP_SEND);
+    draft_address(out, STUNP_XOR_PEER_ADDRESS, &session->peer);
+    draft_text(out, STUNP_DATA, text);
 }
 
 static bool is_indication(const struct session *session, const char *text,
                           const struct datagram *got) {
-    stun_header header;
-    stun_address peer;
+    stunp_header header;
+    stunp_address peer;
     return is_message(got, &header)
-           && header.message_class == STUN_INDICATION && header.method == STUN_DATA_METHOD
-           && get_address(got, STUN_XOR_PEER_ADDRESS, &peer) && is_same(&peer, &session->peer)
-           && has_text(got, STUN_DATA, text);
+           && header.message_class == STUNP_INDICATION && header.method == STUNP_DATA_METHOD
+           && get_address(got, STUNP_XOR_PEER_ADDRESS, &peer) && is_same(&peer, &session->peer)
+           && has_text(got, STUNP_DATA, text);
 }
 
 /* The channel's number, a length, and so many bytes (section 12.4). */
@@ -184,11 +184,11 @@ static bool carry(struct session *session, write_data *write, is_data *is, const
 
 static bool allocate(struct session *session) {
     struct datagram got;
-    stun_address relayed;
+    stunp_address relayed;
     uint64_t lifetime;
-    if (!transact(session, "Allocate", STUN_ALLOCATE, fill_allocate, &got)) return false;
-    if (!get_address(&got, STUN_XOR_RELAYED_ADDRESS, &relayed)
-        || !get_number(&got, STUN_LIFETIME, 4, &lifetime))
+    if (!transact(session, "Allocate", STUNP_ALLOCATE, fill_allocate, &got)) return false;
+    if (!get_address(&got, STUNP_XOR_RELAYED_ADDRESS, &relayed)
+        || !get_number(&got, STUNP_LIFETIME, 4, &lifetime))
         return fails(session, "no address or no lifetime");
     printf("relayed %s for %u s\n", text_of(&relayed), (unsigned)lifetime);
     return true;
@@ -198,25 +198,25 @@ static bool run(struct session *session) {
     struct datagram got;
     if (!allocate(session)) return false;
     bool is_right =
-        transact(session, "CreatePermission", STUN_CREATE_PERMISSION, fill_peer, &got)
+        transact(session, "CreatePermission", STUNP_CREATE_PERMISSION, fill_peer, &got)
         && carry(session, write_indication, is_indication, "by indication")
-        && transact(session, "ChannelBind", STUN_CHANNEL_BIND, fill_channel, &got)
+        && transact(session, "ChannelBind", STUNP_CHANNEL_BIND, fill_channel, &got)
         && carry(session, write_on_channel, is_on_channel, "on the channel");
     session->give_up += SECOND;
-    if (!transact(session, "Refresh", STUN_REFRESH, fill_end, &got)) return false;
+    if (!transact(session, "Refresh", STUNP_REFRESH, fill_end, &got)) return false;
     puts("ended");
     return is_right;
 }
 
-static int64_t begin(struct session *session, const stun_address *own, const char *name,
+static int64_t begin(struct session *session, const stunp_address *own, const char *name,
                      const char *password) {
     session->step = "turn_client";
-    int64_t answer = stun_agent_new(&session->exchange.agent, STUN_UDP, own);
-    if (answer >= 0) answer = stun_client_new(&session->client);
+    int64_t answer = stunp_agent_new(&session->exchange.agent, STUNP_UDP, own);
+    if (answer >= 0) answer = stunp_client_new(&session->client);
     if (answer >= 0)
-        answer = stun_client_set_algorithms(&session->client, STUN_SHA1 | STUN_SHA256);
+        answer = stunp_client_set_algorithms(&session->client, STUNP_SHA1 | STUNP_SHA256);
     if (answer < 0) return answer;
-    return stun_client_set_credentials(&session->client, (const uint8_t *)name, strlen(name),
+    return stunp_client_set_credentials(&session->client, (const uint8_t *)name, strlen(name),
                                        (const uint8_t *)password, strlen(password));
 }
 
@@ -224,7 +224,7 @@ int main(int count, char **words) {
     static struct session session;
     struct exchange *exchange = &session.exchange;
     struct peer peer;
-    stun_address own;
+    stunp_address own;
     uint64_t within = 30 * SECOND;
     const struct option options[] = {
         {"--within", .nanoseconds = &within, .least = 0, .most = 1000000},
@@ -235,16 +235,16 @@ int main(int count, char **words) {
                         "[--within SECONDS]\n");
         return 2;
     }
-    heap_bound(MOST_MEMORY);
+    stunp_heap_bound(MOST_MEMORY);
     session.give_up = moment() + within;
     if (!find_peer(words[4], words[5], &peer)) return 1;
     session.peer = address_of(&peer);
     if ((exchange->socket = open_client(words[0], words[1], &exchange->peer, &own)) < 0) return 1;
     exchange->to = address_of(&exchange->peer);
     int64_t begun = begin(&session, &own, words[2], words[3]);
-    bool is_right = begun < 0 ? fails(&session, stun_strerror(begun)) : run(&session);
-    stun_agent_free(&exchange->agent);
-    stun_client_free(&session.client);
+    bool is_right = begun < 0 ? fails(&session, stunp_strerror(begun)) : run(&session);
+    stunp_agent_free(&exchange->agent);
+    stunp_client_free(&session.client);
     close(exchange->socket);
     return is_right ? 0 : 1;
 }

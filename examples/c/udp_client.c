@@ -35,14 +35,14 @@ enum end {
 struct asker {
     int socket;
     struct peer server;
-    stun_agent agent;
-    stun_client client;
+    stunp_agent agent;
+    stunp_client client;
     bool has_credentials;
     uint64_t give_up; /* at this moment */
     int asks;
     int unreachable; /* what ICMP told of the server, or 0 */
     int64_t number;  /* an error code, or a refusal of the library */
-    stun_address seen;
+    stunp_address seen;
 };
 
 static enum end fails(struct asker *asker, int64_t number) {
@@ -52,15 +52,15 @@ static enum end fails(struct asker *asker, int64_t number) {
 
 /* A request of a new id, signed where a challenge was taken up. */
 static enum end ask(struct asker *asker) {
-    uint8_t request[4096], id[STUN_ID_LENGTH];
-    stun_address to = address_of(&asker->server);
+    uint8_t request[4096], id[STUNP_ID_LENGTH];
+    stunp_address to = address_of(&asker->server);
     if (asker->asks++ == MOST_ASKS) return ASKED_TOO_OFTEN;
     fill_randomly(id, sizeof id);
-    int64_t length = stun_begin(STUN_REQUEST, STUN_BINDING, id, sizeof id, request, sizeof request);
+    int64_t length = stunp_begin(STUNP_REQUEST, STUNP_BINDING, id, sizeof id, request, sizeof request);
     if (length > 0 && asker->has_credentials)
-        length = stun_client_sign(&asker->client, request, sizeof request, (size_t)length);
+        length = stunp_client_sign(&asker->client, request, sizeof request, (size_t)length);
     if (length < 0) return fails(asker, length);
-    int64_t kept = stun_agent_send_request(&asker->agent, request, (size_t)length, &to, moment());
+    int64_t kept = stunp_agent_send_request(&asker->agent, request, (size_t)length, &to, moment());
     if (kept < 0) return fails(asker, kept);
     send_to(asker->socket, request, (size_t)length,
             &asker->server); /* what is lost the agent has sent again */
@@ -68,7 +68,7 @@ static enum end ask(struct asker *asker) {
 }
 
 static enum end is_refused(struct asker *asker, const uint8_t *bytes, size_t length) {
-    int64_t code = stun_error_code(bytes, length);
+    int64_t code = stunp_error_code(bytes, length);
     if (code < 0) return fails(asker, code);
     asker->number = code;
     return REFUSED;
@@ -76,8 +76,8 @@ static enum end is_refused(struct asker *asker, const uint8_t *bytes, size_t len
 
 /* What a response tells that is to be believed. */
 static enum end read_response(struct asker *asker, const uint8_t *bytes, size_t length) {
-    if (stun_class(bytes, length) == STUN_ERROR) return is_refused(asker, bytes, length);
-    int64_t octets = stun_xor_mapped_address(bytes, length, asker->seen.octets,
+    if (stunp_class(bytes, length) == STUNP_ERROR) return is_refused(asker, bytes, length);
+    int64_t octets = stunp_xor_mapped_address(bytes, length, asker->seen.octets,
                                              sizeof asker->seen.octets, &asker->seen.port);
     if (octets < 0) return fails(asker, octets);
     asker->seen.length = (uint16_t)octets;
@@ -86,11 +86,11 @@ static enum end read_response(struct asker *asker, const uint8_t *bytes, size_t 
 
 /* Whether a message is a response to an outstanding request, from the address that was asked. */
 static bool is_an_answer(struct asker *asker, const struct message *message,
-                         const stun_address *from) {
-    stun_address asked;
-    return (message->kind == STUN_SUCCESS || message->kind == STUN_ERROR)
-           && message->method == STUN_BINDING
-           && stun_agent_is_outstanding(&asker->agent, message->id, sizeof message->id, &asked) == 1
+                         const stunp_address *from) {
+    stunp_address asked;
+    return (message->kind == STUNP_SUCCESS || message->kind == STUNP_ERROR)
+           && message->method == STUNP_BINDING
+           && stunp_agent_is_outstanding(&asker->agent, message->id, sizeof message->id, &asked) == 1
            && asked.length == from->length && asked.port == from->port
            && memcmp(asked.octets, from->octets, asked.length) == 0;
 }
@@ -99,29 +99,29 @@ static bool is_an_answer(struct asker *asker, const struct message *message,
  * wrong FINGERPRINT, or is forged. What has an attribute that it would have to understand ends the
  * request all the same (section 6.3.3). */
 static enum end judge(struct asker *asker, const uint8_t *bytes, size_t length,
-                      const stun_address *from) {
+                      const stunp_address *from) {
     struct message message;
     int64_t verdict = 0;
     if (read_message(bytes, length, &message) != NULL || !is_an_answer(asker, &message, from))
         return ASKING;
-    if (asker->has_credentials) verdict = stun_client_validate(&asker->client, bytes, length);
-    if (verdict == STUN_INTEGRITY_FAILED) return ASKING;
-    if (verdict == STUN_UNSUPPORTED_FEATURE) return UNSUPPORTED;
-    if (verdict == STUN_UNAUTHORIZED) return is_refused(asker, bytes, length);
+    if (asker->has_credentials) verdict = stunp_client_validate(&asker->client, bytes, length);
+    if (verdict == STUNP_INTEGRITY_FAILED) return ASKING;
+    if (verdict == STUNP_UNSUPPORTED_FEATURE) return UNSUPPORTED;
+    if (verdict == STUNP_UNAUTHORIZED) return is_refused(asker, bytes, length);
     if (verdict < 0) return fails(asker, verdict);
-    int64_t taken = stun_agent_handle(&asker->agent, bytes, length, from, moment());
+    int64_t taken = stunp_agent_handle(&asker->agent, bytes, length, from, moment());
     if (taken < 0) return fails(asker, taken);
     if (message.unknown_length > 0) return NOT_UNDERSTOOD;
-    return stun_is_resend(verdict) ? ask(asker) : read_response(asker, bytes, length);
+    return stunp_is_resend(verdict) ? ask(asker) : read_response(asker, bytes, length);
 }
 
 /* Sends again what is due, and not all of it where that is much: answers are to be read between.
  * The agent tells the server's address too, but only the peer has the scope of a link-local one. */
 static int64_t send_again(struct asker *asker, uint64_t now) {
     uint8_t bytes[4096];
-    stun_address to;
+    stunp_address to;
     for (int sent = 0; sent < MOST_AT_ONCE; sent++) {
-        int64_t due = stun_agent_poll_transmit(&asker->agent, now, bytes, sizeof bytes, &to);
+        int64_t due = stunp_agent_poll_transmit(&asker->agent, now, bytes, sizeof bytes, &to);
         if (due <= 0) return due;
         send_to(asker->socket, bytes, (size_t)due, &asker->server);
     }
@@ -130,11 +130,11 @@ static int64_t send_again(struct asker *asker, uint64_t now) {
 
 /* Asks what is to be sent again, and then what comes next; waits for a datagram until then. */
 static enum end wait_and_receive(struct asker *asker) {
-    uint8_t bytes[4096], id[STUN_ID_LENGTH];
+    uint8_t bytes[4096], id[STUNP_ID_LENGTH];
     uint64_t now = moment(), until;
     int64_t sent = send_again(asker, now);
     if (sent < 0) return fails(asker, sent);
-    if (now >= asker->give_up || stun_agent_poll(&asker->agent, now, &until, id, sizeof id) != 0)
+    if (now >= asker->give_up || stunp_agent_poll(&asker->agent, now, &until, id, sizeof id) != 0)
         return NO_ANSWER;
     if (until > asker->give_up) until = asker->give_up;
     enum arrival came = wait_for(asker->socket, until > now ? until - now : 0);
@@ -146,23 +146,23 @@ static enum end wait_and_receive(struct asker *asker) {
     ssize_t length =
         came == DATAGRAM ? receive_from(asker->socket, bytes, sizeof bytes, &peer) : -1;
     if (length < 0) return ASKING;
-    stun_address from = address_of(&peer);
+    stunp_address from = address_of(&peer);
     return judge(asker, bytes, (size_t)length, &from);
 }
 
 static int64_t take(void *taker, const char *name, const char *password) {
     struct asker *asker = taker;
     asker->has_credentials = true;
-    return stun_client_set_credentials(&asker->client, (const uint8_t *)name, strlen(name),
+    return stunp_client_set_credentials(&asker->client, (const uint8_t *)name, strlen(name),
                                        (const uint8_t *)password, strlen(password));
 }
 
-static int64_t begin(struct asker *asker, const stun_address *own, int count, char **words,
+static int64_t begin(struct asker *asker, const stunp_address *own, int count, char **words,
                      const char *file, bool has_sha256) {
-    int64_t answer = stun_agent_new(&asker->agent, STUN_UDP, own);
-    if (answer >= 0) answer = stun_client_new(&asker->client);
+    int64_t answer = stunp_agent_new(&asker->agent, STUNP_UDP, own);
+    if (answer >= 0) answer = stunp_client_new(&asker->client);
     if (answer >= 0 && has_sha256)
-        answer = stun_client_set_algorithms(&asker->client, STUN_SHA1 | STUN_SHA256);
+        answer = stunp_client_set_algorithms(&asker->client, STUNP_SHA1 | STUNP_SHA256);
     if (answer >= 0) answer = take_words(words, count, take, asker);
     if (answer >= 0 && file != NULL) answer = take_file(file, take, asker);
     return answer;
@@ -174,12 +174,12 @@ static void report(const struct asker *asker, enum end end) {
     case REFUSED: fprintf(stderr, "refused %lld\n", (long long)asker->number); break;
     case ASKED_TOO_OFTEN: fprintf(stderr, "refused: challenged too often\n"); break;
     case UNSUPPORTED:
-        fprintf(stderr, "unsupported: %s\n", stun_strerror(STUN_UNSUPPORTED_FEATURE));
+        fprintf(stderr, "unsupported: %s\n", stunp_strerror(STUNP_UNSUPPORTED_FEATURE));
         break;
     case NOT_UNDERSTOOD:
         fprintf(stderr, "failed: the response has an attribute that is not understood\n");
         break;
-    case FAILED: fprintf(stderr, "failed: %s\n", stun_strerror(asker->number)); break;
+    case FAILED: fprintf(stderr, "failed: %s\n", stunp_strerror(asker->number)); break;
     default:
         if (asker->unreachable != 0)
             fprintf(stderr, "no answer: %s\n", strerror(asker->unreachable));
@@ -204,16 +204,16 @@ int main(int count, char **words) {
         return 2;
     }
     struct asker asker = {.give_up = moment() + within};
-    stun_address own;
-    heap_bound(MOST_MEMORY);
+    stunp_address own;
+    stunp_heap_bound(MOST_MEMORY);
     asker.socket = open_client(words[0], words[1], &asker.server, &own);
     if (asker.socket < 0) return 1;
     int64_t answer = begin(&asker, &own, count - 2, words + 2, file, has_sha256);
     enum end end = answer < 0 ? fails(&asker, answer) : ask(&asker);
     while (end == ASKING) end = wait_and_receive(&asker);
     report(&asker, end);
-    stun_agent_free(&asker.agent);
-    stun_client_free(&asker.client);
+    stunp_agent_free(&asker.agent);
+    stunp_client_free(&asker.client);
     close(asker.socket);
     return end == ANSWERED ? 0 : 1;
 }

@@ -48,7 +48,7 @@ static const struct option options[] = {
     {.name = NULL},
 };
 
-static stun_server server;
+static stunp_server server;
 static volatile sig_atomic_t jumps;
 
 static void jump(int number) { jumps += number == SIGUSR1; }
@@ -59,22 +59,22 @@ static uint64_t now(void) { return moment() + (uint64_t)jumps * settings.ahead; 
  * not 401 or 400. */
 static void forget_now_and_then(bool is_idle) {
     static uint64_t due;
-    static stun_address next;
+    static stunp_address next;
     if (!settings.has_users || now() < due || now() < settings.expiry) return;
-    int64_t more = stun_server_forget_expired_within(&server, now() - settings.expiry, &next,
+    int64_t more = stunp_server_forget_expired_within(&server, now() - settings.expiry, &next,
                                                      is_idle ? AT_ONCE_IDLE : AT_ONCE);
     due = now() + (more > 0 ? PAUSE : PERIOD);
 }
 
 /* The server keeps a nonce for no address without a place, so for no more than there are places. */
-static void make_room(const stun_address *from) {
-    stun_address gone;
-    if (settings.has_users && take_place(from, &gone)) stun_server_forget(&server, &gone);
+static void make_room(const stunp_address *from) {
+    stunp_address gone;
+    if (settings.has_users && take_place(from, &gone)) stunp_server_forget(&server, &gone);
 }
 
-static bool has_nonce(const stun_address *at) {
+static bool has_nonce(const stunp_address *at) {
     uint8_t nonce[64];
-    return stun_server_nonce(&server, at, nonce, sizeof nonce) > 0;
+    return stunp_server_nonce(&server, at, nonce, sizeof nonce) > 0;
 }
 
 /* Who signed a request: an algorithm, 0 where nobody need sign, or why it is refused. From an
@@ -82,58 +82,58 @@ static bool has_nonce(const stun_address *at) {
  * repeats what was offered is a bad one for the library, which keeps no such offer. It is told that
  * its nonce is stale: a 400 the client would take for a forgery, and ask for ever. */
 static int64_t validate(const struct message *request, const uint8_t *bytes, size_t length,
-                        const stun_address *from) {
+                        const stunp_address *from) {
     uint32_t words[16];
     if (!settings.has_users) return 0;
     bool is_new = request->has_algorithms && !has_nonce(from);
     draw_words(words);
-    int64_t verdict = stun_server_validate(&server, bytes, length, from, now(), words);
-    return verdict == STUN_BAD_REQUEST && is_new && has_nonce(from) ? STUN_STALE_NONCE : verdict;
+    int64_t verdict = stunp_server_validate(&server, bytes, length, from, now(), words);
+    return verdict == STUNP_BAD_REQUEST && is_new && has_nonce(from) ? STUNP_STALE_NONCE : verdict;
 }
 
 /* The code that a judged request draws: 200 for a success, 0 where there is no answer. */
 static int code_of(int64_t verdict, const struct message *request) {
-    if (verdict == STUN_BAD_REQUEST) return 400;
-    if (verdict == STUN_UNAUTHORIZED) return 401;
-    if (verdict == STUN_STALE_NONCE) return 438;
+    if (verdict == STUNP_BAD_REQUEST) return 400;
+    if (verdict == STUNP_UNAUTHORIZED) return 401;
+    if (verdict == STUNP_STALE_NONCE) return 438;
     if (verdict < 0) return 0;
     if (request->unknown_length > 0) return 420;
-    return request->method == STUN_BINDING ? 200 : 508;
+    return request->method == STUNP_BINDING ? 200 : 508;
 }
 
-static int64_t write_answer(const struct message *request, int code, const stun_address *from,
+static int64_t write_answer(const struct message *request, int code, const stunp_address *from,
                             uint8_t *out, size_t room) {
     int64_t length = begin_answer(request, code, from, out, room);
     if (length > 0 && settings.has_users && code != 400)
-        length = stun_server_sign(&server, out, room, (size_t)length, from);
+        length = stunp_server_sign(&server, out, room, (size_t)length, from);
     if (length > 0 && request->has_fingerprint)
-        length = stun_add_fingerprint(out, room, (size_t)length);
+        length = stunp_add_fingerprint(out, room, (size_t)length);
     return length;
 }
 
-static size_t drop(const stun_address *from, const char *why) {
+static size_t drop(const stunp_address *from, const char *why) {
     if (settings.is_verbose) say("%s dropped: %s\n", text_of(from), why);
     return 0;
 }
 
 /* Who was validated at an address is what the server tells, and not the USERNAME of a message. */
-static void tell(const stun_address *from, int code, int64_t verdict) {
+static void tell(const stunp_address *from, int code, int64_t verdict) {
     char name[513];
     size_t length = 0;
-    const char *algorithm = verdict == STUN_SHA256 ? "SHA256" : "SHA1";
+    const char *algorithm = verdict == STUNP_SHA256 ? "SHA256" : "SHA1";
     if (!settings.is_verbose) return;
     if (verdict <= 0) {
         say("%s %d\n", text_of(from), code);
         return;
     }
-    stun_server_client(&server, from, (uint8_t *)name, sizeof name, &length);
+    stunp_server_client(&server, from, (uint8_t *)name, sizeof name, &length);
     say("%s %d %s %.*s\n", text_of(from), code, algorithm, (int)length, name);
 }
 
 /* Why a request is dropped before it is judged, or NULL. */
 static const char *why_dropped(const struct message *request) {
-    if (request->kind != STUN_REQUEST) return "not a request";
-    bool is_judged = request->method == STUN_BINDING || settings.takes_any_method;
+    if (request->kind != STUNP_REQUEST) return "not a request";
+    bool is_judged = request->method == STUNP_BINDING || settings.takes_any_method;
     return is_judged ? NULL : "not a Binding request";
 }
 
@@ -141,7 +141,7 @@ static const char *why_dropped(const struct message *request) {
  * request is judged, the server says who asked, the answer is signed, and the client is forgotten:
  * no request needs an earlier one, and a client that starts anew at the address of one that is kept
  * would be told no algorithms, and give up. */
-static size_t answer(const uint8_t *bytes, size_t length, const stun_address *from, uint8_t *out,
+static size_t answer(const uint8_t *bytes, size_t length, const stunp_address *from, uint8_t *out,
                      size_t room) {
     struct message request;
     const char *why = read_message(bytes, length, &request);
@@ -153,8 +153,8 @@ static size_t answer(const uint8_t *bytes, size_t length, const stun_address *fr
     if (code != 0) tell(from, code, verdict);
     int64_t written = code == 0 ? verdict : write_answer(&request, code, from, out, room);
     if (verdict > 0) keep_place(from);
-    if (verdict > 0) stun_server_remove_client(&server, from);
-    return written < 0 ? drop(from, stun_strerror(written)) : (size_t)written;
+    if (verdict > 0) stunp_server_remove_client(&server, from);
+    return written < 0 ? drop(from, stunp_strerror(written)) : (size_t)written;
 }
 
 static void serve(int socket) {
@@ -164,24 +164,24 @@ static void serve(int socket) {
         ssize_t length = receive_from(socket, bytes, sizeof bytes, &peer);
         forget_now_and_then(length < 0);
         if (length < 0) continue;
-        stun_address from = address_of(&peer);
+        stunp_address from = address_of(&peer);
         size_t answered = answer(bytes, (size_t)length, &from, out, sizeof out);
         if (answered > 0) send_to(socket, out, answered, &peer); /* who gets no answer asks again */
     }
 }
 
 static int64_t take(void *taker, const char *name, const char *password) {
-    return stun_server_add_user(taker, (const uint8_t *)name, strlen(name),
+    return stunp_server_add_user(taker, (const uint8_t *)name, strlen(name),
                                 (const uint8_t *)password, strlen(password));
 }
 
 /* The server of a realm and its users. */
 static int64_t begin(const char *realm, int count, char **words) {
-    if (!make_places(settings.addresses)) return STUN_OUT_OF_MEMORY;
-    int64_t answer = stun_server_new(&server, (const uint8_t *)realm, strlen(realm));
+    if (!make_places(settings.addresses)) return STUNP_OUT_OF_MEMORY;
+    int64_t answer = stunp_server_new(&server, (const uint8_t *)realm, strlen(realm));
     if (answer >= 0 && settings.has_sha256)
-        answer = stun_server_set_algorithms(&server, STUN_SHA1 | STUN_SHA256);
-    if (answer >= 0) answer = stun_server_set_nonce_expiry(&server, settings.expiry);
+        answer = stunp_server_set_algorithms(&server, STUNP_SHA1 | STUNP_SHA256);
+    if (answer >= 0) answer = stunp_server_set_nonce_expiry(&server, settings.expiry);
     if (answer >= 0) answer = take_words(words, count, take, &server);
     if (answer >= 0 && settings.file != NULL) answer = take_file(settings.file, take, &server);
     return answer;
@@ -202,16 +202,16 @@ int main(int count, char **words) {
                         " [--addresses N] [--workers N] [--ahead SECONDS] [--any-method] [-v]\n");
         return 2;
     }
-    heap_bound(MEMORY_BESIDE + MEMORY_FOR_ADDRESS * settings.addresses);
+    stunp_heap_bound(MEMORY_BESIDE + MEMORY_FOR_ADDRESS * settings.addresses);
     settings.has_users = count > 1;
     int64_t answer = settings.has_users ? begin(words[1], count - 2, words + 2) : 0;
     if (answer < 0) {
-        if (answer != NOT_READ) fprintf(stderr, "udp_server: %s\n", stun_strerror(answer));
+        if (answer != NOT_READ) fprintf(stderr, "udp_server: %s\n", stunp_strerror(answer));
         return 1;
     }
     end_at_signals();
     sigaction(SIGUSR1, &(struct sigaction){.sa_handler = jump}, NULL);
     int status = serve_in_processes(settings.workers, settings.port, serve);
-    stun_server_free(&server);
+    stunp_server_free(&server);
     return status;
 }

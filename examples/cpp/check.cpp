@@ -1,18 +1,18 @@
-// Shows stun.hpp: a request that is written, signed, read and verified, and a server and a client
+// Shows stunp.hpp: a request that is written, signed, read and verified, and a server and a client
 // that meet in memory. It prints what each says, which examples/check.sh compares.
-#include "stun.hpp"
+#include "stunp.hpp"
 #include <cstdio>
 
-static const std::array<uint8_t, STUN_ID_LENGTH> first_id{1}, second_id{2}, third_id{3};
-static const stun::address home{{192, 0, 2, 1}, 32853, 4};
+static const std::array<uint8_t, STUNP_ID_LENGTH> first_id{1}, second_id{2}, third_id{3};
+static const stunp::address home{{192, 0, 2, 1}, 32853, 4};
 
 // In a program these are of a source that nobody can foretell.
 static const std::array<uint32_t, 16> words{3, 1, 4, 1, 5, 9, 2, 6, 5, 3, 5, 8, 9, 7, 9, 3};
 
 static void show(const char *what, const char *said) { std::printf("%s: %s\n", what, said); }
 
-static const char *name_of(stun::algorithm algorithm) {
-    return algorithm == stun::algorithm::sha1 ? "HMAC-SHA1" : "HMAC-SHA256";
+static const char *name_of(stunp::algorithm algorithm) {
+    return algorithm == stunp::algorithm::sha1 ? "HMAC-SHA1" : "HMAC-SHA256";
 }
 
 template <class Result> const char *name_or_refusal(Result verdict) {
@@ -21,77 +21,77 @@ template <class Result> const char *name_or_refusal(Result verdict) {
 
 // ---- A check of ICE.
 
-static void read(stun::view bytes) {
-    stun::message message{bytes};
+static void read(stunp::view bytes) {
+    stunp::message message{bytes};
     auto header = message.header();
     if (!header) return show("no message", header.text());
     std::printf("method %u, %zu bytes, FINGERPRINT %s\n", header->method, header->length,
-                *message.fingerprint() == STUN_RIGHT_FINGERPRINT ? "right" : "not right");
+                *message.fingerprint() == STUNP_RIGHT_FINGERPRINT ? "right" : "not right");
     for (auto attribute : message)
         std::printf("  0x%04x of %zu bytes\n", attribute.type, attribute.value.size());
-    auto name = message.find(STUN_USERNAME);
+    auto name = message.find(STUNP_USERNAME);
     if (name) show("USERNAME", std::string(name->text()).c_str());
-    show("REALM", message.find(STUN_REALM).text());
+    show("REALM", message.find(STUNP_REALM).text());
     show("under the password", name_or_refusal(message.verify("password")));
     show("under no password", name_or_refusal(message.verify(std::string_view{})));
 }
 
 static void write_and_read() {
     const std::array<uint8_t, 4> priority{0x6e, 0, 1, 0xff};
-    stun::writer check(stun::kind::request, STUN_BINDING, first_id);
-    check.add(STUN_USERNAME, "evtj:h6vY").add(STUN_PRIORITY, priority);
-    check.add(STUN_USE_CANDIDATE, {}).sign(stun::algorithm::sha1, "password").fingerprint();
+    stunp::writer check(stunp::kind::request, STUNP_BINDING, first_id);
+    check.add(STUNP_USERNAME, "evtj:h6vY").add(STUNP_PRIORITY, priority);
+    check.add(STUNP_USE_CANDIDATE, {}).sign(stunp::algorithm::sha1, "password").fingerprint();
     auto written = check.finish();
     if (!written) return show("not written", written.text());
     read(*written);
     read({written->data(), written->size() - 1});
-    show("once more", check.add(STUN_SOFTWARE, "too late").finish().text());
+    show("once more", check.add(STUNP_SOFTWARE, "too late").finish().text());
 }
 
 // ---- A server of a realm, and a client.
 
 // What the server says of a request, and what it sends.
-static stun::writer serve(stun::server &server, stun::view request) {
-    auto header = stun::message{request}.header();
+static stunp::writer serve(stunp::server &server, stunp::view request) {
+    auto header = stunp::message{request}.header();
     auto verdict = server.validate(request, home, 0, words);
     show("server", name_or_refusal(std::move(verdict)));
     auto who = server.client(home);
     bool is_known = who && !who->empty();
     if (is_known) show("served", who->c_str());
-    auto kind = is_known ? stun::kind::success : stun::kind::error;
-    stun::writer answer(kind, STUN_BINDING, header->id);
-    if (is_known) answer.add_address(STUN_XOR_MAPPED_ADDRESS, home);
+    auto kind = is_known ? stunp::kind::success : stunp::kind::error;
+    stunp::writer answer(kind, STUNP_BINDING, header->id);
+    if (is_known) answer.add_address(STUNP_XOR_MAPPED_ADDRESS, home);
     else answer.add_error(401, "Unauthenticated");
     return answer.sign(server, home);
 }
 
 // What the client says of the answer.
-static bool hear(stun::client &client, const stun::writer &answer) {
+static bool hear(stunp::client &client, const stunp::writer &answer) {
     auto bytes = answer.finish();
     if (!bytes) return show("no answer", bytes.text()), false;
-    stun::message message{*bytes};
+    stunp::message message{*bytes};
     auto verdict = client.validate(*bytes);
     if (!verdict) return show("client", verdict.text()), false;
-    if (stun_is_resend(*verdict))
+    if (stunp_is_resend(*verdict))
         std::printf("client: asks again after %d\n", int(*message.error_code()));
-    auto seen = message.find_address(STUN_XOR_MAPPED_ADDRESS);
+    auto seen = message.find_address(STUNP_XOR_MAPPED_ADDRESS);
     if (seen)
         std::printf("client: seen at %u.%u.%u.%u, port %u\n", seen->octets[0], seen->octets[1],
                     seen->octets[2], seen->octets[3], seen->port);
     return bool(seen);
 }
 
-static bool is_served(stun::client &client, stun::server &server, stun::view id) {
-    stun::writer request(stun::kind::request, STUN_BINDING, id);
+static bool is_served(stunp::client &client, stunp::server &server, stunp::view id) {
+    stunp::writer request(stunp::kind::request, STUNP_BINDING, id);
     auto bytes = request.sign(client).finish();
     if (!bytes) return show("no request", bytes.text()), false;
     return hear(client, serve(server, *bytes));
 }
 
 static void meet(const char *password) {
-    auto both = stun::algorithm::both;
-    auto server = stun::server::make("realm", both);
-    auto client = stun::client::make("name", password, both);
+    auto both = stunp::algorithm::both;
+    auto server = stunp::server::make("realm", both);
+    auto client = stunp::client::make("name", password, both);
     if (!server || !client || !server->add_user("name", "password")) return show("no", "memory");
     if (is_served(*client, *server, first_id)) show("the first request", "served");
     if (is_served(*client, *server, second_id)) show("the second request", "served");
@@ -100,15 +100,15 @@ static void meet(const char *password) {
 // ---- Handles.
 
 static void move_handles() {
-    auto made = stun::agent::make(home);
-    stun::agent agent = std::move(*made), other;
+    auto made = stunp::agent::make(home);
+    stunp::agent agent = std::move(*made), other;
     other = std::move(agent);
-    stun::writer request(stun::kind::request, STUN_BINDING, third_id);
+    stunp::writer request(stunp::kind::request, STUNP_BINDING, third_id);
     auto bytes = request.finish();
-    show("the agent", stun::ask(stun_agent_send_request, other.get(), *bytes, &home, 0u).text());
-    show("what is left", stun::ask(stun_agent_send_request, agent.get(), *bytes, &home, 0u).text());
-    show("a server of no text", stun::server::make("\xff").text());
-    show("an empty realm", stun::server::make(std::string_view{}).text());
+    show("the agent", stunp::ask(stunp_agent_send_request, other.get(), *bytes, &home, 0u).text());
+    show("what is left", stunp::ask(stunp_agent_send_request, agent.get(), *bytes, &home, 0u).text());
+    show("a server of no text", stunp::server::make("\xff").text());
+    show("an empty realm", stunp::server::make(std::string_view{}).text());
 }
 
 int main() {

@@ -1,11 +1,11 @@
 //! Builds a signed Binding request, and says which digest of it stands, through the archive that C links too.
 use std::process::ExitCode;
 
-// As include/stun.h declares them: a slice crosses as a pointer and a length.
+// As include/stunp.h declares them: a slice crosses as a pointer and a length.
 #[link(name = "stun_c", kind = "static")]
 unsafe extern "C" {
-    fn stun_verify(message: *const u8, length: usize, key: *const u8, key_length: usize) -> i64;
-    fn stun_build_signed(
+    fn stunp_verify(message: *const u8, length: usize, key: *const u8, key_length: usize) -> i64;
+    fn stunp_build_signed(
         algorithm: u32,
         id: *const u8,
         id_length: usize,
@@ -21,7 +21,7 @@ unsafe extern "C" {
 /// The number of the algorithm whose digest stands, or of the refusal.
 fn verify(message: &[u8], key: &[u8]) -> Result<i64, i64> {
     // SAFETY: each pointer is that of a slice, with its length, borrowed for the call.
-    match unsafe { stun_verify(message.as_ptr(), message.len(), key.as_ptr(), key.len()) } {
+    match unsafe { stunp_verify(message.as_ptr(), message.len(), key.as_ptr(), key.len()) } {
         refusal if refusal < 0 => Err(refusal),
         algorithm => Ok(algorithm),
     }
@@ -31,7 +31,7 @@ fn verify(message: &[u8], key: &[u8]) -> Result<i64, i64> {
 fn build<'a>(algorithm: u32, id: &[u8; 12], name: &str, key: &[u8], buffer: &'a mut [u8]) -> Result<&'a [u8], i64> {
     // SAFETY: as above, and `buffer` is borrowed mutably, so that it overlaps none of the others.
     let answer = unsafe {
-        stun_build_signed(
+        stunp_build_signed(
             algorithm,
             id.as_ptr(),
             id.len(),

@@ -11,7 +11,7 @@ enum { STEPS = 50000, MOST = 64 };
 
 /* Whoever has a place, from the one that was silent for longest on. */
 static struct one {
-    stun_address at;
+    stunp_address at;
     bool is_client;
 } list[MOST];
 static size_t length, most;
@@ -22,17 +22,17 @@ static uint32_t random_below(uint32_t bound) {
     return (uint32_t)(state >> 33) % bound;
 }
 
-static bool is_one(const stun_address *one, const stun_address *other) {
+static bool is_one(const stunp_address *one, const stunp_address *other) {
     return memcmp(one, other, sizeof *one) == 0;
 }
 
-static bool is_near(const stun_address *one, const stun_address *other) {
+static bool is_near(const stunp_address *one, const stunp_address *other) {
     return one->length == other->length
            && memcmp(one->octets, other->octets, one->length == 4 ? 4 : 8) == 0;
 }
 
 /* How many of a network, or of all, are clients or are not. */
-static size_t count(const stun_address *near, bool is_client) {
+static size_t count(const stunp_address *near, bool is_client) {
     size_t found = 0;
     for (size_t i = 0; i < length; i++)
         found += (near == NULL || is_near(&list[i].at, near)) && list[i].is_client == is_client;
@@ -40,14 +40,14 @@ static size_t count(const stun_address *near, bool is_client) {
 }
 
 /* The one of these that was silent for longest, or `length`. */
-static size_t first(const stun_address *near, bool is_client) {
+static size_t first(const stunp_address *near, bool is_client) {
     for (size_t i = 0; i < length; i++)
         if ((near == NULL || is_near(&list[i].at, near)) && list[i].is_client == is_client)
             return i;
     return length;
 }
 
-static size_t place_of(const stun_address *at) {
+static size_t place_of(const stunp_address *at) {
     size_t i = 0;
     while (i < length && !is_one(&list[i].at, at)) i++;
     return i;
@@ -63,9 +63,9 @@ static void make_youngest(size_t i, bool is_client) {
     list[length++] = one;
 }
 
-static bool takes(const stun_address *from, stun_address *gone) {
+static bool takes(const stunp_address *from, stunp_address *gone) {
     size_t i = place_of(from), near_it = count(from, false) + count(from, true);
-    const stun_address *near = near_it >= most / SHARES ? from : NULL;
+    const stunp_address *near = near_it >= most / SHARES ? from : NULL;
     bool has_place = i < length, is_full = near != NULL || length == most;
     if (has_place) make_youngest(i, list[i].is_client);
     if (has_place) return false;
@@ -79,7 +79,7 @@ static bool takes(const stun_address *from, stun_address *gone) {
     return is_full;
 }
 
-static void keeps(const stun_address *at) {
+static void keeps(const stunp_address *at) {
     size_t i = place_of(at), share = most / SHARES;
     if (i == length || list[i].is_client) return;
     make_youngest(i, true);
@@ -87,8 +87,8 @@ static void keeps(const stun_address *at) {
     if (count(at, true) > share - share / 4) make_youngest(first(at, true), false);
 }
 
-static stun_address random_address(void) {
-    stun_address at = {{0}, (uint16_t)random_below(6), 4};
+static stunp_address random_address(void) {
+    stunp_address at = {{0}, (uint16_t)random_below(6), 4};
     if (random_below(2) == 0) {
         at.length = 16;
         at.octets[15] = (uint8_t)random_below(3);
@@ -102,7 +102,7 @@ int main(int count, char **words) {
     most = strtoul(words[1], NULL, 10), state = strtoul(words[2], NULL, 10);
     if (most < SHARES || most > MOST || !make_places(most)) return 2;
     for (int step = 0; step < STEPS; step++) {
-        stun_address from = random_address(), gone = {{0}, 0, 0}, wanted = gone;
+        stunp_address from = random_address(), gone = {{0}, 0, 0}, wanted = gone;
         bool is_gone = take_place(&from, &gone), is_to_go = takes(&from, &wanted);
         if (is_gone != is_to_go || !is_one(&gone, &wanted)) {
             printf("crowded: another place is given up at step %d\n", step);

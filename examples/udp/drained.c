@@ -6,7 +6,7 @@
 
 enum { REQUESTS = 300, NOISE = 5, MOST_BETWEEN = 32 };
 
-static uint8_t asked[STUN_HEADER_LENGTH]; /* the last request */
+static uint8_t asked[STUNP_HEADER_LENGTH]; /* the last request */
 
 /* Takes what came, and answers how many datagrams it was. */
 static int taken(int socket) {
@@ -25,7 +25,7 @@ static int ask_often(struct asker *asker) {
     struct sockaddr_in at = {.sin_family = AF_INET, .sin_addr.s_addr = htonl(INADDR_LOOPBACK)};
     socklen_t length = sizeof at;
     char port[8];
-    stun_address own;
+    stunp_address own;
     int server = socket(AF_INET, SOCK_DGRAM, 0);
     if (server < 0 || bind(server, (struct sockaddr *)&at, length) < 0) return -1;
     getsockname(server, (struct sockaddr *)&at, &length);
@@ -51,8 +51,8 @@ static void answer(int server, const struct asker *asker) {
     for (int i = 0; i < NOISE; i++)
         sendto(server, "noise", 5, 0, (struct sockaddr *)&to, sizeof to);
     size_t room = sizeof bytes;
-    int64_t at = stun_begin(STUN_SUCCESS, STUN_BINDING, asked + 8, STUN_ID_LENGTH, bytes, room);
-    at = stun_add(bytes, room, (size_t)at, STUN_XOR_MAPPED_ADDRESS, told, sizeof told);
+    int64_t at = stunp_begin(STUNP_SUCCESS, STUNP_BINDING, asked + 8, STUNP_ID_LENGTH, bytes, room);
+    at = stunp_add(bytes, room, (size_t)at, STUNP_XOR_MAPPED_ADDRESS, told, sizeof told);
     sendto(server, bytes, (size_t)at, 0, (struct sockaddr *)&to, sizeof to);
 }
 
@@ -69,8 +69,8 @@ int main(void) {
         if (end != ASKING && end != ANSWERED) return fail("another end", end);
     }
     if (turns != NOISE + 1) return fail("turns until the answer was read", turns);
-    stun_agent_free(&asker.agent);
-    stun_client_free(&asker.client);
+    stunp_agent_free(&asker.agent);
+    stunp_client_free(&asker.client);
     puts("drained: passed");
     return 0;
 }

@@ -1,7 +1,7 @@
 /* Looks for a password in the memory that was given back: a server's user is removed, and the heap
  * is searched. */
 #define _GNU_SOURCE
-#include "stun_state.h"
+#include "stunp_state.h"
 #include <stdio.h>
 #include <string.h>
 
@@ -34,16 +34,16 @@ static int copies(void) {
 }
 
 int main(void) {
-    stun_server server = {0};
+    stunp_server server = {0};
     char password[LENGTH];
     write_password(password);
-    if (stun_server_new(&server, (const uint8_t *)"realm", 5) != 0) return 1;
-    if (stun_server_add_user(&server, (const uint8_t *)"name", 4, (const uint8_t *)password, LENGTH)
+    if (stunp_server_new(&server, (const uint8_t *)"realm", 5) != 0) return 1;
+    if (stunp_server_add_user(&server, (const uint8_t *)"name", 4, (const uint8_t *)password, LENGTH)
         != 0)
         return 1;
     explicit_bzero(password, sizeof password);
     int held = copies();
-    stun_server_free(&server);
+    stunp_server_free(&server);
     printf("%d copies while in use, %d later\n", held, copies());
     return 0;
 }

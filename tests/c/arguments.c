@@ -2,7 +2,7 @@
  * order of their refusals. What they answer to messages the transcripts play (tests/play.py).
  *
  * Its samples are typed from RFC 5769 and RFC 8489, B.1, and the key is by Python's hashlib; none comes from the library. */
-#include "stun.h"
+#include "stunp.h"
 #include <stdio.h>
 #include <stdlib.h>
 #include <string.h>
@@ -12,7 +12,7 @@
 
 static void check(int64_t answer, int64_t wanted, int line) {
     if (answer == wanted) return;
-    fprintf(stderr, "arguments: line %d: %lld (%s), not %lld\n", line, (long long)answer, stun_strerror(answer), (long long)wanted);
+    fprintf(stderr, "arguments: line %d: %lld (%s), not %lld\n", line, (long long)answer, stunp_strerror(answer), (long long)wanted);
     exit(1);
 }
 
@@ -30,71 +30,71 @@ static void reads(void) {
     uint8_t address[16] = {0}, id[12] = {7};
     uint16_t port = 7, type = 7;
     size_t length = 7;
-    CHECK(stun_id(BYTES(response), id, 11), STUN_BUFFER_TOO_SMALL);
-    CHECK(stun_xor_mapped_address(BYTES(response), address, 15, &port), STUN_BUFFER_TOO_SMALL);
+    CHECK(stunp_id(BYTES(response), id, 11), STUNP_BUFFER_TOO_SMALL);
+    CHECK(stunp_xor_mapped_address(BYTES(response), address, 15, &port), STUNP_BUFFER_TOO_SMALL);
     CHECK(id[0] == 7 && address[0] == 0 && port == 7, 1);
-    CHECK(stun_xor_mapped_address(BYTES(response), address, 16, &port), 16);
+    CHECK(stunp_xor_mapped_address(BYTES(response), address, 16, &port), 16);
     CHECK(memcmp(address, peer, 16), 0);
     CHECK(port, 32853);
-    CHECK(stun_next(BYTES(response), SIZE_MAX, &type, &length), 0);
-    CHECK(stun_next(BYTES(response), sizeof response - 1, &type, &length), 0);
+    CHECK(stunp_next(BYTES(response), SIZE_MAX, &type, &length), 0);
+    CHECK(stunp_next(BYTES(response), sizeof response - 1, &type, &length), 0);
     CHECK(type == 7 && length == 7, 1);
 }
 
 /* Cursors that no walk leaves, types that no attribute has, and a header without its message. */
 static void walks(void) {
     const size_t whole = sizeof response - 1;
-    stun_cursor outside[] = {{1, 0}, {19, 0}, {whole + 1, 0}, {SIZE_MAX, 9}}, inside[] = {{whole, 0}, {20, 3}, {20, UINT32_MAX}};
-    stun_header header = {7, 7, 7, {7}};
+    stunp_cursor outside[] = {{1, 0}, {19, 0}, {whole + 1, 0}, {SIZE_MAX, 9}}, inside[] = {{whole, 0}, {20, 3}, {20, UINT32_MAX}};
+    stunp_header header = {7, 7, 7, {7}};
     uint16_t type = 7;
     size_t length = 7;
     for (size_t i = 0; i < sizeof outside / sizeof *outside; i++) {
-        stun_cursor before = outside[i];
-        CHECK(stun_walk(BYTES(response), &outside[i], &type, &length), STUN_BAD_ARGUMENT);
+        stunp_cursor before = outside[i];
+        CHECK(stunp_walk(BYTES(response), &outside[i], &type, &length), STUNP_BAD_ARGUMENT);
         CHECK(outside[i].place == before.place && outside[i].hidden == before.hidden, 1);
     }
-    for (size_t i = 0; i < sizeof inside / sizeof *inside; i++) CHECK(stun_walk(BYTES(response), &inside[i], &type, &length), 0);
-    CHECK(stun_find((const uint8_t *)response, 19, 65536, &length), STUN_BAD_ARGUMENT);
-    CHECK(stun_find((const uint8_t *)response, 19, STUN_SOFTWARE, &length), STUN_TRUNCATED);
-    CHECK(stun_find(BYTES(response), STUN_USERNAME, &length), STUN_MISSING_ATTRIBUTE);
+    for (size_t i = 0; i < sizeof inside / sizeof *inside; i++) CHECK(stunp_walk(BYTES(response), &inside[i], &type, &length), 0);
+    CHECK(stunp_find((const uint8_t *)response, 19, 65536, &length), STUNP_BAD_ARGUMENT);
+    CHECK(stunp_find((const uint8_t *)response, 19, STUNP_SOFTWARE, &length), STUNP_TRUNCATED);
+    CHECK(stunp_find(BYTES(response), STUNP_USERNAME, &length), STUNP_MISSING_ATTRIBUTE);
     CHECK(type == 7 && length == 7, 1);
-    CHECK(stun_find(BYTES(response), STUN_FINGERPRINT, &length), 84);
+    CHECK(stunp_find(BYTES(response), STUNP_FINGERPRINT, &length), 84);
     CHECK((int64_t)length, 4);
-    CHECK(stun_read_header((const uint8_t *)response, 19, &header), STUN_TRUNCATED);
+    CHECK(stunp_read_header((const uint8_t *)response, 19, &header), STUNP_TRUNCATED);
     CHECK(header.message_class == 7 && header.method == 7 && header.length == 7 && header.id[0] == 7, 1);
-    CHECK(stun_read_header((const uint8_t *)response, 20, &header), 0);
-    CHECK(header.message_class == STUN_SUCCESS && header.method == STUN_BINDING && header.length == whole, 1);
+    CHECK(stunp_read_header((const uint8_t *)response, 20, &header), 0);
+    CHECK(header.message_class == STUNP_SUCCESS && header.method == STUNP_BINDING && header.length == whole, 1);
     CHECK(memcmp(header.id, response_id, 12), 0);
 }
 
 static void writes(void) {
     uint8_t out[100], reason[764];
     memset(reason, 'a', sizeof reason);
-    CHECK(stun_begin(4, 1, response_id, 12, out, 100), STUN_BAD_ARGUMENT);
-    CHECK(stun_begin(0, 4096, response_id, 12, out, 100), STUN_BAD_ARGUMENT);
-    CHECK(stun_begin(0, 1, response_id, 11, out, 100), STUN_BAD_ARGUMENT);
-    CHECK(stun_begin(0, 1, response_id, 11, out, 19), STUN_BAD_ARGUMENT);
-    CHECK(stun_begin(0, 1, response_id, 12, out, 19), STUN_BUFFER_TOO_SMALL);
-    CHECK(stun_begin(STUN_INDICATION, 1, response_id, 12, out, 20), 20);
-    CHECK(stun_add(out, 100, 101, STUN_SOFTWARE, BYTES("a")), STUN_BAD_ARGUMENT);
-    CHECK(stun_add(out, 100, 19, 65536, BYTES("a")), STUN_BAD_ARGUMENT);
-    CHECK(stun_add(out, 100, 19, STUN_SOFTWARE, BYTES("a")), STUN_TRUNCATED);
-    CHECK(stun_add(out, 100, 24, STUN_SOFTWARE, BYTES("a")), STUN_TOO_LARGE);
-    CHECK(stun_add(out, 27, 20, STUN_SOFTWARE, BYTES("a")), STUN_BUFFER_TOO_SMALL);
-    CHECK(stun_add(out, 28, 20, STUN_SOFTWARE, BYTES("a")), 28);
-    CHECK(stun_add_xor_mapped_address(out, 100, 28, response_id, 5, 1), STUN_BAD_ARGUMENT);
-    CHECK(stun_add_xor_mapped_address(out, 100, 28, response_id, 4, 65536), STUN_BAD_ARGUMENT);
-    CHECK(stun_add_error(out, 100, 28, 700, reason, 764), STUN_BAD_ARGUMENT);
-    CHECK(stun_add_error(out, 100, 28, 300, reason, 764), STUN_TEXT_TOO_LONG);
+    CHECK(stunp_begin(4, 1, response_id, 12, out, 100), STUNP_BAD_ARGUMENT);
+    CHECK(stunp_begin(0, 4096, response_id, 12, out, 100), STUNP_BAD_ARGUMENT);
+    CHECK(stunp_begin(0, 1, response_id, 11, out, 100), STUNP_BAD_ARGUMENT);
+    CHECK(stunp_begin(0, 1, response_id, 11, out, 19), STUNP_BAD_ARGUMENT);
+    CHECK(stunp_begin(0, 1, response_id, 12, out, 19), STUNP_BUFFER_TOO_SMALL);
+    CHECK(stunp_begin(STUNP_INDICATION, 1, response_id, 12, out, 20), 20);
+    CHECK(stunp_add(out, 100, 101, STUNP_SOFTWARE, BYTES("a")), STUNP_BAD_ARGUMENT);
+    CHECK(stunp_add(out, 100, 19, 65536, BYTES("a")), STUNP_BAD_ARGUMENT);
+    CHECK(stunp_add(out, 100, 19, STUNP_SOFTWARE, BYTES("a")), STUNP_TRUNCATED);
+    CHECK(stunp_add(out, 100, 24, STUNP_SOFTWARE, BYTES("a")), STUNP_TOO_LARGE);
+    CHECK(stunp_add(out, 27, 20, STUNP_SOFTWARE, BYTES("a")), STUNP_BUFFER_TOO_SMALL);
+    CHECK(stunp_add(out, 28, 20, STUNP_SOFTWARE, BYTES("a")), 28);
+    CHECK(stunp_add_xor_mapped_address(out, 100, 28, response_id, 5, 1), STUNP_BAD_ARGUMENT);
+    CHECK(stunp_add_xor_mapped_address(out, 100, 28, response_id, 4, 65536), STUNP_BAD_ARGUMENT);
+    CHECK(stunp_add_error(out, 100, 28, 700, reason, 764), STUNP_BAD_ARGUMENT);
+    CHECK(stunp_add_error(out, 100, 28, 300, reason, 764), STUNP_TEXT_TOO_LONG);
     reason[0] = 0xff;
-    CHECK(stun_add_error(out, 100, 28, 299, reason, 764), STUN_BAD_ARGUMENT);
-    CHECK(stun_add_error(out, 100, 28, 300, reason, 764), STUN_NOT_TEXT);
-    CHECK(stun_sign(out, 100, 28, 3, response_id, 12), STUN_BAD_ARGUMENT);
-    CHECK(stun_sign(out, 51, 28, STUN_SHA1, response_id, 12), STUN_BUFFER_TOO_SMALL);
-    CHECK(stun_sign(out, 64, 28, STUN_SHA256, response_id, 12), 64);
-    CHECK(stun_verify(out, 64, response_id, 12), STUN_SHA256);
-    CHECK(stun_add(out, 64, 64, STUN_FINGERPRINT, BYTES("a")), STUN_CLOSED);
-    CHECK(stun_add(out, 64, 64, 65536, BYTES("a")), STUN_BAD_ARGUMENT);
+    CHECK(stunp_add_error(out, 100, 28, 299, reason, 764), STUNP_BAD_ARGUMENT);
+    CHECK(stunp_add_error(out, 100, 28, 300, reason, 764), STUNP_NOT_TEXT);
+    CHECK(stunp_sign(out, 100, 28, 3, response_id, 12), STUNP_BAD_ARGUMENT);
+    CHECK(stunp_sign(out, 51, 28, STUNP_SHA1, response_id, 12), STUNP_BUFFER_TOO_SMALL);
+    CHECK(stunp_sign(out, 64, 28, STUNP_SHA256, response_id, 12), 64);
+    CHECK(stunp_verify(out, 64, response_id, 12), STUNP_SHA256);
+    CHECK(stunp_add(out, 64, 64, STUNP_FINGERPRINT, BYTES("a")), STUNP_CLOSED);
+    CHECK(stunp_add(out, 64, 64, 65536, BYTES("a")), STUNP_BAD_ARGUMENT);
 }
 
 /* The user of RFC 8489, B.1: a refusal leaves the key that was written. */
@@ -103,55 +103,55 @@ static void writes_keys(void) {
                               "\x23\x04\xd9\x89\xc9\xd0\xaf\x3a\x8c\x7e\x18\x4b\x4f\x9b\xb4\xa1";
     uint8_t out[33];
     out[32] = 0xa5;
-    CHECK(stun_long_term_key(STUN_SHA256, BYTES(user_name), BYTES("example.org"), BYTES("TheMatrIX"), out, sizeof out),
-          STUN_SHA256_KEY_LENGTH);
-    CHECK(stun_long_term_key(3, BYTES("\xff"), BYTES(""), BYTES(""), out, 0), STUN_BAD_ARGUMENT);
-    CHECK(stun_long_term_key(STUN_SHA256, BYTES(user_name), BYTES(""), BYTES("\xff"), out, 0), STUN_NOT_TEXT);
-    CHECK(stun_long_term_key(STUN_SHA256, BYTES(user_name), BYTES(""), BYTES("TheMatrIX"), out, 31), STUN_BUFFER_TOO_SMALL);
-    CHECK(stun_long_term_key(STUN_SHA1, BYTES(user_name), BYTES(""), BYTES("TheMatrIX"), out, 15), STUN_BUFFER_TOO_SMALL);
-    CHECK(stun_userhash(BYTES(user_name), BYTES("example.org"), out, 31), STUN_BUFFER_TOO_SMALL);
-    CHECK(stun_userhash(BYTES(user_name), BYTES("\xff"), out, 0), STUN_NOT_TEXT);
-    CHECK(stun_userhash(BYTES("\xff"), BYTES("example.org"), out, 32), STUN_NOT_TEXT);
+    CHECK(stunp_long_term_key(STUNP_SHA256, BYTES(user_name), BYTES("example.org"), BYTES("TheMatrIX"), out, sizeof out),
+          STUNP_SHA256_KEY_LENGTH);
+    CHECK(stunp_long_term_key(3, BYTES("\xff"), BYTES(""), BYTES(""), out, 0), STUNP_BAD_ARGUMENT);
+    CHECK(stunp_long_term_key(STUNP_SHA256, BYTES(user_name), BYTES(""), BYTES("\xff"), out, 0), STUNP_NOT_TEXT);
+    CHECK(stunp_long_term_key(STUNP_SHA256, BYTES(user_name), BYTES(""), BYTES("TheMatrIX"), out, 31), STUNP_BUFFER_TOO_SMALL);
+    CHECK(stunp_long_term_key(STUNP_SHA1, BYTES(user_name), BYTES(""), BYTES("TheMatrIX"), out, 15), STUNP_BUFFER_TOO_SMALL);
+    CHECK(stunp_userhash(BYTES(user_name), BYTES("example.org"), out, 31), STUNP_BUFFER_TOO_SMALL);
+    CHECK(stunp_userhash(BYTES(user_name), BYTES("\xff"), out, 0), STUNP_NOT_TEXT);
+    CHECK(stunp_userhash(BYTES("\xff"), BYTES("example.org"), out, 32), STUNP_NOT_TEXT);
     CHECK(memcmp(out, key, 32), 0);
     CHECK(out[32], 0xa5);
 }
 
 /* The call that writes a whole request: its longest one, and each refusal before those that come after it. */
 static void builds(void) {
-    static uint8_t name[514], out[STUN_LONGEST_SIGNED];
+    static uint8_t name[514], out[STUNP_LONGEST_SIGNED];
     const uint8_t *id = response_id;
     memset(name, 'a', sizeof name);
-    CHECK(stun_build_signed(STUN_SHA256, id, 12, name, 513, BYTES("key"), out, sizeof out), STUN_LONGEST_SIGNED);
-    CHECK(stun_verify(out, sizeof out, BYTES("key")), STUN_SHA256);
-    CHECK(stun_build_signed(STUN_SHA256, id, 12, name, 513, BYTES("key"), out, sizeof out - 1), STUN_BUFFER_TOO_SMALL);
-    CHECK(stun_build_signed(STUN_SHA256, id, 12, name, 514, BYTES("key"), out, 0), STUN_TEXT_TOO_LONG);
+    CHECK(stunp_build_signed(STUNP_SHA256, id, 12, name, 513, BYTES("key"), out, sizeof out), STUNP_LONGEST_SIGNED);
+    CHECK(stunp_verify(out, sizeof out, BYTES("key")), STUNP_SHA256);
+    CHECK(stunp_build_signed(STUNP_SHA256, id, 12, name, 513, BYTES("key"), out, sizeof out - 1), STUNP_BUFFER_TOO_SMALL);
+    CHECK(stunp_build_signed(STUNP_SHA256, id, 12, name, 514, BYTES("key"), out, 0), STUNP_TEXT_TOO_LONG);
     name[513] = 0xff;
-    CHECK(stun_build_signed(STUN_SHA256, id, 12, name, 514, BYTES("key"), out, 0), STUN_NOT_TEXT);
-    CHECK(stun_build_signed(STUN_SHA256, id, 11, name, 514, BYTES("key"), out, 0), STUN_BAD_ARGUMENT);
-    CHECK(stun_build_signed(0, id, 12, name, 514, BYTES("key"), out, 0), STUN_BAD_ARGUMENT);
-    CHECK(stun_build_signed(3, id, 12, name, 514, BYTES("key"), out, 0), STUN_BAD_ARGUMENT);
-    CHECK(stun_verify(out, sizeof out, BYTES("key")), STUN_SHA256);
-    CHECK(stun_build_signed(STUN_SHA1, id, 12, name, 0, name, 0, out, 48), 48);
-    CHECK(stun_verify(out, 48, name, 0), STUN_SHA1);
+    CHECK(stunp_build_signed(STUNP_SHA256, id, 12, name, 514, BYTES("key"), out, 0), STUNP_NOT_TEXT);
+    CHECK(stunp_build_signed(STUNP_SHA256, id, 11, name, 514, BYTES("key"), out, 0), STUNP_BAD_ARGUMENT);
+    CHECK(stunp_build_signed(0, id, 12, name, 514, BYTES("key"), out, 0), STUNP_BAD_ARGUMENT);
+    CHECK(stunp_build_signed(3, id, 12, name, 514, BYTES("key"), out, 0), STUNP_BAD_ARGUMENT);
+    CHECK(stunp_verify(out, sizeof out, BYTES("key")), STUNP_SHA256);
+    CHECK(stunp_build_signed(STUNP_SHA1, id, 12, name, 0, name, 0, out, 48), 48);
+    CHECK(stunp_verify(out, 48, name, 0), STUNP_SHA1);
 }
 
 /* Each refusal has a text of its own, and no other number has one of these. */
 static void tells(void) {
-    for (int64_t i = STUN_NO_WAIT; i < 0; i++) {
-        CHECK(strcmp(stun_strerror(i), "no error") == 0 || strcmp(stun_strerror(i), "unknown refusal") == 0, 0);
-        for (int64_t j = STUN_NO_WAIT; j < i; j++) CHECK(strcmp(stun_strerror(i), stun_strerror(j)) == 0, 0);
+    for (int64_t i = STUNP_NO_WAIT; i < 0; i++) {
+        CHECK(strcmp(stunp_strerror(i), "no error") == 0 || strcmp(stunp_strerror(i), "unknown refusal") == 0, 0);
+        for (int64_t j = STUNP_NO_WAIT; j < i; j++) CHECK(strcmp(stunp_strerror(i), stunp_strerror(j)) == 0, 0);
     }
-    CHECK(strcmp(stun_strerror(STUN_TRUNCATED), "bytes are missing at the end"), 0);
-    CHECK(strcmp(stun_strerror(STUN_UNSUPPORTED_FEATURE), "a required feature is not supported"), 0);
-    CHECK(strcmp(stun_strerror(STUN_NO_WAIT), "a request would be sent again without a wait"), 0);
-    CHECK(strcmp(stun_strerror(STUN_NO_WAIT - 1), "unknown refusal"), 0);
-    CHECK(strcmp(stun_strerror(INT64_MIN), "unknown refusal"), 0);
-    CHECK(strcmp(stun_strerror(0), "no error"), 0);
-    CHECK(strcmp(stun_strerror(INT64_MAX), "no error"), 0);
+    CHECK(strcmp(stunp_strerror(STUNP_TRUNCATED), "bytes are missing at the end"), 0);
+    CHECK(strcmp(stunp_strerror(STUNP_UNSUPPORTED_FEATURE), "a required feature is not supported"), 0);
+    CHECK(strcmp(stunp_strerror(STUNP_NO_WAIT), "a request would be sent again without a wait"), 0);
+    CHECK(strcmp(stunp_strerror(STUNP_NO_WAIT - 1), "unknown refusal"), 0);
+    CHECK(strcmp(stunp_strerror(INT64_MIN), "unknown refusal"), 0);
+    CHECK(strcmp(stunp_strerror(0), "no error"), 0);
+    CHECK(strcmp(stunp_strerror(INT64_MAX), "no error"), 0);
 }
 
 int main(void) {
-    CHECK(stun_version(), STUN_VERSION);
+    CHECK(stunp_version(), STUNP_VERSION);
     reads();
     walks();
     writes();

@@ -2,7 +2,7 @@
  * RFC 5769, to each of their bits changed, to messages with many types, and to streams in any pieces.
  *
  * The samples are typed from RFC 5769; what is wanted is counted, spelled or summed here, and does not come from the library. */
-#include "stun.h"
+#include "stunp.h"
 #include <stdbool.h>
 #include <stdio.h>
 #include <stdlib.h>
@@ -14,7 +14,7 @@
 
 static void check(int64_t answer, int64_t wanted, int line) {
     if (answer == wanted) return;
-    fprintf(stderr, "extra: line %d: %lld (%s), not %lld\n", line, (long long)answer, stun_strerror(answer), (long long)wanted);
+    fprintf(stderr, "extra: line %d: %lld (%s), not %lld\n", line, (long long)answer, stunp_strerror(answer), (long long)wanted);
     exit(1);
 }
 
@@ -49,11 +49,11 @@ static uint8_t large[70000], out[70000], before[70000];
 
 static void checks_samples(void) {
     for (size_t i = 0; i < 3; i++) {
-        CHECK(stun_check_fingerprint(samples[i].bytes, samples[i].length), STUN_RIGHT_FINGERPRINT);
+        CHECK(stunp_check_fingerprint(samples[i].bytes, samples[i].length), STUNP_RIGHT_FINGERPRINT);
         for (size_t front = 0; front < samples[i].length; front++)
-            CHECK(stun_check_fingerprint(samples[i].bytes, front), STUN_TRUNCATED);
+            CHECK(stunp_check_fingerprint(samples[i].bytes, front), STUNP_TRUNCATED);
     }
-    CHECK(stun_check_fingerprint(BYTES(long_term)), STUN_NO_FINGERPRINT);
+    CHECK(stunp_check_fingerprint(BYTES(long_term)), STUNP_NO_FINGERPRINT);
 }
 
 /* One bit changed, wherever it is: the message is refused, or has no right FINGERPRINT. */
@@ -64,12 +64,12 @@ static void notices_each_bit(void) {
             const size_t length = samples[i].length;
             memcpy(out, samples[i].bytes, length);
             out[bit / 8] ^= (uint8_t)(1 << bit % 8);
-            int64_t parsed = stun_parse(out, length), answer = stun_check_fingerprint(out, length);
+            int64_t parsed = stunp_parse(out, length), answer = stunp_check_fingerprint(out, length);
             if (parsed < 0) CHECK(answer, parsed);
-            CHECK(answer == STUN_RIGHT_FINGERPRINT, 0);
+            CHECK(answer == STUNP_RIGHT_FINGERPRINT, 0);
             /* Its own value, or the id that it covers. */
-            if (bit / 8 >= length - 4 || (bit / 8 >= 8 && bit / 8 < 20)) CHECK(answer, STUN_WRONG_FINGERPRINT);
-            wrong += answer == STUN_WRONG_FINGERPRINT;
+            if (bit / 8 >= length - 4 || (bit / 8 >= 8 && bit / 8 < 20)) CHECK(answer, STUNP_WRONG_FINGERPRINT);
+            wrong += answer == STUNP_WRONG_FINGERPRINT;
         }
     CHECK(wrong > 1500, 1);
 }
@@ -77,20 +77,20 @@ static void notices_each_bit(void) {
 /* What it does not end, and what has another length, is misplaced; what follows the first is not looked at. */
 static void tells_misplaced(void) {
     static const struct { const char *bytes; size_t length; int64_t wanted; } attributes[] = {
-        {"\x80\x28\x00\x04\0\0\0\0", 8, STUN_WRONG_FINGERPRINT},
-        {"\x80\x28\x00\x04\0\0\0\0\x80\x22\x00\x00", 12, STUN_MISPLACED_FINGERPRINT},
-        {"\x80\x28\x00\x04\0\0\0\0\x80\x28\x00\x04\0\0\0\0", 16, STUN_MISPLACED_FINGERPRINT},
-        {"\x80\x28\x00\x00", 4, STUN_MISPLACED_FINGERPRINT},
-        {"\x80\x28\x00\x03\0\0\0\0", 8, STUN_MISPLACED_FINGERPRINT},
-        {"\x80\x28\x00\x08\0\0\0\0\0\0\0\0", 12, STUN_MISPLACED_FINGERPRINT},
-        {"\x80\x22\x00\x04\0\0\0\0", 8, STUN_NO_FINGERPRINT},
-        {"", 0, STUN_NO_FINGERPRINT},
+        {"\x80\x28\x00\x04\0\0\0\0", 8, STUNP_WRONG_FINGERPRINT},
+        {"\x80\x28\x00\x04\0\0\0\0\x80\x22\x00\x00", 12, STUNP_MISPLACED_FINGERPRINT},
+        {"\x80\x28\x00\x04\0\0\0\0\x80\x28\x00\x04\0\0\0\0", 16, STUNP_MISPLACED_FINGERPRINT},
+        {"\x80\x28\x00\x00", 4, STUNP_MISPLACED_FINGERPRINT},
+        {"\x80\x28\x00\x03\0\0\0\0", 8, STUNP_MISPLACED_FINGERPRINT},
+        {"\x80\x28\x00\x08\0\0\0\0\0\0\0\0", 12, STUNP_MISPLACED_FINGERPRINT},
+        {"\x80\x22\x00\x04\0\0\0\0", 8, STUNP_NO_FINGERPRINT},
+        {"", 0, STUNP_NO_FINGERPRINT},
     };
     for (size_t i = 0; i < COUNT(attributes); i++) {
-        CHECK(stun_begin(STUN_REQUEST, STUN_BINDING, id, 12, out, sizeof out), 20);
+        CHECK(stunp_begin(STUNP_REQUEST, STUNP_BINDING, id, 12, out, sizeof out), 20);
         memcpy(out + 20, attributes[i].bytes, attributes[i].length);
         out[3] = (uint8_t)attributes[i].length;
-        CHECK(stun_check_fingerprint(out, 20 + attributes[i].length), attributes[i].wanted);
+        CHECK(stunp_check_fingerprint(out, 20 + attributes[i].length), attributes[i].wanted);
     }
 }
 
@@ -101,43 +101,43 @@ static void adds_to_samples(void) {
         memcpy(out, samples[i].bytes, length);
         memset(out + length - 8, 0xa5, 16);
         out[3] = (uint8_t)(out[3] - 8);
-        CHECK(stun_check_fingerprint(out, length - 8), STUN_NO_FINGERPRINT);
+        CHECK(stunp_check_fingerprint(out, length - 8), STUNP_NO_FINGERPRINT);
         memcpy(before, out, length + 8);
-        CHECK(stun_add_fingerprint(out, length - 1, length - 8), STUN_BUFFER_TOO_SMALL);
+        CHECK(stunp_add_fingerprint(out, length - 1, length - 8), STUNP_BUFFER_TOO_SMALL);
         CHECK(memcmp(out, before, length + 8), 0);
-        CHECK(stun_add_fingerprint(out, length, length - 8), (int64_t)length);
+        CHECK(stunp_add_fingerprint(out, length, length - 8), (int64_t)length);
         CHECK(memcmp(out, samples[i].bytes, length), 0);
         CHECK(out[length], 0xa5);
-        CHECK(stun_verify(out, length, BYTES(password)), STUN_SHA1);
-        CHECK(stun_add_fingerprint(out, sizeof out, length), STUN_ATTRIBUTE_EXISTS);
-        CHECK(stun_add(out, sizeof out, length, STUN_SOFTWARE, BYTES("")), STUN_CLOSED);
+        CHECK(stunp_verify(out, length, BYTES(password)), STUNP_SHA1);
+        CHECK(stunp_add_fingerprint(out, sizeof out, length), STUNP_ATTRIBUTE_EXISTS);
+        CHECK(stunp_add(out, sizeof out, length, STUNP_SOFTWARE, BYTES("")), STUNP_CLOSED);
     }
 }
 
 /* Each refusal before those that come after it, and the longest message. */
 static void refuses_fingerprints(void) {
-    CHECK(stun_begin(STUN_INDICATION, STUN_BINDING, id, 12, out, 28), 20);
-    CHECK(stun_add_fingerprint(out, 19, 20), STUN_BAD_ARGUMENT);
-    CHECK(stun_add_fingerprint(out, 20, SIZE_MAX), STUN_BAD_ARGUMENT);
-    CHECK(stun_add_fingerprint(out, 20, 19), STUN_TRUNCATED);
-    CHECK(stun_add_fingerprint(out, 28, 24), STUN_TOO_LARGE);
-    CHECK(stun_add_fingerprint(out, 27, 20), STUN_BUFFER_TOO_SMALL);
-    CHECK(stun_add_fingerprint(out, 28, 20), 28);
-    CHECK(stun_check_fingerprint(out, 28), STUN_RIGHT_FINGERPRINT);
-    CHECK(stun_add_fingerprint(out, 28, 28), STUN_ATTRIBUTE_EXISTS);
+    CHECK(stunp_begin(STUNP_INDICATION, STUNP_BINDING, id, 12, out, 28), 20);
+    CHECK(stunp_add_fingerprint(out, 19, 20), STUNP_BAD_ARGUMENT);
+    CHECK(stunp_add_fingerprint(out, 20, SIZE_MAX), STUNP_BAD_ARGUMENT);
+    CHECK(stunp_add_fingerprint(out, 20, 19), STUNP_TRUNCATED);
+    CHECK(stunp_add_fingerprint(out, 28, 24), STUNP_TOO_LARGE);
+    CHECK(stunp_add_fingerprint(out, 27, 20), STUNP_BUFFER_TOO_SMALL);
+    CHECK(stunp_add_fingerprint(out, 28, 20), 28);
+    CHECK(stunp_check_fingerprint(out, 28), STUNP_RIGHT_FINGERPRINT);
+    CHECK(stunp_add_fingerprint(out, 28, 28), STUNP_ATTRIBUTE_EXISTS);
     for (size_t rest = 0; rest <= 8; rest += 4) {
-        CHECK(stun_begin(STUN_REQUEST, STUN_BINDING, id, 12, out, sizeof out), 20);
-        CHECK(stun_add(out, sizeof out, 20, STUN_DATA, large, 65528 - rest), (int64_t)(65552 - rest));
-        CHECK(stun_add_fingerprint(out, sizeof out, 65552 - rest), rest < 8 ? STUN_MESSAGE_TOO_LONG : 65552);
+        CHECK(stunp_begin(STUNP_REQUEST, STUNP_BINDING, id, 12, out, sizeof out), 20);
+        CHECK(stunp_add(out, sizeof out, 20, STUNP_DATA, large, 65528 - rest), (int64_t)(65552 - rest));
+        CHECK(stunp_add_fingerprint(out, sizeof out, 65552 - rest), rest < 8 ? STUNP_MESSAGE_TOO_LONG : 65552);
     }
-    CHECK(stun_check_fingerprint(out, 65552), STUN_RIGHT_FINGERPRINT);
+    CHECK(stunp_check_fingerprint(out, 65552), STUNP_RIGHT_FINGERPRINT);
 }
 
 /* ---- Types that are not known. */
 
 /* A request with an attribute of each of these types, and its length. */
 static size_t request_of(const uint16_t *types, size_t count, uint8_t *message) {
-    CHECK(stun_begin(STUN_REQUEST, STUN_BINDING, id, 12, message, 20), 20);
+    CHECK(stunp_begin(STUNP_REQUEST, STUNP_BINDING, id, 12, message, 20), 20);
     for (size_t i = 0; i < count; i++) {
         const uint8_t header[4] = {(uint8_t)(types[i] >> 8), (uint8_t)types[i], 0, 0};
         memcpy(message + 20 + 4 * i, header, 4);
@@ -152,35 +152,35 @@ static void tells_types(void) {
     static const uint16_t known[] = {0x0006, 0x0001, 0x8022}, wanted[] = {0x7fff, 0x0024, 0x0000};
     uint16_t told[4] = {7, 7, 7, 7};
     size_t length = request_of(types, COUNT(types), large);
-    CHECK(stun_unknown_types(large, length, known, COUNT(known), told, 4), 3);
+    CHECK(stunp_unknown_types(large, length, known, COUNT(known), told, 4), 3);
     CHECK(memcmp(told, wanted, sizeof wanted) == 0 && told[3] == 7, 1);
-    CHECK(stun_unknown_types(large, length, known, 0, told, 4), 5);
+    CHECK(stunp_unknown_types(large, length, known, 0, told, 4), 5);
     CHECK(told[0] == 0x7fff && told[1] == 0x0006 && told[2] == 0x0024 && told[3] == 0x0001, 1);
     /* More than have room. */
     memset(told, 0, sizeof told);
-    CHECK(stun_unknown_types(large, length, known, COUNT(known), told, 2), 3);
+    CHECK(stunp_unknown_types(large, length, known, COUNT(known), told, 2), 3);
     CHECK(told[0] == 0x7fff && told[1] == 0x0024 && told[2] == 0, 1);
-    CHECK(stun_unknown_types(large, length, known, COUNT(known), told, 0), 3);
-    CHECK(stun_unknown_types(large, length, types, COUNT(types), told, 0), 0);
+    CHECK(stunp_unknown_types(large, length, known, COUNT(known), told, 0), 3);
+    CHECK(stunp_unknown_types(large, length, types, COUNT(types), told, 0), 0);
     /* What follows an integrity attribute is not visible; PRIORITY is, and USERNAME and MESSAGE-INTEGRITY. */
-    CHECK(stun_unknown_types(BYTES(request), known, 0, told, 4), 3);
-    CHECK(told[0] == STUN_PRIORITY && told[1] == STUN_USERNAME && told[2] == STUN_MESSAGE_INTEGRITY, 1);
+    CHECK(stunp_unknown_types(BYTES(request), known, 0, told, 4), 3);
+    CHECK(told[0] == STUNP_PRIORITY && told[1] == STUNP_USERNAME && told[2] == STUNP_MESSAGE_INTEGRITY, 1);
 }
 
 static void refuses_types(void) {
     static uint16_t known[257], told[1];
     size_t length = request_of(known, 1, large);
-    CHECK(stun_unknown_types(large, length, known, 256, told, 1), 0);
-    CHECK(stun_unknown_types(large, length, known, 257, told, 1), STUN_BAD_ARGUMENT);
-    CHECK(stun_unknown_types(large, length - 1, known, 257, told, 1), STUN_BAD_ARGUMENT);
-    CHECK(stun_unknown_types(large, length - 1, known, 256, told, 1), STUN_TRUNCATED);
-    CHECK(stun_refuse_unknown(large, length - 1, known, 257, out, 0), STUN_BAD_ARGUMENT);
-    CHECK(stun_refuse_unknown(large, length - 1, known, 256, out, 0), STUN_TRUNCATED);
-    CHECK(stun_refuse_unknown(large, length, known, 256, out, 0), 0);
-    CHECK(stun_refuse_unknown(large, length, known, 0, out, 0), STUN_BUFFER_TOO_SMALL);
-    for (uint32_t kind = STUN_INDICATION; kind <= STUN_ERROR; kind++) {
-        CHECK(stun_begin(kind, STUN_BINDING, id, 12, out, 20), 20);
-        CHECK(stun_refuse_unknown(out, 20, known, 0, large, 0), STUN_BAD_ARGUMENT);
+    CHECK(stunp_unknown_types(large, length, known, 256, told, 1), 0);
+    CHECK(stunp_unknown_types(large, length, known, 257, told, 1), STUNP_BAD_ARGUMENT);
+    CHECK(stunp_unknown_types(large, length - 1, known, 257, told, 1), STUNP_BAD_ARGUMENT);
+    CHECK(stunp_unknown_types(large, length - 1, known, 256, told, 1), STUNP_TRUNCATED);
+    CHECK(stunp_refuse_unknown(large, length - 1, known, 257, out, 0), STUNP_BAD_ARGUMENT);
+    CHECK(stunp_refuse_unknown(large, length - 1, known, 256, out, 0), STUNP_TRUNCATED);
+    CHECK(stunp_refuse_unknown(large, length, known, 256, out, 0), 0);
+    CHECK(stunp_refuse_unknown(large, length, known, 0, out, 0), STUNP_BUFFER_TOO_SMALL);
+    for (uint32_t kind = STUNP_INDICATION; kind <= STUNP_ERROR; kind++) {
+        CHECK(stunp_begin(kind, STUNP_BINDING, id, 12, out, 20), 20);
+        CHECK(stunp_refuse_unknown(out, 20, known, 0, large, 0), STUNP_BAD_ARGUMENT);
     }
 }
 
@@ -188,25 +188,25 @@ static void refuses_types(void) {
 static void writes_answer(const uint8_t *message, size_t length, const uint16_t *known, size_t known_length,
                           const uint8_t *types, size_t types_length) {
     static uint8_t wanted[40000];
-    const uint32_t method = (uint32_t)stun_method(message, length);
-    int64_t end = stun_begin(STUN_ERROR, method, message + 8, 12, wanted, sizeof wanted);
-    end = stun_add_error(wanted, sizeof wanted, (size_t)end, 420, BYTES("Unknown Attribute"));
-    end = stun_add(wanted, sizeof wanted, (size_t)end, STUN_UNKNOWN_ATTRIBUTES, types, types_length);
+    const uint32_t method = (uint32_t)stunp_method(message, length);
+    int64_t end = stunp_begin(STUNP_ERROR, method, message + 8, 12, wanted, sizeof wanted);
+    end = stunp_add_error(wanted, sizeof wanted, (size_t)end, 420, BYTES("Unknown Attribute"));
+    end = stunp_add(wanted, sizeof wanted, (size_t)end, STUNP_UNKNOWN_ATTRIBUTES, types, types_length);
     CHECK(end >= 56, 1);
     const size_t written = (size_t)end;
     memset(out, 0xa5, written + 4);
     memcpy(before, out, written + 4);
-    CHECK(stun_refuse_unknown(message, length, known, known_length, out, written - 1), STUN_BUFFER_TOO_SMALL);
+    CHECK(stunp_refuse_unknown(message, length, known, known_length, out, written - 1), STUNP_BUFFER_TOO_SMALL);
     CHECK(memcmp(out, before, written + 4), 0);
-    CHECK(stun_refuse_unknown(message, length, known, known_length, out, written), end);
+    CHECK(stunp_refuse_unknown(message, length, known, known_length, out, written), end);
     CHECK(memcmp(out, wanted, written), 0);
     CHECK(memcmp(out + written, before, 4), 0);
-    CHECK(stun_parse(out, written), 0);
-    CHECK(stun_error_code(out, written), 420);
+    CHECK(stunp_parse(out, written), 0);
+    CHECK(stunp_error_code(out, written), 420);
 }
 
 static void answers_420(void) {
-    static const uint16_t known[] = {STUN_USERNAME, STUN_MESSAGE_INTEGRITY}, types[] = {0x7fff, 0x0006, 0x0024, 0x0006, 0x0000};
+    static const uint16_t known[] = {STUNP_USERNAME, STUNP_MESSAGE_INTEGRITY}, types[] = {0x7fff, 0x0006, 0x0024, 0x0006, 0x0000};
     static uint16_t all[16383];
     static uint8_t spelled[2 * 16383];
     writes_answer(BYTES(request), known, COUNT(known), BYTES("\x00\x24"));
@@ -222,7 +222,7 @@ static void answers_420(void) {
     writes_answer(large, request_of(all, COUNT(all), large), known, 0, BYTES("\x00\x01\x00\x03\x00\x05\x00\x08"));
     all[3] = 0x0007;
     writes_answer(large, request_of(all, COUNT(all), large), known, 0, spelled, sizeof spelled);
-    CHECK(stun_sign(out, sizeof out, 48 + 4 + 2 * 16383 + 2, STUN_SHA1, BYTES(password)), 48 + 4 + 2 * 16383 + 2 + 24);
+    CHECK(stunp_sign(out, sizeof out, 48 + 4 + 2 * 16383 + 2, STUNP_SHA1, BYTES(password)), 48 + 4 + 2 * 16383 + 2 + 24);
 }
 
 /* ---- Streams */
@@ -264,10 +264,10 @@ static void cuts_streams(void) {
     memcpy(turn + 12 + length, empty, 4);
     turn_length = length + 16;
     for (size_t piece = 1; piece <= turn_length; piece++) {
-        cuts(stun_next_frame, stream, length, piece, lengths, 4);
-        cuts(stun_next_turn_frame, stream, length, piece, lengths, 4);
-        cuts(stun_next_turn_frame, turn, turn_length, piece, turn_lengths, 6);
-        cuts(stun_next_packet_frame, packets, packets_length, piece, packet_lengths, 5);
+        cuts(stunp_next_frame, stream, length, piece, lengths, 4);
+        cuts(stunp_next_turn_frame, stream, length, piece, lengths, 4);
+        cuts(stunp_next_turn_frame, turn, turn_length, piece, turn_lengths, 6);
+        cuts(stunp_next_packet_frame, packets, packets_length, piece, packet_lengths, 5);
     }
 }
 
@@ -275,36 +275,36 @@ static void frames(void) {
     const uint8_t *bytes = (const uint8_t *)request;
     for (size_t there = 0; there <= 300; there++) {
         memcpy(out, samples[there % 3].bytes, 20);
-        CHECK(stun_next_frame(out, there), there < 20 ? 20 : (int64_t)samples[there % 3].length);
-        CHECK(stun_next_packet_frame(BYTES("\0\0")), 2);
+        CHECK(stunp_next_frame(out, there), there < 20 ? 20 : (int64_t)samples[there % 3].length);
+        CHECK(stunp_next_packet_frame(BYTES("\0\0")), 2);
     }
     memcpy(out, bytes, 20);
     out[2] = 0xff, out[3] = 0xfc;
-    CHECK(stun_next_frame(out, 20), STUN_LONGEST_MESSAGE);
+    CHECK(stunp_next_frame(out, 20), STUNP_LONGEST_MESSAGE);
     out[3] = 0xfd;
-    CHECK(stun_next_frame(out, 20), STUN_NOT_STUN);
-    CHECK(stun_next_frame(out, 19), 20);
-    CHECK(stun_next_turn_frame(out, 19), 20);
-    CHECK(stun_next_turn_frame(out, 20), STUN_NOT_STUN);
-    CHECK(stun_next_turn_frame(out, 3), 4);
+    CHECK(stunp_next_frame(out, 20), STUNP_NOT_STUN);
+    CHECK(stunp_next_frame(out, 19), 20);
+    CHECK(stunp_next_turn_frame(out, 19), 20);
+    CHECK(stunp_next_turn_frame(out, 20), STUNP_NOT_STUN);
+    CHECK(stunp_next_turn_frame(out, 3), 4);
     out[0] = 0x4f;
-    CHECK(stun_next_turn_frame(out, 4), 4 + 65536);
-    CHECK(stun_next_frame(out, 70000), STUN_NOT_STUN);
-    CHECK(stun_next_packet_frame(out, 1), 2);
-    CHECK(stun_next_packet_frame(BYTES("\xff\xff")), 2 + 65535);
+    CHECK(stunp_next_turn_frame(out, 4), 4 + 65536);
+    CHECK(stunp_next_frame(out, 70000), STUNP_NOT_STUN);
+    CHECK(stunp_next_packet_frame(out, 1), 2);
+    CHECK(stunp_next_packet_frame(BYTES("\xff\xff")), 2 + 65535);
 }
 
 static void tells_packets(void) {
     for (unsigned first = 0; first < 256; first++) {
         memcpy(out, request, 20);
         out[0] = (uint8_t)first;
-        CHECK(stun_is_stun(out, 20), first <= 3);
+        CHECK(stunp_is_stun(out, 20), first <= 3);
     }
     memcpy(out, request, 20);
-    for (size_t length = 0; length < 20; length++) CHECK(stun_is_stun(out, length), 0);
+    for (size_t length = 0; length < 20; length++) CHECK(stunp_is_stun(out, length), 0);
     out[5] ^= 1;
-    CHECK(stun_is_stun(out, 20), 0);
-    CHECK(stun_is_stun(BYTES("\x80\0\0\0\0\0\0\0\0\0\0\0\0\0\0\0\0\0\0\0")), 0);
+    CHECK(stunp_is_stun(out, 20), 0);
+    CHECK(stunp_is_stun(BYTES("\x80\0\0\0\0\0\0\0\0\0\0\0\0\0\0\0\0\0\0\0")), 0);
 }
 
 /* ---- Addresses. */
@@ -317,55 +317,55 @@ static void hides_addresses(void) {
     uint8_t message[128], octets[17] = {0};
     uint16_t port = 7, type = 0;
     size_t length = 0;
-    CHECK(stun_begin(STUN_REQUEST, STUN_CREATE_PERMISSION, id, 12, message, sizeof message), 20);
-    CHECK(stun_add_xor_address(message, 43, 20, STUN_XOR_PEER_ADDRESS, peer_6, 16, 32853), STUN_BUFFER_TOO_SMALL);
-    CHECK(stun_add_xor_address(message, 44, 20, STUN_XOR_PEER_ADDRESS, peer_6, 16, 32853), 44);
+    CHECK(stunp_begin(STUNP_REQUEST, STUNP_CREATE_PERMISSION, id, 12, message, sizeof message), 20);
+    CHECK(stunp_add_xor_address(message, 43, 20, STUNP_XOR_PEER_ADDRESS, peer_6, 16, 32853), STUNP_BUFFER_TOO_SMALL);
+    CHECK(stunp_add_xor_address(message, 44, 20, STUNP_XOR_PEER_ADDRESS, peer_6, 16, 32853), 44);
     CHECK(memcmp(message + 20, "\x00\x12\x00\x14", 4), 0);
     CHECK(memcmp(message + 24, response_6 + 40, 20), 0);
-    CHECK(stun_add_xor_address(message, 128, 44, STUN_XOR_RELAYED_ADDRESS, peer_4, 4, 32853), 56);
+    CHECK(stunp_add_xor_address(message, 128, 44, STUNP_XOR_RELAYED_ADDRESS, peer_4, 4, 32853), 56);
     CHECK(memcmp(message + 44, "\x00\x16\x00\x08", 4), 0);
     CHECK(memcmp(message + 48, response + 40, 8), 0);
     /* A second of a type is not added by the library, but may be read. */
-    CHECK(stun_add_xor_address(message, 128, 56, STUN_XOR_PEER_ADDRESS, peer_4, 4, 32853), STUN_ATTRIBUTE_EXISTS);
-    CHECK(stun_add_xor_address(message, 128, 56, STUN_XOR_MAPPED_ADDRESS, peer_4, 4, 32853), 68);
-    message[57] = STUN_XOR_PEER_ADDRESS;
+    CHECK(stunp_add_xor_address(message, 128, 56, STUNP_XOR_PEER_ADDRESS, peer_4, 4, 32853), STUNP_ATTRIBUTE_EXISTS);
+    CHECK(stunp_add_xor_address(message, 128, 56, STUNP_XOR_MAPPED_ADDRESS, peer_4, 4, 32853), 68);
+    message[57] = STUNP_XOR_PEER_ADDRESS;
 
-    stun_cursor cursor = {0, 0};
-    CHECK(stun_walk(message, 68, &cursor, &type, &length), 20);
-    CHECK(stun_read_xor_address(message, 68, 20, octets, 15, &port), STUN_BUFFER_TOO_SMALL);
+    stunp_cursor cursor = {0, 0};
+    CHECK(stunp_walk(message, 68, &cursor, &type, &length), 20);
+    CHECK(stunp_read_xor_address(message, 68, 20, octets, 15, &port), STUNP_BUFFER_TOO_SMALL);
     CHECK(port == 7 && octets[0] == 0, 1);
-    CHECK(stun_read_xor_address(message, 68, 20, octets, 17, &port), 16);
+    CHECK(stunp_read_xor_address(message, 68, 20, octets, 17, &port), 16);
     CHECK(port == 32853 && memcmp(octets, peer_6, 16) == 0 && octets[16] == 0, 1);
-    CHECK(stun_walk(message, 68, &cursor, &type, &length), 44);
-    CHECK(stun_walk(message, 68, &cursor, &type, &length), 56);
-    CHECK(type, STUN_XOR_PEER_ADDRESS);
+    CHECK(stunp_walk(message, 68, &cursor, &type, &length), 44);
+    CHECK(stunp_walk(message, 68, &cursor, &type, &length), 56);
+    CHECK(type, STUNP_XOR_PEER_ADDRESS);
     memset(octets, 7, sizeof octets);
-    CHECK(stun_read_xor_address(message, 68, 56, octets, 4, &port), 4);
+    CHECK(stunp_read_xor_address(message, 68, 56, octets, 4, &port), 4);
     CHECK(memcmp(octets, peer_4, 4) == 0 && octets[4] == 7, 1);
-    CHECK(stun_find(message, 68, STUN_XOR_RELAYED_ADDRESS, &length), 44);
-    CHECK(stun_read_xor_address(message, 68, 44, octets, 4, &port), 4);
+    CHECK(stunp_find(message, 68, STUNP_XOR_RELAYED_ADDRESS, &length), 44);
+    CHECK(stunp_read_xor_address(message, 68, 44, octets, 4, &port), 4);
 }
 
 static void refuses_addresses(void) {
     uint8_t message[64], octets[16];
     uint16_t port = 7;
-    CHECK(stun_begin(STUN_REQUEST, STUN_ALLOCATE, id, 12, message, sizeof message), 20);
-    CHECK(stun_add_xor_address(message, 64, 65, 65536, peer_4, 4, 1), STUN_BAD_ARGUMENT);
-    CHECK(stun_add_xor_address(message, 64, 20, STUN_XOR_PEER_ADDRESS, peer_4, 3, 1), STUN_BAD_ARGUMENT);
-    CHECK(stun_add_xor_address(message, 64, 20, STUN_XOR_PEER_ADDRESS, peer_4, 4, 65536), STUN_BAD_ARGUMENT);
-    CHECK(stun_add_xor_address(message, 64, 19, STUN_XOR_PEER_ADDRESS, peer_4, 4, 1), STUN_TRUNCATED);
-    CHECK(stun_add_xor_address(message, 64, 20, STUN_MESSAGE_INTEGRITY, peer_4, 4, 1), STUN_NOT_ALLOWED);
-    CHECK(stun_add_xor_address(message, 64, 20, STUN_FINGERPRINT, peer_4, 4, 1), STUN_NOT_ALLOWED);
-    CHECK(stun_add_xor_address(message, 64, 20, STUN_XOR_PEER_ADDRESS, peer_4, 4, 1), 32);
-    CHECK(stun_add_fingerprint(message, 64, 32), 40);
-    CHECK(stun_add_xor_address(message, 64, 40, STUN_XOR_RELAYED_ADDRESS, peer_4, 4, 1), STUN_CLOSED);
-    for (size_t place = 0; place < 20; place++) CHECK(stun_read_xor_address(message, 40, place, octets, 16, &port), STUN_BAD_ARGUMENT);
-    for (size_t length = 0; length < 32; length++) CHECK(stun_read_xor_address(message, length, 20, octets, 16, &port), STUN_BAD_ARGUMENT);
-    CHECK(stun_read_xor_address(message, 40, 41, octets, 16, &port), STUN_BAD_ARGUMENT);
-    CHECK(stun_read_xor_address(message, 40, SIZE_MAX, octets, 16, &port), STUN_BAD_ARGUMENT);
-    CHECK(stun_read_xor_address(message, 40, 32, octets, 16, &port), STUN_MALFORMED_ATTRIBUTE);
+    CHECK(stunp_begin(STUNP_REQUEST, STUNP_ALLOCATE, id, 12, message, sizeof message), 20);
+    CHECK(stunp_add_xor_address(message, 64, 65, 65536, peer_4, 4, 1), STUNP_BAD_ARGUMENT);
+    CHECK(stunp_add_xor_address(message, 64, 20, STUNP_XOR_PEER_ADDRESS, peer_4, 3, 1), STUNP_BAD_ARGUMENT);
+    CHECK(stunp_add_xor_address(message, 64, 20, STUNP_XOR_PEER_ADDRESS, peer_4, 4, 65536), STUNP_BAD_ARGUMENT);
+    CHECK(stunp_add_xor_address(message, 64, 19, STUNP_XOR_PEER_ADDRESS, peer_4, 4, 1), STUNP_TRUNCATED);
+    CHECK(stunp_add_xor_address(message, 64, 20, STUNP_MESSAGE_INTEGRITY, peer_4, 4, 1), STUNP_NOT_ALLOWED);
+    CHECK(stunp_add_xor_address(message, 64, 20, STUNP_FINGERPRINT, peer_4, 4, 1), STUNP_NOT_ALLOWED);
+    CHECK(stunp_add_xor_address(message, 64, 20, STUNP_XOR_PEER_ADDRESS, peer_4, 4, 1), 32);
+    CHECK(stunp_add_fingerprint(message, 64, 32), 40);
+    CHECK(stunp_add_xor_address(message, 64, 40, STUNP_XOR_RELAYED_ADDRESS, peer_4, 4, 1), STUNP_CLOSED);
+    for (size_t place = 0; place < 20; place++) CHECK(stunp_read_xor_address(message, 40, place, octets, 16, &port), STUNP_BAD_ARGUMENT);
+    for (size_t length = 0; length < 32; length++) CHECK(stunp_read_xor_address(message, length, 20, octets, 16, &port), STUNP_BAD_ARGUMENT);
+    CHECK(stunp_read_xor_address(message, 40, 41, octets, 16, &port), STUNP_BAD_ARGUMENT);
+    CHECK(stunp_read_xor_address(message, 40, SIZE_MAX, octets, 16, &port), STUNP_BAD_ARGUMENT);
+    CHECK(stunp_read_xor_address(message, 40, 32, octets, 16, &port), STUNP_MALFORMED_ATTRIBUTE);
     message[25] = 2; /* the other family */
-    CHECK(stun_read_xor_address(message, 40, 20, octets, 0, &port), STUN_MALFORMED_ATTRIBUTE);
+    CHECK(stunp_read_xor_address(message, 40, 20, octets, 0, &port), STUNP_MALFORMED_ATTRIBUTE);
     CHECK(port, 7);
 }
 
@@ -373,33 +373,33 @@ static void refuses_addresses(void) {
 static void shows_addresses(void) {
     uint8_t message[128], octets[17] = {0};
     uint16_t port = 7;
-    CHECK(stun_begin(STUN_SUCCESS, STUN_BINDING, id, 12, message, sizeof message), 20);
-    CHECK(stun_add_address(message, 31, 20, STUN_MAPPED_ADDRESS, peer_4, 4, 32853), STUN_BUFFER_TOO_SMALL);
-    CHECK(stun_add_address(message, 32, 20, STUN_MAPPED_ADDRESS, peer_4, 4, 32853), 32);
+    CHECK(stunp_begin(STUNP_SUCCESS, STUNP_BINDING, id, 12, message, sizeof message), 20);
+    CHECK(stunp_add_address(message, 31, 20, STUNP_MAPPED_ADDRESS, peer_4, 4, 32853), STUNP_BUFFER_TOO_SMALL);
+    CHECK(stunp_add_address(message, 32, 20, STUNP_MAPPED_ADDRESS, peer_4, 4, 32853), 32);
     CHECK(memcmp(message + 20, "\x00\x01\x00\x08\x00\x01\x80\x55\xc0\x00\x02\x01", 12), 0);
-    CHECK(stun_add_address(message, 128, 32, STUN_ALTERNATE_SERVER, peer_6, 16, 32853), 56);
+    CHECK(stunp_add_address(message, 128, 32, STUNP_ALTERNATE_SERVER, peer_6, 16, 32853), 56);
     CHECK(memcmp(message + 32, "\x80\x23\x00\x14\x00\x02\x80\x55", 8), 0);
     CHECK(memcmp(message + 40, peer_6, 16), 0);
-    CHECK(stun_parse(message, 56), 0);
-    CHECK(stun_read_address(message, 56, 20, octets, 3, &port), STUN_BUFFER_TOO_SMALL);
+    CHECK(stunp_parse(message, 56), 0);
+    CHECK(stunp_read_address(message, 56, 20, octets, 3, &port), STUNP_BUFFER_TOO_SMALL);
     CHECK(port == 7 && octets[0] == 0, 1);
-    CHECK(stun_read_address(message, 56, 20, octets, 4, &port), 4);
+    CHECK(stunp_read_address(message, 56, 20, octets, 4, &port), 4);
     CHECK(port == 32853 && memcmp(octets, peer_4, 4) == 0 && octets[4] == 0, 1);
     port = 7;
-    CHECK(stun_read_address(message, 56, 32, octets, 17, &port), 16);
+    CHECK(stunp_read_address(message, 56, 32, octets, 17, &port), 16);
     CHECK(port == 32853 && memcmp(octets, peer_6, 16) == 0 && octets[16] == 0, 1);
 
-    CHECK(stun_add_address(message, 128, 129, 65536, peer_4, 4, 1), STUN_BAD_ARGUMENT);
-    CHECK(stun_add_address(message, 128, 55, STUN_MAPPED_ADDRESS, peer_4, 4, 65536), STUN_BAD_ARGUMENT);
-    CHECK(stun_add_address(message, 128, 55, STUN_MAPPED_ADDRESS, peer_6, 15, 1), STUN_BAD_ARGUMENT);
-    CHECK(stun_add_address(message, 128, 55, STUN_MAPPED_ADDRESS, peer_6, 16, 1), STUN_TRUNCATED);
-    CHECK(stun_add_address(message, 128, 56, STUN_FINGERPRINT, peer_6, 16, 1), STUN_NOT_ALLOWED);
-    CHECK(stun_add_address(message, 128, 56, STUN_MAPPED_ADDRESS, peer_6, 16, 1), STUN_ATTRIBUTE_EXISTS);
-    for (size_t place = 0; place < 20; place++) CHECK(stun_read_address(message, 56, place, octets, 16, &port), STUN_BAD_ARGUMENT);
-    CHECK(stun_read_address(message, 56, 57, octets, 16, &port), STUN_BAD_ARGUMENT);
-    CHECK(stun_read_address(message, 55, 32, octets, 16, &port), STUN_BAD_ARGUMENT);
+    CHECK(stunp_add_address(message, 128, 129, 65536, peer_4, 4, 1), STUNP_BAD_ARGUMENT);
+    CHECK(stunp_add_address(message, 128, 55, STUNP_MAPPED_ADDRESS, peer_4, 4, 65536), STUNP_BAD_ARGUMENT);
+    CHECK(stunp_add_address(message, 128, 55, STUNP_MAPPED_ADDRESS, peer_6, 15, 1), STUNP_BAD_ARGUMENT);
+    CHECK(stunp_add_address(message, 128, 55, STUNP_MAPPED_ADDRESS, peer_6, 16, 1), STUNP_TRUNCATED);
+    CHECK(stunp_add_address(message, 128, 56, STUNP_FINGERPRINT, peer_6, 16, 1), STUNP_NOT_ALLOWED);
+    CHECK(stunp_add_address(message, 128, 56, STUNP_MAPPED_ADDRESS, peer_6, 16, 1), STUNP_ATTRIBUTE_EXISTS);
+    for (size_t place = 0; place < 20; place++) CHECK(stunp_read_address(message, 56, place, octets, 16, &port), STUNP_BAD_ARGUMENT);
+    CHECK(stunp_read_address(message, 56, 57, octets, 16, &port), STUNP_BAD_ARGUMENT);
+    CHECK(stunp_read_address(message, 55, 32, octets, 16, &port), STUNP_BAD_ARGUMENT);
     message[25] = 2; /* the other family */
-    CHECK(stun_read_address(message, 56, 20, octets, 0, &port), STUN_MALFORMED_ATTRIBUTE);
+    CHECK(stunp_read_address(message, 56, 20, octets, 0, &port), STUNP_MALFORMED_ATTRIBUTE);
     CHECK(port, 32853);
 }
 
@@ -410,24 +410,24 @@ static void reads_samples(void) {
     const uint8_t *bytes = (const uint8_t *)request;
     size_t length = 0;
     uint64_t number = 7;
-    int64_t priority = stun_find(BYTES(request), STUN_PRIORITY, &length);
-    CHECK(stun_read_number(BYTES(request), (size_t)priority, &number), 4);
+    int64_t priority = stunp_find(BYTES(request), STUNP_PRIORITY, &length);
+    CHECK(stunp_read_number(BYTES(request), (size_t)priority, &number), 4);
     CHECK(number == 0x6e0001ff, 1);
-    int64_t controlled = stun_find(BYTES(request), STUN_ICE_CONTROLLED, &length);
-    CHECK(stun_read_number(BYTES(request), (size_t)controlled, &number), 8);
+    int64_t controlled = stunp_find(BYTES(request), STUNP_ICE_CONTROLLED, &length);
+    CHECK(stunp_read_number(BYTES(request), (size_t)controlled, &number), 8);
     CHECK(number == 0x932ff9b151263b36, 1);
-    CHECK(stun_begin(STUN_REQUEST, STUN_BINDING, id, 12, out, 40), 20);
-    CHECK(stun_add_number(out, 40, 20, STUN_PRIORITY, 0x6e0001ff, 4), 28);
-    CHECK(stun_add_number(out, 40, 28, STUN_ICE_CONTROLLED, 0x932ff9b151263b36, 8), 40);
+    CHECK(stunp_begin(STUNP_REQUEST, STUNP_BINDING, id, 12, out, 40), 20);
+    CHECK(stunp_add_number(out, 40, 20, STUNP_PRIORITY, 0x6e0001ff, 4), 28);
+    CHECK(stunp_add_number(out, 40, 28, STUNP_ICE_CONTROLLED, 0x932ff9b151263b36, 8), 40);
     CHECK(memcmp(out + 20, bytes + priority, 8), 0);
     CHECK(memcmp(out + 28, bytes + controlled, 12), 0);
-    CHECK(stun_parse(out, 40), 0);
+    CHECK(stunp_parse(out, 40), 0);
     number = 7;
-    for (size_t place = 0; place < 20; place++) CHECK(stun_read_number(out, 40, place, &number), STUN_BAD_ARGUMENT);
-    for (size_t there = 0; there < 28; there++) CHECK(stun_read_number(out, there, 20, &number), STUN_BAD_ARGUMENT);
-    CHECK(stun_read_number(out, 40, 40, &number), STUN_BAD_ARGUMENT);
-    CHECK(stun_read_number(out, 40, SIZE_MAX, &number), STUN_BAD_ARGUMENT);
-    CHECK(stun_read_number(BYTES(request), 20, &number), STUN_MALFORMED_ATTRIBUTE); /* SOFTWARE */
+    for (size_t place = 0; place < 20; place++) CHECK(stunp_read_number(out, 40, place, &number), STUNP_BAD_ARGUMENT);
+    for (size_t there = 0; there < 28; there++) CHECK(stunp_read_number(out, there, 20, &number), STUNP_BAD_ARGUMENT);
+    CHECK(stunp_read_number(out, 40, 40, &number), STUNP_BAD_ARGUMENT);
+    CHECK(stunp_read_number(out, 40, SIZE_MAX, &number), STUNP_BAD_ARGUMENT);
+    CHECK(stunp_read_number(BYTES(request), 20, &number), STUNP_MALFORMED_ATTRIBUTE); /* SOFTWARE */
     CHECK(number == 7, 1);
 }
 
@@ -438,42 +438,42 @@ static void sizes(void) {
         const uint64_t greatest = size < 8 ? ((uint64_t)1 << 8 * size) - 1 : UINT64_MAX;
         uint64_t number = 7;
         memset(out, 0xa5, 64);
-        CHECK(stun_begin(STUN_REQUEST, STUN_BINDING, id, 12, out, 20), 20);
+        CHECK(stunp_begin(STUNP_REQUEST, STUNP_BINDING, id, 12, out, 20), 20);
         memcpy(before, out, 64);
         if (!is_size || size < 8)
-            CHECK(stun_add_number(out, 64, 20, STUN_PRIORITY, is_size ? greatest + 1 : 0, size), STUN_BAD_ARGUMENT);
+            CHECK(stunp_add_number(out, 64, 20, STUNP_PRIORITY, is_size ? greatest + 1 : 0, size), STUNP_BAD_ARGUMENT);
         CHECK(memcmp(out, before, 64), 0);
         if (is_size) {
             const int64_t end = size == 8 ? 32 : 28;
-            CHECK(stun_add_number(out, (size_t)end, 20, STUN_PRIORITY, greatest, size), end);
-            CHECK(stun_read_number(out, (size_t)end, 20, &number), (int64_t)size);
+            CHECK(stunp_add_number(out, (size_t)end, 20, STUNP_PRIORITY, greatest, size), end);
+            CHECK(stunp_read_number(out, (size_t)end, 20, &number), (int64_t)size);
             CHECK(number == greatest && out[24 + size] == (size < 4 ? 0 : 0xa5), 1);
-            CHECK(stun_begin(STUN_REQUEST, STUN_BINDING, id, 12, out, 20), 20);
-            CHECK(stun_add_number(out, 64, 20, STUN_PRIORITY, 0, size), end);
-            CHECK(stun_read_number(out, (size_t)end, 20, &number), (int64_t)size);
+            CHECK(stunp_begin(STUNP_REQUEST, STUNP_BINDING, id, 12, out, 20), 20);
+            CHECK(stunp_add_number(out, 64, 20, STUNP_PRIORITY, 0, size), end);
+            CHECK(stunp_read_number(out, (size_t)end, 20, &number), (int64_t)size);
             CHECK(number == 0, 1);
         } else {
-            CHECK(stun_add(out, 64, 20, STUN_PRIORITY, large, size), (int64_t)(24 + (size + 3) / 4 * 4));
-            CHECK(stun_read_number(out, 24 + (size + 3) / 4 * 4, 20, &number), STUN_MALFORMED_ATTRIBUTE);
+            CHECK(stunp_add(out, 64, 20, STUNP_PRIORITY, large, size), (int64_t)(24 + (size + 3) / 4 * 4));
+            CHECK(stunp_read_number(out, 24 + (size + 3) / 4 * 4, 20, &number), STUNP_MALFORMED_ATTRIBUTE);
             CHECK(number == 7, 1);
         }
     }
-    CHECK(stun_add_number(out, 64, 20, STUN_PRIORITY, 1, SIZE_MAX), STUN_BAD_ARGUMENT);
+    CHECK(stunp_add_number(out, 64, 20, STUNP_PRIORITY, 1, SIZE_MAX), STUNP_BAD_ARGUMENT);
 }
 
-/* Each refusal of stun_add, after those of the number. */
+/* Each refusal of stunp_add, after those of the number. */
 static void refuses_numbers(void) {
-    CHECK(stun_begin(STUN_REQUEST, STUN_BINDING, id, 12, out, 20), 20);
-    CHECK(stun_add_number(out, 64, 65, STUN_PRIORITY, (uint64_t)1 << 32, 4), STUN_BAD_ARGUMENT);
-    CHECK(stun_add_number(out, 64, 20, 65536, 1, 4), STUN_BAD_ARGUMENT);
-    CHECK(stun_add_number(out, 64, 19, STUN_PRIORITY, 1, 3), STUN_BAD_ARGUMENT);
-    CHECK(stun_add_number(out, 64, 19, STUN_PRIORITY, 1, 4), STUN_TRUNCATED);
-    CHECK(stun_add_number(out, 64, 20, STUN_MESSAGE_INTEGRITY, 1, 4), STUN_NOT_ALLOWED);
-    CHECK(stun_add_number(out, 27, 20, STUN_PRIORITY, 1, 4), STUN_BUFFER_TOO_SMALL);
-    CHECK(stun_add_number(out, 28, 20, STUN_PRIORITY, 1, 4), 28);
-    CHECK(stun_add_number(out, 64, 28, STUN_PRIORITY, 1, 4), STUN_ATTRIBUTE_EXISTS);
-    CHECK(stun_add_fingerprint(out, 64, 28), 36);
-    CHECK(stun_add_number(out, 64, 36, STUN_LIFETIME, 1, 4), STUN_CLOSED);
+    CHECK(stunp_begin(STUNP_REQUEST, STUNP_BINDING, id, 12, out, 20), 20);
+    CHECK(stunp_add_number(out, 64, 65, STUNP_PRIORITY, (uint64_t)1 << 32, 4), STUNP_BAD_ARGUMENT);
+    CHECK(stunp_add_number(out, 64, 20, 65536, 1, 4), STUNP_BAD_ARGUMENT);
+    CHECK(stunp_add_number(out, 64, 19, STUNP_PRIORITY, 1, 3), STUNP_BAD_ARGUMENT);
+    CHECK(stunp_add_number(out, 64, 19, STUNP_PRIORITY, 1, 4), STUNP_TRUNCATED);
+    CHECK(stunp_add_number(out, 64, 20, STUNP_MESSAGE_INTEGRITY, 1, 4), STUNP_NOT_ALLOWED);
+    CHECK(stunp_add_number(out, 27, 20, STUNP_PRIORITY, 1, 4), STUNP_BUFFER_TOO_SMALL);
+    CHECK(stunp_add_number(out, 28, 20, STUNP_PRIORITY, 1, 4), 28);
+    CHECK(stunp_add_number(out, 64, 28, STUNP_PRIORITY, 1, 4), STUNP_ATTRIBUTE_EXISTS);
+    CHECK(stunp_add_fingerprint(out, 64, 28), 36);
+    CHECK(stunp_add_number(out, 64, 36, STUNP_LIFETIME, 1, 4), STUNP_CLOSED);
 }
 
 int main(void) {

@@ -3,221 +3,221 @@
  * messages, and with each allocation refused, the transcripts play (tests/play.py). */
 #include "fixture.h"
 
-enum { CUT = 19, ID = STUN_ID_LENGTH, ID_AT = 8 };
+enum { CUT = 19, ID = STUNP_ID_LENGTH, ID_AT = 8 };
 
-static const stun_address nowhere = {{1, 2, 3, 4}, 5, 6}; /* of no length that an address has */
-static const stun_address none = {{0}, 0, 0};
+static const stunp_address nowhere = {{1, 2, 3, 4}, 5, 6}; /* of no length that an address has */
+static const stunp_address none = {{0}, 0, 0};
 
 /* The refusals of a message in their order: cut, no STUN, and with bytes after its end. */
 #define REFUSES_MESSAGES(what, call)                                                                             \
     do {                                                                                                         \
-        struct message sound = message_of(STUN_REQUEST, 77);                                                     \
+        struct message sound = message_of(STUNP_REQUEST, 77);                                                     \
         const uint8_t *bytes = sound.bytes;                                                                      \
         size_t length = CUT;                                                                                     \
-        want(what " of a cut message", call, STUN_TRUNCATED);                                                    \
+        want(what " of a cut message", call, STUNP_TRUNCATED);                                                    \
         length = sound.length + 4;                                                                               \
-        want(what " of a message that goes on", call, STUN_TOO_LARGE);                                           \
+        want(what " of a message that goes on", call, STUNP_TOO_LARGE);                                           \
         length = sound.length;                                                                                   \
         sound.bytes[4] ^= 1;                                                                                     \
-        want(what " of another cookie", call, STUN_NOT_STUN);                                                    \
+        want(what " of another cookie", call, STUNP_NOT_STUN);                                                    \
         (void)bytes;                                                                                             \
     } while (0)
 
 /* ---- The agent */
 
 static void empty_agents(void) {
-    stun_agent agent = {0};
-    stun_address peer = nowhere;
-    stun_statistics counts = {.requests_sent = 7};
-    stun_timeouts timeouts = {1, 1, 1, 1};
+    stunp_agent agent = {0};
+    stunp_address peer = nowhere;
+    stunp_statistics counts = {.requests_sent = 7};
+    stunp_timeouts timeouts = {1, 1, 1, 1};
     uint64_t until = 9;
     uint8_t id[ID] = {9};
-    want("send_request", stun_agent_send_request(&agent, id, 1, &nowhere, 0), STUN_EMPTY_HANDLE);
-    want("send", stun_agent_send(&agent, id, 1, &nowhere), STUN_EMPTY_HANDLE);
-    want("poll", stun_agent_poll(&agent, 0, &until, id, 1), STUN_EMPTY_HANDLE);
-    want("poll_transmit", stun_agent_poll_transmit(&agent, 0, id, 1, &peer), STUN_EMPTY_HANDLE);
-    want("handle", stun_agent_handle(&agent, id, 1, &nowhere, 0), STUN_EMPTY_HANDLE);
-    want("validated_peer", stun_agent_validated_peer(&agent, &nowhere), STUN_EMPTY_HANDLE);
-    want("is_validated_peer", stun_agent_is_validated_peer(&agent, &nowhere), STUN_EMPTY_HANDLE);
-    want("is_outstanding", stun_agent_is_outstanding(&agent, id, 1, &peer), STUN_EMPTY_HANDLE);
-    want("cancel", stun_agent_cancel(&agent, id, 1), STUN_EMPTY_HANDLE);
-    want("cancel_retransmissions", stun_agent_cancel_retransmissions(&agent, id, 1), STUN_EMPTY_HANDLE);
-    want("configure", stun_agent_configure(&agent, id, 1, &timeouts), STUN_EMPTY_HANDLE);
-    want("statistics", stun_agent_statistics(&agent, &counts), STUN_EMPTY_HANDLE);
-    stun_agent_free(&agent);
-    stun_agent_free(&agent);
+    want("send_request", stunp_agent_send_request(&agent, id, 1, &nowhere, 0), STUNP_EMPTY_HANDLE);
+    want("send", stunp_agent_send(&agent, id, 1, &nowhere), STUNP_EMPTY_HANDLE);
+    want("poll", stunp_agent_poll(&agent, 0, &until, id, 1), STUNP_EMPTY_HANDLE);
+    want("poll_transmit", stunp_agent_poll_transmit(&agent, 0, id, 1, &peer), STUNP_EMPTY_HANDLE);
+    want("handle", stunp_agent_handle(&agent, id, 1, &nowhere, 0), STUNP_EMPTY_HANDLE);
+    want("validated_peer", stunp_agent_validated_peer(&agent, &nowhere), STUNP_EMPTY_HANDLE);
+    want("is_validated_peer", stunp_agent_is_validated_peer(&agent, &nowhere), STUNP_EMPTY_HANDLE);
+    want("is_outstanding", stunp_agent_is_outstanding(&agent, id, 1, &peer), STUNP_EMPTY_HANDLE);
+    want("cancel", stunp_agent_cancel(&agent, id, 1), STUNP_EMPTY_HANDLE);
+    want("cancel_retransmissions", stunp_agent_cancel_retransmissions(&agent, id, 1), STUNP_EMPTY_HANDLE);
+    want("configure", stunp_agent_configure(&agent, id, 1, &timeouts), STUNP_EMPTY_HANDLE);
+    want("statistics", stunp_agent_statistics(&agent, &counts), STUNP_EMPTY_HANDLE);
+    stunp_agent_free(&agent);
+    stunp_agent_free(&agent);
     want("outputs", until == 9 && id[0] == 9 && counts.requests_sent == 7, 1);
     want_same("an address", &peer, &nowhere, sizeof peer);
     want_no_blocks("empty agents");
 }
 
 static void make_agents(void) {
-    stun_agent agent = {0};
-    stun_address local = address_of(1), remote = address_of(2);
-    stun_timeouts timeouts = {SECOND, 2 * SECOND, 10 * SECOND, 4};
-    want("another transport", stun_agent_new(&agent, 2, &local), STUN_BAD_ARGUMENT);
-    want("another length", stun_agent_new(&agent, STUN_UDP, &nowhere), STUN_BAD_ARGUMENT);
-    want("no local address", stun_agent_new(&agent, STUN_UDP, &none), STUN_BAD_ARGUMENT);
-    want("new_with, no transport", stun_agent_new_with(&agent, 2, &local, &remote, &timeouts), STUN_BAD_ARGUMENT);
-    want("new_with, local", stun_agent_new_with(&agent, STUN_TCP, &nowhere, &remote, &timeouts), STUN_BAD_ARGUMENT);
-    want("new_with, remote", stun_agent_new_with(&agent, STUN_TCP, &local, &nowhere, &timeouts), STUN_BAD_ARGUMENT);
+    stunp_agent agent = {0};
+    stunp_address local = address_of(1), remote = address_of(2);
+    stunp_timeouts timeouts = {SECOND, 2 * SECOND, 10 * SECOND, 4};
+    want("another transport", stunp_agent_new(&agent, 2, &local), STUNP_BAD_ARGUMENT);
+    want("another length", stunp_agent_new(&agent, STUNP_UDP, &nowhere), STUNP_BAD_ARGUMENT);
+    want("no local address", stunp_agent_new(&agent, STUNP_UDP, &none), STUNP_BAD_ARGUMENT);
+    want("new_with, no transport", stunp_agent_new_with(&agent, 2, &local, &remote, &timeouts), STUNP_BAD_ARGUMENT);
+    want("new_with, local", stunp_agent_new_with(&agent, STUNP_TCP, &nowhere, &remote, &timeouts), STUNP_BAD_ARGUMENT);
+    want("new_with, remote", stunp_agent_new_with(&agent, STUNP_TCP, &local, &nowhere, &timeouts), STUNP_BAD_ARGUMENT);
     want("still empty", agent.is_full, 0);
     want_no_blocks("refused agents");
-    want("new", stun_agent_new(&agent, STUN_UDP, &local), 0);
-    want("new again", stun_agent_new(&agent, 2, &nowhere), STUN_FULL_HANDLE);
-    want("new_with again", stun_agent_new_with(&agent, 2, &nowhere, &nowhere, &timeouts), STUN_FULL_HANDLE);
-    stun_agent_free(&agent);
-    stun_agent_free(&agent);
+    want("new", stunp_agent_new(&agent, STUNP_UDP, &local), 0);
+    want("new again", stunp_agent_new(&agent, 2, &nowhere), STUNP_FULL_HANDLE);
+    want("new_with again", stunp_agent_new_with(&agent, 2, &nowhere, &nowhere, &timeouts), STUNP_FULL_HANDLE);
+    stunp_agent_free(&agent);
+    stunp_agent_free(&agent);
     want("empty again", agent.is_full, 0);
-    want("new_with", stun_agent_new_with(&agent, STUN_UDP, &local, &none, &timeouts), 0);
-    stun_agent_free(&agent);
+    want("new_with", stunp_agent_new_with(&agent, STUNP_UDP, &local, &none, &timeouts), 0);
+    stunp_agent_free(&agent);
     want_no_blocks("agents");
 }
 
 /* A handle may be moved by its bytes, and handles share nothing. */
 static void move_and_share(void) {
-    stun_agent one = {0}, two = {0}, moved;
-    stun_address local = address_of(1), remote = address_of(2), peer;
-    struct message request = message_of(STUN_REQUEST, 1);
-    want("new", stun_agent_new(&one, STUN_UDP, &local), 0);
-    want("new", stun_agent_new(&two, STUN_TCP, &local), 0);
-    want("send_request", stun_agent_send_request(&one, request.bytes, request.length, &remote, 0), 0);
-    want("name it", stun_agent_validated_peer(&one, &remote), 0);
+    stunp_agent one = {0}, two = {0}, moved;
+    stunp_address local = address_of(1), remote = address_of(2), peer;
+    struct message request = message_of(STUNP_REQUEST, 1);
+    want("new", stunp_agent_new(&one, STUNP_UDP, &local), 0);
+    want("new", stunp_agent_new(&two, STUNP_TCP, &local), 0);
+    want("send_request", stunp_agent_send_request(&one, request.bytes, request.length, &remote, 0), 0);
+    want("name it", stunp_agent_validated_peer(&one, &remote), 0);
     memcpy(&moved, &one, sizeof one);
     memset(&one, 0, sizeof one);
-    want("moved", stun_agent_is_outstanding(&moved, request.bytes + ID_AT, ID, &peer), 1);
-    want("not shared", stun_agent_is_outstanding(&two, request.bytes + ID_AT, ID, &peer), 0);
-    want("not shared", stun_agent_is_validated_peer(&two, &remote), 0);
-    stun_agent_free(&one);
-    stun_agent_free(&moved);
-    want("still there", stun_agent_send_request(&two, request.bytes, request.length, &remote, 0), 0);
-    stun_agent_free(&two);
+    want("moved", stunp_agent_is_outstanding(&moved, request.bytes + ID_AT, ID, &peer), 1);
+    want("not shared", stunp_agent_is_outstanding(&two, request.bytes + ID_AT, ID, &peer), 0);
+    want("not shared", stunp_agent_is_validated_peer(&two, &remote), 0);
+    stunp_agent_free(&one);
+    stunp_agent_free(&moved);
+    want("still there", stunp_agent_send_request(&two, request.bytes, request.length, &remote, 0), 0);
+    stunp_agent_free(&two);
     want_no_blocks("move_and_share");
 }
 
 /* Addresses and ids of lengths that they cannot have, messages that are none, and rooms that are too small. */
 static void agents(void) {
-    stun_agent agent = {0};
-    stun_address local = address_of(1), remote = address_of(2), other = address_of(3), mapped = {{0}, 3478, 16}, peer = nowhere;
-    const stun_timeouts timeouts = STUN_DEFAULT_TIMEOUTS;
-    struct message request = message_of(STUN_REQUEST, 1);
+    stunp_agent agent = {0};
+    stunp_address local = address_of(1), remote = address_of(2), other = address_of(3), mapped = {{0}, 3478, 16}, peer = nowhere;
+    const stunp_timeouts timeouts = STUNP_DEFAULT_TIMEOUTS;
+    struct message request = message_of(STUNP_REQUEST, 1);
     uint8_t id[ID] = {9}, out[64] = {9};
     uint64_t until = 9;
-    want("new_with", stun_agent_new_with(&agent, STUN_UDP, &local, &remote, &timeouts), 0);
-    want("send_request, no address", stun_agent_send_request(&agent, request.bytes, CUT, &nowhere, 0), STUN_BAD_ARGUMENT);
-    REFUSES_MESSAGES("send_request", stun_agent_send_request(&agent, bytes, length, &other, 0));
-    want("send, no address", stun_agent_send(&agent, request.bytes, CUT, &nowhere), STUN_BAD_ARGUMENT);
-    REFUSES_MESSAGES("send", stun_agent_send(&agent, bytes, length, &other));
-    want("handle, no address", stun_agent_handle(&agent, request.bytes, CUT, &nowhere, 1), STUN_BAD_ARGUMENT);
-    REFUSES_MESSAGES("handle", stun_agent_handle(&agent, bytes, length, &other, 1));
-    want("name nowhere", stun_agent_validated_peer(&agent, &nowhere), STUN_BAD_ARGUMENT);
-    want("is nowhere named", stun_agent_is_validated_peer(&agent, &nowhere), STUN_BAD_ARGUMENT);
-    want("cancel, a short id", stun_agent_cancel(&agent, id, ID - 1), STUN_BAD_ARGUMENT);
-    want("silence, a long id", stun_agent_cancel_retransmissions(&agent, request.bytes, ID + 1), STUN_BAD_ARGUMENT);
-    want("configure, no id", stun_agent_configure(&agent, id, 0, &timeouts), STUN_BAD_ARGUMENT);
-    want("is_outstanding, a short id", stun_agent_is_outstanding(&agent, id, ID - 1, &peer), STUN_BAD_ARGUMENT);
-    want("send_request", stun_agent_send_request(&agent, request.bytes, request.length, &remote, 0), 0);
-    want("another address, and again", stun_agent_send_request(&agent, request.bytes, 20, &other, 0), STUN_PROTOCOL_VIOLATION);
-    want("no room for an id", stun_agent_poll(&agent, 40 * SECOND, &until, id, ID - 1), STUN_BUFFER_TOO_SMALL);
-    want("no room at all", stun_agent_poll_transmit(&agent, SECOND, out, 0, &peer), STUN_BUFFER_TOO_SMALL);
-    want("no room", stun_agent_poll_transmit(&agent, SECOND, out, request.length - 1, &peer), STUN_BUFFER_TOO_SMALL);
+    want("new_with", stunp_agent_new_with(&agent, STUNP_UDP, &local, &remote, &timeouts), 0);
+    want("send_request, no address", stunp_agent_send_request(&agent, request.bytes, CUT, &nowhere, 0), STUNP_BAD_ARGUMENT);
+    REFUSES_MESSAGES("send_request", stunp_agent_send_request(&agent, bytes, length, &other, 0));
+    want("send, no address", stunp_agent_send(&agent, request.bytes, CUT, &nowhere), STUNP_BAD_ARGUMENT);
+    REFUSES_MESSAGES("send", stunp_agent_send(&agent, bytes, length, &other));
+    want("handle, no address", stunp_agent_handle(&agent, request.bytes, CUT, &nowhere, 1), STUNP_BAD_ARGUMENT);
+    REFUSES_MESSAGES("handle", stunp_agent_handle(&agent, bytes, length, &other, 1));
+    want("name nowhere", stunp_agent_validated_peer(&agent, &nowhere), STUNP_BAD_ARGUMENT);
+    want("is nowhere named", stunp_agent_is_validated_peer(&agent, &nowhere), STUNP_BAD_ARGUMENT);
+    want("cancel, a short id", stunp_agent_cancel(&agent, id, ID - 1), STUNP_BAD_ARGUMENT);
+    want("silence, a long id", stunp_agent_cancel_retransmissions(&agent, request.bytes, ID + 1), STUNP_BAD_ARGUMENT);
+    want("configure, no id", stunp_agent_configure(&agent, id, 0, &timeouts), STUNP_BAD_ARGUMENT);
+    want("is_outstanding, a short id", stunp_agent_is_outstanding(&agent, id, ID - 1, &peer), STUNP_BAD_ARGUMENT);
+    want("send_request", stunp_agent_send_request(&agent, request.bytes, request.length, &remote, 0), 0);
+    want("another address, and again", stunp_agent_send_request(&agent, request.bytes, 20, &other, 0), STUNP_PROTOCOL_VIOLATION);
+    want("no room for an id", stunp_agent_poll(&agent, 40 * SECOND, &until, id, ID - 1), STUNP_BUFFER_TOO_SMALL);
+    want("no room at all", stunp_agent_poll_transmit(&agent, SECOND, out, 0, &peer), STUNP_BUFFER_TOO_SMALL);
+    want("no room", stunp_agent_poll_transmit(&agent, SECOND, out, request.length - 1, &peer), STUNP_BUFFER_TOO_SMALL);
     want("outputs", until == 9 && id[0] == 9 && out[0] == 9, 1);
     want_same("an address", &peer, &nowhere, sizeof peer);
-    want("just room", stun_agent_poll_transmit(&agent, SECOND, out, request.length, &peer), (int64_t)request.length);
+    want("just room", stunp_agent_poll_transmit(&agent, SECOND, out, request.length, &peer), (int64_t)request.length);
     want_same("where to, with zeros behind it", &peer, &remote, sizeof peer);
 
     mapped.octets[10] = mapped.octets[11] = 0xff;
     memcpy(mapped.octets + 12, remote.octets, 4);
-    want("name it", stun_agent_validated_peer(&agent, &remote), 0);
-    want("mapped into IPv6 it is another", stun_agent_is_validated_peer(&agent, &mapped), 0);
+    want("name it", stunp_agent_validated_peer(&agent, &remote), 0);
+    want("mapped into IPv6 it is another", stunp_agent_is_validated_peer(&agent, &mapped), 0);
     memset(remote.octets + 4, 7, 12);
-    want("what is behind 4 octets is not read", stun_agent_is_validated_peer(&agent, &remote), 1);
-    stun_agent_free(&agent);
+    want("what is behind 4 octets is not read", stunp_agent_is_validated_peer(&agent, &remote), 1);
+    stunp_agent_free(&agent);
     want_no_blocks("agents");
 }
 
 /* The time-outs of a new agent are those that have a name: 500 ms, twice as long each time, 7 transmissions, and 8 s at the end. */
 static void defaults(bool are_named) {
     static const uint64_t due[] = {500, 1500, 3500, 7500, 15500, 31500, 39500};
-    const stun_timeouts timeouts = STUN_DEFAULT_TIMEOUTS;
-    stun_agent agent = {0};
-    stun_address local = address_of(1), remote = address_of(2), to;
-    struct message request = message_of(STUN_REQUEST, 1);
+    const stunp_timeouts timeouts = STUNP_DEFAULT_TIMEOUTS;
+    stunp_agent agent = {0};
+    stunp_address local = address_of(1), remote = address_of(2), to;
+    struct message request = message_of(STUNP_REQUEST, 1);
     uint8_t out[64], id[ID];
     uint64_t until = 0;
-    want("new", are_named ? stun_agent_new_with(&agent, STUN_UDP, &local, &none, &timeouts) : stun_agent_new(&agent, STUN_UDP, &local), 0);
-    want("send_request", stun_agent_send_request(&agent, request.bytes, request.length, &remote, 0), 0);
+    want("new", are_named ? stunp_agent_new_with(&agent, STUNP_UDP, &local, &none, &timeouts) : stunp_agent_new(&agent, STUNP_UDP, &local), 0);
+    want("send_request", stunp_agent_send_request(&agent, request.bytes, request.length, &remote, 0), 0);
     for (int i = 0; i < 7; i++) {
-        want("poll", stun_agent_poll(&agent, until, &until, id, ID), 0);
+        want("poll", stunp_agent_poll(&agent, until, &until, id, ID), 0);
         want("due", (int64_t)until, (int64_t)due[i] * 1000000);
-        want("sent again", stun_agent_poll_transmit(&agent, until, out, sizeof out, &to), i < 6 ? (int64_t)request.length : 0);
+        want("sent again", stunp_agent_poll_transmit(&agent, until, out, sizeof out, &to), i < 6 ? (int64_t)request.length : 0);
     }
-    want("timed out", stun_agent_poll(&agent, until, &until, id, ID), STUN_TIMED_OUT);
-    stun_agent_free(&agent);
+    want("timed out", stunp_agent_poll(&agent, until, &until, id, ID), STUNP_TIMED_OUT);
+    stunp_agent_free(&agent);
     want_no_blocks("defaults");
 }
 
 /* A poll waits an hour at most, 0 transmissions are one, and without a bound each wait doubles, however long. */
 static void waits(void) {
     const uint64_t hour = 3600 * SECOND;
-    const stun_timeouts once = {SECOND, SECOND, 3 * hour, 0}, unbounded = {hour, UINT64_MAX, SECOND, 3};
-    stun_agent agent = {0};
-    stun_address local = address_of(1), remote = address_of(2), to;
-    struct message request = message_of(STUN_REQUEST, 1);
+    const stunp_timeouts once = {SECOND, SECOND, 3 * hour, 0}, unbounded = {hour, UINT64_MAX, SECOND, 3};
+    stunp_agent agent = {0};
+    stunp_address local = address_of(1), remote = address_of(2), to;
+    struct message request = message_of(STUNP_REQUEST, 1);
     uint8_t out[64], id[ID];
     uint64_t until = 0;
-    want("new_with", stun_agent_new_with(&agent, STUN_UDP, &local, &remote, &once), 0);
-    want("send_request", stun_agent_send_request(&agent, request.bytes, request.length, &remote, 0), 0);
+    want("new_with", stunp_agent_new_with(&agent, STUNP_UDP, &local, &remote, &once), 0);
+    want("send_request", stunp_agent_send_request(&agent, request.bytes, request.length, &remote, 0), 0);
     for (uint64_t now = 0; now < 3 * hour; now = until) {
-        want("sent once", stun_agent_poll_transmit(&agent, now, out, sizeof out, &to), 0);
-        want("poll", stun_agent_poll(&agent, now, &until, id, ID), 0);
+        want("sent once", stunp_agent_poll_transmit(&agent, now, out, sizeof out, &to), 0);
+        want("poll", stunp_agent_poll(&agent, now, &until, id, ID), 0);
         want("an hour", (int64_t)until, (int64_t)(now + hour));
     }
-    want("timed out", stun_agent_poll(&agent, 3 * hour, &until, id, ID), STUN_TIMED_OUT);
-    stun_agent_free(&agent);
-    want("new_with", stun_agent_new_with(&agent, STUN_UDP, &local, &remote, &unbounded), 0);
-    want("send_request", stun_agent_send_request(&agent, request.bytes, request.length, &remote, 0), 0);
+    want("timed out", stunp_agent_poll(&agent, 3 * hour, &until, id, ID), STUNP_TIMED_OUT);
+    stunp_agent_free(&agent);
+    want("new_with", stunp_agent_new_with(&agent, STUNP_UDP, &local, &remote, &unbounded), 0);
+    want("send_request", stunp_agent_send_request(&agent, request.bytes, request.length, &remote, 0), 0);
     for (uint64_t due = hour; due <= 3 * hour; due += 2 * hour) {
-        want("not due", stun_agent_poll_transmit(&agent, due - 1, out, sizeof out, &to), 0);
-        want("due", stun_agent_poll_transmit(&agent, due, out, sizeof out, &to), (int64_t)request.length);
+        want("not due", stunp_agent_poll_transmit(&agent, due - 1, out, sizeof out, &to), 0);
+        want("due", stunp_agent_poll_transmit(&agent, due, out, sizeof out, &to), (int64_t)request.length);
     }
-    want("the end", stun_agent_poll(&agent, 3 * hour, &until, id, ID), 0);
+    want("the end", stunp_agent_poll(&agent, 3 * hour, &until, id, ID), 0);
     want("a second later", (int64_t)until, (int64_t)(3 * hour + SECOND));
-    stun_agent_free(&agent);
+    stunp_agent_free(&agent);
     want_no_blocks("waits");
 }
 
 /* Time-outs with which a request would be sent again without a wait are refused, and those that come next to them are not. */
 static void no_waits(void) {
-    static const stun_timeouts refused[] = {
+    static const stunp_timeouts refused[] = {
         {0, 0, 0, UINT32_MAX}, {0, 0, 0, 2}, {0, SECOND, SECOND, 7}, {SECOND, 0, SECOND, 7}, {0, UINT64_MAX, 0, 2},
     };
-    static const stun_timeouts taken[] = {{0, 0, 0, 0}, {0, 0, 0, 1}, {1, 1, 0, 2}, {1, 1, 1, UINT32_MAX}};
+    static const stunp_timeouts taken[] = {{0, 0, 0, 0}, {0, 0, 0, 1}, {1, 1, 0, 2}, {1, 1, 1, UINT32_MAX}};
     enum { REFUSED = sizeof refused / sizeof *refused, TAKEN = sizeof taken / sizeof *taken };
-    stun_agent agent = {0};
-    stun_address local = address_of(1), remote = address_of(2), to;
-    struct message request = message_of(STUN_REQUEST, 1);
+    stunp_agent agent = {0};
+    stunp_address local = address_of(1), remote = address_of(2), to;
+    struct message request = message_of(STUNP_REQUEST, 1);
     const uint8_t *id = request.bytes + ID_AT;
     uint8_t out[64];
     for (size_t i = 0; i < REFUSED; i++) {
-        want("no wait", stun_agent_new_with(&agent, STUN_UDP, &local, &remote, &refused[i]), STUN_NO_WAIT);
-        want("no wait, to all", stun_agent_new_with(&agent, STUN_TCP, &local, &none, &refused[i]), STUN_NO_WAIT);
-        want("nowhere first", stun_agent_new_with(&agent, STUN_UDP, &local, &nowhere, &refused[i]), STUN_BAD_ARGUMENT);
+        want("no wait", stunp_agent_new_with(&agent, STUNP_UDP, &local, &remote, &refused[i]), STUNP_NO_WAIT);
+        want("no wait, to all", stunp_agent_new_with(&agent, STUNP_TCP, &local, &none, &refused[i]), STUNP_NO_WAIT);
+        want("nowhere first", stunp_agent_new_with(&agent, STUNP_UDP, &local, &nowhere, &refused[i]), STUNP_BAD_ARGUMENT);
         want("still empty", agent.is_full, 0);
     }
     want_no_blocks("no waits");
     for (size_t i = 0; i < TAKEN; i++) {
-        want("a wait", stun_agent_new_with(&agent, STUN_UDP, &local, &remote, &taken[i]), 0);
-        want("send_request", stun_agent_send_request(&agent, request.bytes, request.length, &remote, 0), 0);
+        want("a wait", stunp_agent_new_with(&agent, STUNP_UDP, &local, &remote, &taken[i]), 0);
+        want("send_request", stunp_agent_send_request(&agent, request.bytes, request.length, &remote, 0), 0);
         bool is_due = taken[i].transmissions > 1;
-        want("one at a moment", stun_agent_poll_transmit(&agent, 1, out, sizeof out, &to), is_due ? (int64_t)request.length : 0);
-        want("and no other", stun_agent_poll_transmit(&agent, 1, out, sizeof out, &to), 0);
+        want("one at a moment", stunp_agent_poll_transmit(&agent, 1, out, sizeof out, &to), is_due ? (int64_t)request.length : 0);
+        want("and no other", stunp_agent_poll_transmit(&agent, 1, out, sizeof out, &to), 0);
         for (size_t j = 0; j < REFUSED; j++)
-            want("configure, no wait", stun_agent_configure(&agent, id, ID, &refused[j]), STUN_NO_WAIT);
-        want("configure, no id", stun_agent_configure(&agent, id, ID - 1, &refused[0]), STUN_BAD_ARGUMENT);
-        want("nothing is changed", stun_agent_poll_transmit(&agent, 1, out, sizeof out, &to), 0);
-        for (size_t j = 0; j < TAKEN; j++) want("configure", stun_agent_configure(&agent, id, ID, &taken[j]), 1);
-        stun_agent_free(&agent);
+            want("configure, no wait", stunp_agent_configure(&agent, id, ID, &refused[j]), STUNP_NO_WAIT);
+        want("configure, no id", stunp_agent_configure(&agent, id, ID - 1, &refused[0]), STUNP_BAD_ARGUMENT);
+        want("nothing is changed", stunp_agent_poll_transmit(&agent, 1, out, sizeof out, &to), 0);
+        for (size_t j = 0; j < TAKEN; j++) want("configure", stunp_agent_configure(&agent, id, ID, &taken[j]), 1);
+        stunp_agent_free(&agent);
     }
     want_no_blocks("waits");
 }
@@ -225,78 +225,78 @@ static void no_waits(void) {
 /* ---- The server */
 
 static void empty_servers(void) {
-    stun_server server = {0};
-    stun_address from = nowhere;
+    stunp_server server = {0};
+    stunp_address from = nowhere;
     uint8_t byte = 0xff;
     size_t length = 7;
-    want("set_algorithms", stun_server_set_algorithms(&server, 9), STUN_EMPTY_HANDLE);
-    want("set_anonymous_username", stun_server_set_anonymous_username(&server, 9), STUN_EMPTY_HANDLE);
-    want("set_nonce_expiry", stun_server_set_nonce_expiry(&server, 9), STUN_EMPTY_HANDLE);
-    want("add_user", stun_server_add_user(&server, &byte, 1, &byte, 1), STUN_EMPTY_HANDLE);
-    want("remove_user", stun_server_remove_user(&server, &byte, 1), STUN_EMPTY_HANDLE);
-    want("remove_client", stun_server_remove_client(&server, &nowhere), STUN_EMPTY_HANDLE);
-    want("forget", stun_server_forget(&server, &nowhere), STUN_EMPTY_HANDLE);
-    want("forget_expired", stun_server_forget_expired(&server, 9), STUN_EMPTY_HANDLE);
-    want("forget some", stun_server_forget_expired_within(&server, 9, &from, 9), STUN_EMPTY_HANDLE);
-    want("client", stun_server_client(&server, &nowhere, &byte, 1, &length), STUN_EMPTY_HANDLE);
-    want("nonce", stun_server_nonce(&server, &nowhere, &byte, 1), STUN_EMPTY_HANDLE);
-    want("validate", stun_server_validate(&server, &byte, 1, &nowhere, 0, some_words), STUN_EMPTY_HANDLE);
-    want("sign", stun_server_sign(&server, &byte, 1, 2, &nowhere), STUN_EMPTY_HANDLE);
-    stun_server_free(&server);
+    want("set_algorithms", stunp_server_set_algorithms(&server, 9), STUNP_EMPTY_HANDLE);
+    want("set_anonymous_username", stunp_server_set_anonymous_username(&server, 9), STUNP_EMPTY_HANDLE);
+    want("set_nonce_expiry", stunp_server_set_nonce_expiry(&server, 9), STUNP_EMPTY_HANDLE);
+    want("add_user", stunp_server_add_user(&server, &byte, 1, &byte, 1), STUNP_EMPTY_HANDLE);
+    want("remove_user", stunp_server_remove_user(&server, &byte, 1), STUNP_EMPTY_HANDLE);
+    want("remove_client", stunp_server_remove_client(&server, &nowhere), STUNP_EMPTY_HANDLE);
+    want("forget", stunp_server_forget(&server, &nowhere), STUNP_EMPTY_HANDLE);
+    want("forget_expired", stunp_server_forget_expired(&server, 9), STUNP_EMPTY_HANDLE);
+    want("forget some", stunp_server_forget_expired_within(&server, 9, &from, 9), STUNP_EMPTY_HANDLE);
+    want("client", stunp_server_client(&server, &nowhere, &byte, 1, &length), STUNP_EMPTY_HANDLE);
+    want("nonce", stunp_server_nonce(&server, &nowhere, &byte, 1), STUNP_EMPTY_HANDLE);
+    want("validate", stunp_server_validate(&server, &byte, 1, &nowhere, 0, some_words), STUNP_EMPTY_HANDLE);
+    want("sign", stunp_server_sign(&server, &byte, 1, 2, &nowhere), STUNP_EMPTY_HANDLE);
+    stunp_server_free(&server);
     want("outputs", byte == 0xff && length == 7, 1);
     want_same("an address", &from, &nowhere, sizeof from);
-    want("no text", stun_server_new(&server, &byte, 1), STUN_NOT_TEXT);
+    want("no text", stunp_server_new(&server, &byte, 1), STUNP_NOT_TEXT);
     want("still empty", server.is_full, 0);
     want_no_blocks("empty servers");
-    want("new", stun_server_new(&server, text("realm"), 5), 0);
-    want("new again", stun_server_new(&server, &byte, 1), STUN_FULL_HANDLE);
-    stun_server_free(&server);
-    stun_server_free(&server);
+    want("new", stunp_server_new(&server, text("realm"), 5), 0);
+    want("new again", stunp_server_new(&server, &byte, 1), STUNP_FULL_HANDLE);
+    stunp_server_free(&server);
+    stunp_server_free(&server);
     want_no_blocks("servers");
 }
 
 /* Numbers, texts and addresses of the calls of a server. */
 static void servers(void) {
-    struct pair pair = pair_of(STUN_SHA1);
-    stun_server *server = &pair.server;
-    stun_address from = address_of(7);
+    struct pair pair = pair_of(STUNP_SHA1);
+    stunp_server *server = &pair.server;
+    stunp_address from = address_of(7);
     uint8_t byte = 0xff, name[4], nonce[64];
     size_t length = 99;
     for (uint32_t algorithms = 0; algorithms < 6; algorithms++) {
         bool is_there = algorithms >= 1 && algorithms <= 3;
-        want("set_algorithms", stun_server_set_algorithms(server, algorithms), is_there ? 0 : STUN_BAD_ARGUMENT);
-        want("of a client", stun_client_set_algorithms(&pair.client, algorithms), is_there ? 0 : STUN_BAD_ARGUMENT);
+        want("set_algorithms", stunp_server_set_algorithms(server, algorithms), is_there ? 0 : STUNP_BAD_ARGUMENT);
+        want("of a client", stunp_client_set_algorithms(&pair.client, algorithms), is_there ? 0 : STUNP_BAD_ARGUMENT);
     }
     for (uint32_t feature = 0; feature < 5; feature++) {
-        int64_t wanted = feature <= STUN_DISABLED ? 0 : STUN_BAD_ARGUMENT;
-        want("set_anonymous_username", stun_server_set_anonymous_username(server, feature), wanted);
-        want("of a client", stun_client_set_anonymous_username(&pair.client, feature), wanted);
+        int64_t wanted = feature <= STUNP_DISABLED ? 0 : STUNP_BAD_ARGUMENT;
+        want("set_anonymous_username", stunp_server_set_anonymous_username(server, feature), wanted);
+        want("of a client", stunp_client_set_anonymous_username(&pair.client, feature), wanted);
     }
-    want("set_nonce_expiry", stun_server_set_nonce_expiry(server, 0), 0);
-    want("set_nonce_expiry", stun_server_set_nonce_expiry(server, UINT64_MAX), 0);
-    want("a name that is no text", stun_server_add_user(server, &byte, 1, text("a"), 1), STUN_NOT_TEXT);
-    want("a password that is no text", stun_server_add_user(server, text("a"), 1, &byte, 1), STUN_NOT_TEXT);
-    want("remove_user", stun_server_remove_user(server, &byte, 1), STUN_NOT_TEXT);
-    want("remove_client", stun_server_remove_client(server, &nowhere), STUN_BAD_ARGUMENT);
-    want("forget", stun_server_forget(server, &nowhere), STUN_BAD_ARGUMENT);
-    want("validate, nowhere", stun_server_validate(server, &byte, 1, &nowhere, 0, some_words), STUN_BAD_ARGUMENT);
-    REFUSES_MESSAGES("validate", stun_server_validate(server, bytes, length, &from, 0, some_words));
+    want("set_nonce_expiry", stunp_server_set_nonce_expiry(server, 0), 0);
+    want("set_nonce_expiry", stunp_server_set_nonce_expiry(server, UINT64_MAX), 0);
+    want("a name that is no text", stunp_server_add_user(server, &byte, 1, text("a"), 1), STUNP_NOT_TEXT);
+    want("a password that is no text", stunp_server_add_user(server, text("a"), 1, &byte, 1), STUNP_NOT_TEXT);
+    want("remove_user", stunp_server_remove_user(server, &byte, 1), STUNP_NOT_TEXT);
+    want("remove_client", stunp_server_remove_client(server, &nowhere), STUNP_BAD_ARGUMENT);
+    want("forget", stunp_server_forget(server, &nowhere), STUNP_BAD_ARGUMENT);
+    want("validate, nowhere", stunp_server_validate(server, &byte, 1, &nowhere, 0, some_words), STUNP_BAD_ARGUMENT);
+    REFUSES_MESSAGES("validate", stunp_server_validate(server, bytes, length, &from, 0, some_words));
     free_pair(&pair);
 
-    pair = pair_of(STUN_SHA1);
-    want("nowhere", stun_server_client(server, &nowhere, name, 0, &length), STUN_BAD_ARGUMENT);
-    want("no nonce yet", stun_server_nonce(server, &from, nonce, 0), 0);
+    pair = pair_of(STUNP_SHA1);
+    want("nowhere", stunp_server_client(server, &nowhere, name, 0, &length), STUNP_BAD_ARGUMENT);
+    want("no nonce yet", stunp_server_nonce(server, &from, nonce, 0), 0);
     challenge(&pair, &from, 0);
-    want("nonce, nowhere", stun_server_nonce(server, &nowhere, nonce, 0), STUN_BAD_ARGUMENT);
+    want("nonce, nowhere", stunp_server_nonce(server, &nowhere, nonce, 0), STUNP_BAD_ARGUMENT);
     nonce[0] = 0xff;
-    want("no room for it", stun_server_nonce(server, &from, nonce, 28), STUN_BUFFER_TOO_SMALL);
+    want("no room for it", stunp_server_nonce(server, &from, nonce, 28), STUNP_BUFFER_TOO_SMALL);
     want("the buffer is left", nonce[0], 0xff);
-    want("just room for it", stun_server_nonce(server, &from, nonce, 29), 29);
+    want("just room for it", stunp_server_nonce(server, &from, nonce, 29), 29);
     want_same("its cookie", nonce, "obMatJos2", 9);
-    validate(&pair, &from, 0, STUN_SHA1);
-    want("no room", stun_server_client(server, &from, name, 3, &length), STUN_BUFFER_TOO_SMALL);
+    validate(&pair, &from, 0, STUNP_SHA1);
+    want("no room", stunp_server_client(server, &from, name, 3, &length), STUNP_BUFFER_TOO_SMALL);
     want("the length is left", (int64_t)length, 99);
-    want("just room", stun_server_client(server, &from, name, 4, &length), STUN_SHA1);
+    want("just room", stunp_server_client(server, &from, name, 4, &length), STUNP_SHA1);
     want("its length", (int64_t)length, 4);
     want_same("its name", name, "name", 4);
     free_pair(&pair);
@@ -305,123 +305,123 @@ static void servers(void) {
 
 /* Signing in each room up to what is enough: too little leaves the message. A realm that no attribute can hold. */
 static void sign(void) {
-    struct pair pair = pair_of(STUN_SHA1);
-    stun_address from = address_of(7);
-    stun_server *server = &pair.server;
-    struct message answer = message_of(STUN_ERROR, 1);
+    struct pair pair = pair_of(STUNP_SHA1);
+    stunp_address from = address_of(7);
+    stunp_server *server = &pair.server;
+    struct message answer = message_of(STUNP_ERROR, 1);
     add_error(&answer, 401);
     const struct message plain = answer;
     int64_t length = (int64_t)answer.length;
-    want("before a nonce", stun_server_sign(server, answer.bytes, answer.length, answer.length, &from), length);
-    want("before a challenge", stun_client_sign(&pair.client, answer.bytes, answer.length, answer.length), length);
+    want("before a nonce", stunp_server_sign(server, answer.bytes, answer.length, answer.length, &from), length);
+    want("before a challenge", stunp_client_sign(&pair.client, answer.bytes, answer.length, answer.length), length);
     challenge(&pair, &from, 0);
-    want("sign, nowhere", stun_server_sign(server, answer.bytes, 20, 10, &nowhere), STUN_BAD_ARGUMENT);
-    want("more than the room", stun_server_sign(server, answer.bytes, 20, 28, &from), STUN_BAD_ARGUMENT);
-    want("client, more than the room", stun_client_sign(&pair.client, answer.bytes, 20, 28), STUN_BAD_ARGUMENT);
-    REFUSES_MESSAGES("sign", stun_server_sign(server, (uint8_t *)bytes, 2048, length, &from));
-    REFUSES_MESSAGES("client, sign", stun_client_sign(&pair.client, (uint8_t *)bytes, 2048, length));
+    want("sign, nowhere", stunp_server_sign(server, answer.bytes, 20, 10, &nowhere), STUNP_BAD_ARGUMENT);
+    want("more than the room", stunp_server_sign(server, answer.bytes, 20, 28, &from), STUNP_BAD_ARGUMENT);
+    want("client, more than the room", stunp_client_sign(&pair.client, answer.bytes, 20, 28), STUNP_BAD_ARGUMENT);
+    REFUSES_MESSAGES("sign", stunp_server_sign(server, (uint8_t *)bytes, 2048, length, &from));
+    REFUSES_MESSAGES("client, sign", stunp_client_sign(&pair.client, (uint8_t *)bytes, 2048, length));
 
     struct message whole = answer;
-    int64_t verdict = stun_server_sign(server, whole.bytes, sizeof whole.bytes, whole.length, &from);
+    int64_t verdict = stunp_server_sign(server, whole.bytes, sizeof whole.bytes, whole.length, &from);
     for (size_t room = answer.length; room < (size_t)verdict; room++) {
-        want("too little room", stun_server_sign(server, answer.bytes, room, answer.length, &from), STUN_BUFFER_TOO_SMALL);
+        want("too little room", stunp_server_sign(server, answer.bytes, room, answer.length, &from), STUNP_BUFFER_TOO_SMALL);
         want_same("the message is left", &answer, &plain, sizeof answer);
     }
-    want("enough", stun_server_sign(server, answer.bytes, (size_t)verdict, answer.length, &from), verdict);
+    want("enough", stunp_server_sign(server, answer.bytes, (size_t)verdict, answer.length, &from), verdict);
     want_same("as before", answer.bytes, whole.bytes, (size_t)verdict);
     free_pair(&pair);
 
     static uint8_t longest[764];
     memset(longest, 'r', sizeof longest);
-    stun_server wide = {0};
-    want("a long realm", stun_server_new(&wide, longest, sizeof longest), 0);
-    struct message request = message_of(STUN_REQUEST, 1);
-    verdict = stun_server_validate(&wide, request.bytes, request.length, &from, 0, some_words);
-    want("unsigned", verdict, STUN_UNAUTHORIZED);
+    stunp_server wide = {0};
+    want("a long realm", stunp_server_new(&wide, longest, sizeof longest), 0);
+    struct message request = message_of(STUNP_REQUEST, 1);
+    verdict = stunp_server_validate(&wide, request.bytes, request.length, &from, 0, some_words);
+    want("unsigned", verdict, STUNP_UNAUTHORIZED);
     answer = plain;
-    verdict = stun_server_sign(&wide, answer.bytes, sizeof answer.bytes, answer.length, &from);
-    want("too long a realm", verdict, STUN_TEXT_TOO_LONG);
-    stun_server_free(&wide);
+    verdict = stunp_server_sign(&wide, answer.bytes, sizeof answer.bytes, answer.length, &from);
+    want("too long a realm", verdict, STUNP_TEXT_TOO_LONG);
+    stunp_server_free(&wide);
     want_no_blocks("sign");
 }
 
 /* Signing takes no memory: where each allocation is refused, it answers the same, also of a message as long as can be. */
 static void sign_without_memory(void) {
-    enum { MORE = 1024, MOST = STUN_LONGEST_MESSAGE - STUN_HEADER_LENGTH - STUN_ATTRIBUTE_HEADER_LENGTH, LONG = MOST - MORE };
-    static uint8_t bytes[STUN_LONGEST_MESSAGE + MORE], value[MOST];
+    enum { MORE = 1024, MOST = STUNP_LONGEST_MESSAGE - STUNP_HEADER_LENGTH - STUNP_ATTRIBUTE_HEADER_LENGTH, LONG = MOST - MORE };
+    static uint8_t bytes[STUNP_LONGEST_MESSAGE + MORE], value[MOST];
     const size_t room = sizeof bytes;
-    struct pair pair = pair_of(STUN_SHA1 | STUN_SHA256);
-    stun_address from = address_of(7);
-    struct message answer = message_of(STUN_SUCCESS, 2), request = message_of(STUN_REQUEST, 2);
-    heap_bound(0);
-    want("before a nonce", stun_server_sign(&pair.server, answer.bytes, 20, 20, &from), 20);
-    want("before a challenge", stun_client_sign(&pair.client, request.bytes, 20, 20), 20);
-    heap_bound(SIZE_MAX);
+    struct pair pair = pair_of(STUNP_SHA1 | STUNP_SHA256);
+    stunp_address from = address_of(7);
+    struct message answer = message_of(STUNP_SUCCESS, 2), request = message_of(STUNP_REQUEST, 2);
+    stunp_heap_bound(0);
+    want("before a nonce", stunp_server_sign(&pair.server, answer.bytes, 20, 20, &from), 20);
+    want("before a challenge", stunp_client_sign(&pair.client, request.bytes, 20, 20), 20);
+    stunp_heap_bound(SIZE_MAX);
     challenge(&pair, &from, 0);
-    validate(&pair, &from, 0, STUN_SHA256);
+    validate(&pair, &from, 0, STUNP_SHA256);
 
-    const size_t asked = heap_asked();
-    heap_bound(0);
-    answer.length = (size_t)stun_add(answer.bytes, 2048, 20, STUN_REALM, value, 1);
-    request.length = (size_t)stun_add(request.bytes, 2048, 20, STUN_NONCE, value, 1);
-    want("a realm", stun_server_sign(&pair.server, answer.bytes, 2048, answer.length, &from), STUN_ATTRIBUTE_EXISTS);
-    want("a nonce", stun_client_sign(&pair.client, request.bytes, 2048, request.length), STUN_ATTRIBUTE_EXISTS);
-    request = message_of(STUN_REQUEST, 2);
-    want("no room", stun_client_sign(&pair.client, request.bytes, 28, 20), STUN_BUFFER_TOO_SMALL);
+    const size_t asked = stunp_heap_asked();
+    stunp_heap_bound(0);
+    answer.length = (size_t)stunp_add(answer.bytes, 2048, 20, STUNP_REALM, value, 1);
+    request.length = (size_t)stunp_add(request.bytes, 2048, 20, STUNP_NONCE, value, 1);
+    want("a realm", stunp_server_sign(&pair.server, answer.bytes, 2048, answer.length, &from), STUNP_ATTRIBUTE_EXISTS);
+    want("a nonce", stunp_client_sign(&pair.client, request.bytes, 2048, request.length), STUNP_ATTRIBUTE_EXISTS);
+    request = message_of(STUNP_REQUEST, 2);
+    want("no room", stunp_client_sign(&pair.client, request.bytes, 28, 20), STUNP_BUFFER_TOO_SMALL);
     request = request_of(&pair, 2);
     answer = answer_of(&pair, 2, 0, &from);
-    want("a short answer", stun_client_validate(&pair.client, answer.bytes, answer.length), STUN_SHA256);
+    want("a short answer", stunp_client_validate(&pair.client, answer.bytes, answer.length), STUNP_SHA256);
 
     for (size_t length = 0; length <= LONG; length += LONG / 40) {
-        answer = message_of(STUN_SUCCESS, 2);
+        answer = message_of(STUNP_SUCCESS, 2);
         memcpy(bytes, answer.bytes, answer.length);
-        int64_t whole = stun_add(bytes, room, answer.length, STUN_SOFTWARE, value, length);
-        whole = stun_server_sign(&pair.server, bytes, room, (size_t)whole, &from);
-        want("a long answer", stun_client_validate(&pair.client, bytes, (size_t)whole), STUN_SHA256);
-        request = message_of(STUN_REQUEST, 3);
+        int64_t whole = stunp_add(bytes, room, answer.length, STUNP_SOFTWARE, value, length);
+        whole = stunp_server_sign(&pair.server, bytes, room, (size_t)whole, &from);
+        want("a long answer", stunp_client_validate(&pair.client, bytes, (size_t)whole), STUNP_SHA256);
+        request = message_of(STUNP_REQUEST, 3);
         memcpy(bytes, request.bytes, request.length);
-        whole = stun_add(bytes, room, request.length, STUN_SOFTWARE, value, length);
-        whole = stun_client_sign(&pair.client, bytes, room, (size_t)whole);
-        int64_t verdict = stun_server_validate(&pair.server, bytes, (size_t)whole, &from, 0, some_words);
-        want("a long request", verdict, STUN_SHA256);
+        whole = stunp_add(bytes, room, request.length, STUNP_SOFTWARE, value, length);
+        whole = stunp_client_sign(&pair.client, bytes, room, (size_t)whole);
+        int64_t verdict = stunp_server_validate(&pair.server, bytes, (size_t)whole, &from, 0, some_words);
+        want("a long request", verdict, STUNP_SHA256);
     }
-    answer = message_of(STUN_SUCCESS, 2);
+    answer = message_of(STUNP_SUCCESS, 2);
     memcpy(bytes, answer.bytes, answer.length);
-    int64_t whole = stun_add(bytes, room, answer.length, STUN_SOFTWARE, value, MOST);
-    want("the longest", whole, STUN_LONGEST_MESSAGE);
-    want("of a server", stun_server_sign(&pair.server, bytes, room, (size_t)whole, &from), STUN_MESSAGE_TOO_LONG);
-    want("of a client", stun_client_sign(&pair.client, bytes, room, (size_t)whole), STUN_MESSAGE_TOO_LONG);
-    want("no allocation", (int64_t)(heap_asked() - asked), 0);
-    heap_bound(SIZE_MAX);
+    int64_t whole = stunp_add(bytes, room, answer.length, STUNP_SOFTWARE, value, MOST);
+    want("the longest", whole, STUNP_LONGEST_MESSAGE);
+    want("of a server", stunp_server_sign(&pair.server, bytes, room, (size_t)whole, &from), STUNP_MESSAGE_TOO_LONG);
+    want("of a client", stunp_client_sign(&pair.client, bytes, room, (size_t)whole), STUNP_MESSAGE_TOO_LONG);
+    want("no allocation", (int64_t)(stunp_heap_asked() - asked), 0);
+    stunp_heap_bound(SIZE_MAX);
     free_pair(&pair);
     want_no_blocks("sign_without_memory");
 }
 
 /* A forgotten address is met as a new one, and its blocks are given back, whoever was known there. */
 static void forget(void) {
-    struct pair pair = pair_of(STUN_SHA1 | STUN_SHA256);
-    stun_address from = address_of(7), other = address_of(8);
-    struct message request = message_of(STUN_REQUEST, 9), answer = message_of(STUN_SUCCESS, 2);
+    struct pair pair = pair_of(STUNP_SHA1 | STUNP_SHA256);
+    stunp_address from = address_of(7), other = address_of(8);
+    struct message request = message_of(STUNP_REQUEST, 9), answer = message_of(STUNP_SUCCESS, 2);
     uint8_t name[4];
     size_t length;
-    want("without a challenge", stun_client_signing_algorithm(&pair.client), 0);
+    want("without a challenge", stunp_client_signing_algorithm(&pair.client), 0);
     challenge(&pair, &from, 0);
-    want("with one", stun_client_signing_algorithm(&pair.client), STUN_SHA256);
-    validate(&pair, &from, 0, STUN_SHA256);
+    want("with one", stunp_client_signing_algorithm(&pair.client), STUNP_SHA256);
+    validate(&pair, &from, 0, STUNP_SHA256);
 
-    const size_t blocks = heap_blocks();
-    int64_t verdict = stun_server_validate(&pair.server, request.bytes, request.length, &other, 0, some_words);
-    want("an unsigned request", verdict, STUN_UNAUTHORIZED);
-    want("a nonce is kept", heap_blocks() > blocks, 1);
-    heap_bound(0);
-    want("forget", stun_server_forget(&pair.server, &other), 0);
-    want("once more", stun_server_forget(&pair.server, &other), 0);
-    heap_bound(SIZE_MAX);
-    want("its blocks are given back", (int64_t)heap_blocks(), (int64_t)blocks);
-    want("another is known", stun_server_client(&pair.server, &from, name, sizeof name, &length), STUN_SHA256);
-    want("forget", stun_server_forget(&pair.server, &from), 0);
-    want("nobody is known", stun_server_client(&pair.server, &from, name, sizeof name, &length), 0);
-    want("nor a nonce", stun_server_sign(&pair.server, answer.bytes, 20, 20, &from), 20);
+    const size_t blocks = stunp_heap_blocks();
+    int64_t verdict = stunp_server_validate(&pair.server, request.bytes, request.length, &other, 0, some_words);
+    want("an unsigned request", verdict, STUNP_UNAUTHORIZED);
+    want("a nonce is kept", stunp_heap_blocks() > blocks, 1);
+    stunp_heap_bound(0);
+    want("forget", stunp_server_forget(&pair.server, &other), 0);
+    want("once more", stunp_server_forget(&pair.server, &other), 0);
+    stunp_heap_bound(SIZE_MAX);
+    want("its blocks are given back", (int64_t)stunp_heap_blocks(), (int64_t)blocks);
+    want("another is known", stunp_server_client(&pair.server, &from, name, sizeof name, &length), STUNP_SHA256);
+    want("forget", stunp_server_forget(&pair.server, &from), 0);
+    want("nobody is known", stunp_server_client(&pair.server, &from, name, sizeof name, &length), 0);
+    want("nor a nonce", stunp_server_sign(&pair.server, answer.bytes, 20, 20, &from), 20);
     free_pair(&pair);
     want_no_blocks("forget");
 }
@@ -429,26 +429,26 @@ static void forget(void) {
 /* Forgetting in steps: at two of five addresses each time, and from where the last step ended. */
 static void forget_in_steps(void) {
     enum { ADDRESSES = 5 };
-    struct pair pair = pair_of(STUN_SHA1);
-    struct message request = message_of(STUN_REQUEST, 9);
-    stun_address at = address_of(9), from = nowhere;
-    want("nowhere", stun_server_forget_expired_within(&pair.server, 0, &from, 2), STUN_BAD_ARGUMENT);
+    struct pair pair = pair_of(STUNP_SHA1);
+    struct message request = message_of(STUNP_REQUEST, 9);
+    stunp_address at = address_of(9), from = nowhere;
+    want("nowhere", stunp_server_forget_expired_within(&pair.server, 0, &from, 2), STUNP_BAD_ARGUMENT);
     want_same("it is left", &from, &nowhere, sizeof from);
     for (uint32_t i = 0; i < ADDRESSES; i++) {
         at = address_of(1 + i);
-        stun_server_validate(&pair.server, request.bytes, request.length, &at, 0, some_words);
+        stunp_server_validate(&pair.server, request.bytes, request.length, &at, 0, some_words);
     }
     from = none;
-    heap_bound(0);
+    stunp_heap_bound(0);
     for (uint32_t i = 1; i < ADDRESSES; i += 2) {
-        want("goes on", stun_server_forget_expired_within(&pair.server, 3601 * SECOND, &from, 2), 1);
+        want("goes on", stunp_server_forget_expired_within(&pair.server, 3601 * SECOND, &from, 2), 1);
         at = address_of(2 + i);
         want_same("where", &from, &at, sizeof from);
     }
-    want("the end", stun_server_forget_expired_within(&pair.server, 3601 * SECOND, &from, 2), 0);
+    want("the end", stunp_server_forget_expired_within(&pair.server, 3601 * SECOND, &from, 2), 0);
     want_same("no address", &from, &none, sizeof from);
-    want("nothing is left", stun_server_forget_expired_within(&pair.server, 3601 * SECOND, &from, 0), 0);
-    heap_bound(SIZE_MAX);
+    want("nothing is left", stunp_server_forget_expired_within(&pair.server, 3601 * SECOND, &from, 0), 0);
+    stunp_heap_bound(SIZE_MAX);
     free_pair(&pair);
     want_no_blocks("forget_in_steps");
 }
@@ -459,38 +459,38 @@ static void most_room(void) {
     static uint8_t realm[763], name[513], bytes[4096];
     static char nonce[763] = "obMatJos2gAAA"; /* which asks for algorithms, and not for hidden names */
     struct pair pair = {{0}, {0}};
-    stun_address from = address_of(7);
+    stunp_address from = address_of(7);
     memset(realm, 'r', sizeof realm);
     memset(name, 'n', sizeof name);
     memset(nonce + strlen(nonce), 'o', sizeof nonce - 13);
-    want("a server", stun_server_new(&pair.server, realm, sizeof realm), 0);
-    want("algorithms", stun_server_set_algorithms(&pair.server, STUN_SHA1 | STUN_SHA256), 0);
-    want("a user", stun_server_add_user(&pair.server, name, sizeof name, text("password"), 8), 0);
-    want("a client", stun_client_new(&pair.client), 0);
-    want("algorithms", stun_client_set_algorithms(&pair.client, STUN_SHA1 | STUN_SHA256), 0);
-    want("no hidden names", stun_client_set_anonymous_username(&pair.client, STUN_DISABLED), 0);
-    want("credentials", stun_client_set_credentials(&pair.client, name, sizeof name, text("password"), 8), 0);
+    want("a server", stunp_server_new(&pair.server, realm, sizeof realm), 0);
+    want("algorithms", stunp_server_set_algorithms(&pair.server, STUNP_SHA1 | STUNP_SHA256), 0);
+    want("a user", stunp_server_add_user(&pair.server, name, sizeof name, text("password"), 8), 0);
+    want("a client", stunp_client_new(&pair.client), 0);
+    want("algorithms", stunp_client_set_algorithms(&pair.client, STUNP_SHA1 | STUNP_SHA256), 0);
+    want("no hidden names", stunp_client_set_anonymous_username(&pair.client, STUNP_DISABLED), 0);
+    want("credentials", stunp_client_set_credentials(&pair.client, name, sizeof name, text("password"), 8), 0);
     challenge(&pair, &from, 0);
     want("a challenge", (int64_t)answer_of(&pair, 1, 401, &from).length, ERROR_LENGTH + CHALLENGE);
-    validate(&pair, &from, 0, STUN_SHA256);
-    want("a signed answer", (int64_t)answer_of(&pair, 2, 0, &from).length, STUN_HEADER_LENGTH + BY_SERVER);
-    stun_client_free(&pair.client);
+    validate(&pair, &from, 0, STUNP_SHA256);
+    want("a signed answer", (int64_t)answer_of(&pair, 2, 0, &from).length, STUNP_HEADER_LENGTH + BY_SERVER);
+    stunp_client_free(&pair.client);
 
     const uint8_t listed[] = {0, 2, 0, 0, 0, 1, 0, 0};
-    struct message answer = message_of(STUN_ERROR, 2), request = message_of(STUN_REQUEST, 3);
+    struct message answer = message_of(STUNP_ERROR, 2), request = message_of(STUNP_REQUEST, 3);
     const size_t room = sizeof answer.bytes;
     add_error(&answer, 401);
-    answer.length = (size_t)stun_add(answer.bytes, room, answer.length, STUN_REALM, realm, sizeof realm);
-    answer.length = (size_t)stun_add(answer.bytes, room, answer.length, STUN_NONCE, (const uint8_t *)nonce, sizeof nonce);
-    answer.length = (size_t)stun_add(answer.bytes, room, answer.length, STUN_PASSWORD_ALGORITHMS, listed, sizeof listed);
-    want("a client", stun_client_new(&pair.client), 0);
-    want("algorithms", stun_client_set_algorithms(&pair.client, STUN_SHA256), 0);
-    want("credentials", stun_client_set_credentials(&pair.client, name, sizeof name, text("password"), 8), 0);
-    want("a 401", stun_client_validate(&pair.client, answer.bytes, answer.length), STUN_RESEND);
+    answer.length = (size_t)stunp_add(answer.bytes, room, answer.length, STUNP_REALM, realm, sizeof realm);
+    answer.length = (size_t)stunp_add(answer.bytes, room, answer.length, STUNP_NONCE, (const uint8_t *)nonce, sizeof nonce);
+    answer.length = (size_t)stunp_add(answer.bytes, room, answer.length, STUNP_PASSWORD_ALGORITHMS, listed, sizeof listed);
+    want("a client", stunp_client_new(&pair.client), 0);
+    want("algorithms", stunp_client_set_algorithms(&pair.client, STUNP_SHA256), 0);
+    want("credentials", stunp_client_set_credentials(&pair.client, name, sizeof name, text("password"), 8), 0);
+    want("a 401", stunp_client_validate(&pair.client, answer.bytes, answer.length), STUNP_RESEND);
     memcpy(bytes, request.bytes, request.length);
-    const int64_t wanted = STUN_HEADER_LENGTH + BY_CLIENT + 2 * EACH_ALGORITHM;
-    want("too little room", stun_client_sign(&pair.client, bytes, (size_t)wanted - 1, request.length), STUN_BUFFER_TOO_SMALL);
-    want("a signed request", stun_client_sign(&pair.client, bytes, (size_t)wanted, request.length), wanted);
+    const int64_t wanted = STUNP_HEADER_LENGTH + BY_CLIENT + 2 * EACH_ALGORITHM;
+    want("too little room", stunp_client_sign(&pair.client, bytes, (size_t)wanted - 1, request.length), STUNP_BUFFER_TOO_SMALL);
+    want("a signed request", stunp_client_sign(&pair.client, bytes, (size_t)wanted, request.length), wanted);
     free_pair(&pair);
     want_no_blocks("most_room");
 }
@@ -498,37 +498,37 @@ static void most_room(void) {
 /* ---- The client */
 
 static void clients(void) {
-    stun_client client = {0};
+    stunp_client client = {0};
     uint8_t byte = 0xff;
-    want("set_credentials", stun_client_set_credentials(&client, &byte, 1, &byte, 1), STUN_EMPTY_HANDLE);
-    want("set_algorithms", stun_client_set_algorithms(&client, 9), STUN_EMPTY_HANDLE);
-    want("set_anonymous_username", stun_client_set_anonymous_username(&client, 9), STUN_EMPTY_HANDLE);
-    want("signing_algorithm", stun_client_signing_algorithm(&client), STUN_EMPTY_HANDLE);
-    want("sign", stun_client_sign(&client, &byte, 1, 2), STUN_EMPTY_HANDLE);
-    want("validate", stun_client_validate(&client, &byte, 1), STUN_EMPTY_HANDLE);
-    stun_client_free(&client);
-    want("new", stun_client_new(&client), 0);
-    want("new again", stun_client_new(&client), STUN_FULL_HANDLE);
-    want("no text", stun_client_set_credentials(&client, &byte, 1, text("a"), 1), STUN_NOT_TEXT);
-    want("no text", stun_client_set_credentials(&client, text("a"), 1, &byte, 1), STUN_NOT_TEXT);
-    REFUSES_MESSAGES("validate", stun_client_validate(&client, bytes, length));
-    stun_client_free(&client);
-    stun_client_free(&client);
+    want("set_credentials", stunp_client_set_credentials(&client, &byte, 1, &byte, 1), STUNP_EMPTY_HANDLE);
+    want("set_algorithms", stunp_client_set_algorithms(&client, 9), STUNP_EMPTY_HANDLE);
+    want("set_anonymous_username", stunp_client_set_anonymous_username(&client, 9), STUNP_EMPTY_HANDLE);
+    want("signing_algorithm", stunp_client_signing_algorithm(&client), STUNP_EMPTY_HANDLE);
+    want("sign", stunp_client_sign(&client, &byte, 1, 2), STUNP_EMPTY_HANDLE);
+    want("validate", stunp_client_validate(&client, &byte, 1), STUNP_EMPTY_HANDLE);
+    stunp_client_free(&client);
+    want("new", stunp_client_new(&client), 0);
+    want("new again", stunp_client_new(&client), STUNP_FULL_HANDLE);
+    want("no text", stunp_client_set_credentials(&client, &byte, 1, text("a"), 1), STUNP_NOT_TEXT);
+    want("no text", stunp_client_set_credentials(&client, text("a"), 1, &byte, 1), STUNP_NOT_TEXT);
+    REFUSES_MESSAGES("validate", stunp_client_validate(&client, bytes, length));
+    stunp_client_free(&client);
+    stunp_client_free(&client);
     want_no_blocks("clients");
-    for (int64_t answer = STUN_NO_WAIT; answer < 9; answer++)
-        want("is_resend", stun_is_resend(answer), answer == STUN_RESEND || answer == STUN_RESEND_SHA1 || answer == STUN_RESEND_SHA256);
+    for (int64_t answer = STUNP_NO_WAIT; answer < 9; answer++)
+        want("is_resend", stunp_is_resend(answer), answer == STUNP_RESEND || answer == STUNP_RESEND_SHA1 || answer == STUNP_RESEND_SHA256);
 }
 
 /* What is set once a challenge was taken up is for the next one. */
 static void late_settings(void) {
-    struct pair pair = pair_of(STUN_SHA1 | STUN_SHA256);
-    stun_address from = address_of(7);
+    struct pair pair = pair_of(STUNP_SHA1 | STUNP_SHA256);
+    stunp_address from = address_of(7);
     challenge(&pair, &from, 0);
-    want("another user", stun_client_set_credentials(&pair.client, text("other"), 5, text("other"), 5), 0);
-    want("another algorithm", stun_client_set_algorithms(&pair.client, STUN_SHA1), 0);
-    want("another feature", stun_client_set_anonymous_username(&pair.client, STUN_REQUIRED), 0);
-    validate(&pair, &from, 0, STUN_SHA256);
-    validate(&pair, &from, 0, STUN_SHA256);
+    want("another user", stunp_client_set_credentials(&pair.client, text("other"), 5, text("other"), 5), 0);
+    want("another algorithm", stunp_client_set_algorithms(&pair.client, STUNP_SHA1), 0);
+    want("another feature", stunp_client_set_anonymous_username(&pair.client, STUNP_REQUIRED), 0);
+    validate(&pair, &from, 0, STUNP_SHA256);
+    validate(&pair, &from, 0, STUNP_SHA256);
     free_pair(&pair);
     want_no_blocks("late_settings");
 }

@@ -7,8 +7,8 @@
 
 enum { MESSAGES = 100000, MUTATIONS = 50000, ID_AT = 8 };
 
-static stun_agent agent;
-static stun_address server_address, stranger;
+static stunp_agent agent;
+static stunp_address server_address, stranger;
 
 /* A copy that ends where memory does, or one that begins there. */
 static uint8_t *placed(const uint8_t *message, size_t length, bool is_at_end) {
@@ -22,7 +22,7 @@ static uint8_t *placed(const uint8_t *message, size_t length, bool is_at_end) {
 /* Changes some bytes, or the type or length of an attribute, and sometimes the length of the message. */
 static size_t mutate_attributes(uint8_t *message) {
     static const uint8_t places[] = {20, 40, 48, 60, 76, 100};
-    static const uint16_t types[] = {STUN_MESSAGE_INTEGRITY, STUN_MESSAGE_INTEGRITY_SHA256, STUN_FINGERPRINT, STUN_XOR_MAPPED_ADDRESS, STUN_ERROR_CODE, STUN_USERNAME};
+    static const uint16_t types[] = {STUNP_MESSAGE_INTEGRITY, STUNP_MESSAGE_INTEGRITY_SHA256, STUNP_FINGERPRINT, STUNP_XOR_MAPPED_ADDRESS, STUNP_ERROR_CODE, STUNP_USERNAME};
     size_t length = sizeof sample;
     memcpy(message, sample, length);
     for (uint32_t changes = draw(4); changes > 0; changes--) {
@@ -55,12 +55,12 @@ static size_t find_visible(const uint8_t *message, size_t length, struct found *
     for (size_t at = 20; at < length;) {
         uint16_t type = (uint16_t)(message[at] << 8 | message[at + 1]);
         size_t value = (size_t)(message[at + 2] << 8 | message[at + 3]);
-        bool shown = !fingerprint && (!stronger || type == STUN_FINGERPRINT)
-            && (!integrity || type == STUN_MESSAGE_INTEGRITY_SHA256 || type == STUN_FINGERPRINT);
+        bool shown = !fingerprint && (!stronger || type == STUNP_FINGERPRINT)
+            && (!integrity || type == STUNP_MESSAGE_INTEGRITY_SHA256 || type == STUNP_FINGERPRINT);
         if (shown) found[count++] = (struct found){at, value, type};
-        integrity |= type == STUN_MESSAGE_INTEGRITY;
-        stronger |= type == STUN_MESSAGE_INTEGRITY_SHA256;
-        fingerprint |= type == STUN_FINGERPRINT;
+        integrity |= type == STUNP_MESSAGE_INTEGRITY;
+        stronger |= type == STUNP_MESSAGE_INTEGRITY_SHA256;
+        fingerprint |= type == STUNP_FINGERPRINT;
         at += 4 + (value + 3) / 4 * 4;
     }
     return count;
@@ -68,35 +68,35 @@ static size_t find_visible(const uint8_t *message, size_t length, struct found *
 
 /* A walk comes to the same attributes, and so does a search for each of their types to the first of it. */
 static void walk_over(const uint8_t *message, size_t length, const struct found *found, size_t count, long number) {
-    stun_cursor cursor = {0, 0};
+    stunp_cursor cursor = {0, 0};
     uint16_t type = 0;
     size_t value = 0;
     for (size_t i = 0; i < count; i++) {
-        int64_t place = stun_walk(message, length, &cursor, &type, &value);
+        int64_t place = stunp_walk(message, length, &cursor, &type, &value);
         if (place != (int64_t)found[i].place || type != found[i].type || value != found[i].length) fail("a walk elsewhere", number);
         size_t first = 0;
         while (found[first].type != type) first++;
-        if (stun_find(message, length, type, &value) != (int64_t)found[first].place || value != found[first].length)
+        if (stunp_find(message, length, type, &value) != (int64_t)found[first].place || value != found[first].length)
             fail("another is found", number);
     }
     size_t left = value;
     for (int again = 0; again < 2; again++)
-        if (stun_walk(message, length, &cursor, &type, &value) != 0) fail("a walk goes further", number);
-    if (stun_find(message, length, 0x7fff, &value) != STUN_MISSING_ATTRIBUTE || value != left) fail("none is found", number);
+        if (stunp_walk(message, length, &cursor, &type, &value) != 0) fail("a walk goes further", number);
+    if (stunp_find(message, length, 0x7fff, &value) != STUNP_MISSING_ATTRIBUTE || value != left) fail("none is found", number);
 }
 
 /* A cursor of no walk: what it comes to is within the message, wherever it is. */
 static void walk_anywhere(const uint8_t *message, size_t length, long number) {
-    stun_cursor cursor = {draw(2) == 0 ? draw(256) : SIZE_MAX - draw(4), draw(5)}, before = cursor;
+    stunp_cursor cursor = {draw(2) == 0 ? draw(256) : SIZE_MAX - draw(4), draw(5)}, before = cursor;
     uint16_t type = 0;
     size_t value = 0;
-    int64_t place = stun_walk(message, length, &cursor, &type, &value);
+    int64_t place = stunp_walk(message, length, &cursor, &type, &value);
     if (before.place != 0 && (before.place < 20 || before.place > length)) {
-        if (place != STUN_BAD_ARGUMENT || cursor.place != before.place || cursor.hidden != before.hidden || type != 0 || value != 0)
+        if (place != STUNP_BAD_ARGUMENT || cursor.place != before.place || cursor.hidden != before.hidden || type != 0 || value != 0)
             fail("a wrong cursor is taken", number);
         return;
     }
-    for (; place > 0; place = stun_walk(message, length, &cursor, &type, &value)) {
+    for (; place > 0; place = stunp_walk(message, length, &cursor, &type, &value)) {
         if (place < 20 || (size_t)place < before.place || (size_t)place + 4 + value > length || cursor.place > length)
             fail("a walk outside", number);
         before = cursor;
@@ -105,34 +105,34 @@ static void walk_anywhere(const uint8_t *message, size_t length, long number) {
 
 /* The header by one call is that of three, whether or not what follows it stands. */
 static void read_header(const uint8_t *message, size_t length, long number) {
-    stun_header header = {7, 7, 7, {0}};
+    stunp_header header = {7, 7, 7, {0}};
     uint8_t id[12];
-    int64_t answer = stun_read_header(message, length, &header);
-    if (answer != stun_parse(message, length) && answer != 0) fail("a header is refused", number);
+    int64_t answer = stunp_read_header(message, length, &header);
+    if (answer != stunp_parse(message, length) && answer != 0) fail("a header is refused", number);
     if (answer < 0 ? header.message_class != 7 || header.method != 7 || header.length != 7
                    : memcmp(header.id, message + ID_AT, sizeof id) != 0 || header.length != 20u + (size_t)(message[2] << 8 | message[3]))
         fail("another header", number);
-    if (stun_parse(message, length) < 0) return;
-    if (header.message_class != stun_class(message, length) || header.method != stun_method(message, length)
-        || header.length != length || stun_id(message, length, id, sizeof id) != 12 || memcmp(header.id, id, sizeof id) != 0)
+    if (stunp_parse(message, length) < 0) return;
+    if (header.message_class != stunp_class(message, length) || header.method != stunp_method(message, length)
+        || header.length != length || stunp_id(message, length, id, sizeof id) != 12 || memcmp(header.id, id, sizeof id) != 0)
         fail("another header than by three calls", number);
 }
 
 /* What the first visible FINGERPRINT of a message is, by this file's own sum. */
 static int64_t find_fingerprint(const uint8_t *message, size_t length, const struct found *found, size_t count) {
-    while (count > 0 && found->type != STUN_FINGERPRINT) found++, count--;
-    if (count == 0) return STUN_NO_FINGERPRINT;
-    if (found->length != 4 || found->place + 8 != length) return STUN_MISPLACED_FINGERPRINT;
+    while (count > 0 && found->type != STUNP_FINGERPRINT) found++, count--;
+    if (count == 0) return STUNP_NO_FINGERPRINT;
+    if (found->length != 4 || found->place + 8 != length) return STUNP_MISPLACED_FINGERPRINT;
     uint32_t sum = 0xffffffff, stated = 0;
     for (size_t bit = 0; bit < 8 * found->place; bit++)
         sum = (sum >> 1) ^ (((sum ^ (uint32_t)(message[bit / 8] >> bit % 8)) & 1) * 0xedb88320);
     for (int i = 4; i < 8; i++) stated = stated << 8 | message[found->place + (size_t)i];
-    return (~sum ^ 0x5354554e) == stated ? STUN_RIGHT_FINGERPRINT : STUN_WRONG_FINGERPRINT;
+    return (~sum ^ 0x5354554e) == stated ? STUNP_RIGHT_FINGERPRINT : STUNP_WRONG_FINGERPRINT;
 }
 
 /* The types that must be understood and are not, told in full, told in part, and refused in a buffer that ends where memory does. */
 static void find_unknown(const uint8_t *message, size_t length, const struct found *found, size_t count, long number) {
-    static const uint16_t known[] = {STUN_USERNAME, STUN_MESSAGE_INTEGRITY, 0x0000};
+    static const uint16_t known[] = {STUNP_USERNAME, STUNP_MESSAGE_INTEGRITY, 0x0000};
     uint16_t wanted[32], told[32] = {0};
     uint8_t answer[256];
     size_t types = 0, room = draw(64);
@@ -143,14 +143,14 @@ static void find_unknown(const uint8_t *message, size_t length, const struct fou
             wanted[types++] = found[i].type;
     }
     size_t some = draw(5);
-    if (stun_unknown_types(message, length, known, 3, told, some) != (int64_t)types) fail("not as many unknown types", number);
+    if (stunp_unknown_types(message, length, known, 3, told, some) != (int64_t)types) fail("not as many unknown types", number);
     if (memcmp(told, wanted, 2 * (some < types ? some : types)) != 0 || told[some < types ? some : types] != 0) fail("other unknown types", number);
     size_t whole = types == 0 ? 0 : 52 + (2 * types + 3) / 4 * 4;
-    int64_t written = stun_refuse_unknown(message, length, known, 3, answer, room);
-    if (written != (stun_class(message, length) != STUN_REQUEST ? STUN_BAD_ARGUMENT : room < whole ? STUN_BUFFER_TOO_SMALL : (int64_t)whole))
+    int64_t written = stunp_refuse_unknown(message, length, known, 3, answer, room);
+    if (written != (stunp_class(message, length) != STUNP_REQUEST ? STUNP_BAD_ARGUMENT : room < whole ? STUNP_BUFFER_TOO_SMALL : (int64_t)whole))
         fail("not refused", number);
     if (written <= 0) return;
-    if (stun_parse(answer, whole) != 0 || stun_error_code(answer, whole) != 420 || memcmp(answer + ID_AT, message + ID_AT, 12) != 0)
+    if (stunp_parse(answer, whole) != 0 || stunp_error_code(answer, whole) != 420 || memcmp(answer + ID_AT, message + ID_AT, 12) != 0)
         fail("another refusal", number);
     for (size_t i = 0; i < types; i++)
         if (answer[52 + 2 * i] != wanted[i] >> 8 || answer[53 + 2 * i] != (wanted[i] & 255)) fail("another type is refused", number);
@@ -161,13 +161,13 @@ static void read_plainly(const uint8_t *message, size_t length, size_t place, lo
     uint8_t octets[16], hidden[16];
     uint16_t port = 0, hidden_port = 0;
     uint64_t read = 7, wanted = 0;
-    int64_t answer = stun_read_address(message, length, place, octets, sizeof octets, &port);
-    if (answer != stun_read_xor_address(message, length, place, hidden, sizeof hidden, &hidden_port)) fail("two answers of an address", number);
+    int64_t answer = stunp_read_address(message, length, place, octets, sizeof octets, &port);
+    if (answer != stunp_read_xor_address(message, length, place, hidden, sizeof hidden, &hidden_port)) fail("two answers of an address", number);
     if (answer > 0 && (port != (hidden_port ^ 0x2112) || memcmp(octets, message + place + 8, (size_t)answer) != 0))
         fail("another plain address", number);
-    int64_t size = stun_read_number(message, length, place, &read);
-    if ((size == STUN_BAD_ARGUMENT) != (answer == STUN_BAD_ARGUMENT)) fail("a number in no attribute", number);
-    if (size < 0 ? size != STUN_BAD_ARGUMENT && size != STUN_MALFORMED_ATTRIBUTE : size != (message[place + 2] << 8 | message[place + 3]))
+    int64_t size = stunp_read_number(message, length, place, &read);
+    if ((size == STUNP_BAD_ARGUMENT) != (answer == STUNP_BAD_ARGUMENT)) fail("a number in no attribute", number);
+    if (size < 0 ? size != STUNP_BAD_ARGUMENT && size != STUNP_MALFORMED_ATTRIBUTE : size != (message[place + 2] << 8 | message[place + 3]))
         fail("another size", number);
     for (int64_t i = 0; i < size; i++) wanted = wanted << 8 | message[place + 4 + (size_t)i];
     if (read != (size < 0 ? 7 : wanted)) fail("another number", number);
@@ -177,9 +177,9 @@ static void read_plainly(const uint8_t *message, size_t length, size_t place, lo
 static void read_address(const uint8_t *message, size_t length, size_t place, bool is_there, long number) {
     uint8_t octets[16];
     uint16_t port = 0;
-    int64_t answer = stun_read_xor_address(message, length, place, octets, sizeof octets, &port);
-    if (place < 20 && answer != STUN_BAD_ARGUMENT) fail("an address in a header", number);
-    if (answer == STUN_BAD_ARGUMENT ? is_there : answer != STUN_MALFORMED_ATTRIBUTE && answer != 4 && answer != 16) fail("another answer", number);
+    int64_t answer = stunp_read_xor_address(message, length, place, octets, sizeof octets, &port);
+    if (place < 20 && answer != STUNP_BAD_ARGUMENT) fail("an address in a header", number);
+    if (answer == STUNP_BAD_ARGUMENT ? is_there : answer != STUNP_MALFORMED_ATTRIBUTE && answer != 4 && answer != 16) fail("another answer", number);
     read_plainly(message, length, place, number);
     if (answer < 0) return;
     const uint8_t *value = message + place + 4;
@@ -190,14 +190,14 @@ static void read_address(const uint8_t *message, size_t length, size_t place, bo
 
 /* What a stream would have of the bytes hangs on the first 20 of them. */
 static void frame(const uint8_t *message, size_t length, long number) {
-    stun_header header = {0, 0, 0, {0}};
-    int64_t answer = stun_read_header(message, length, &header), frame = stun_next_frame(message, length);
-    if (frame != (length < 20 ? 20 : answer < 0 ? STUN_NOT_STUN : (int64_t)header.length)) fail("another frame", number);
-    if (stun_is_stun(message, length) != (answer == 0 && message[0] <= 3)) fail("another packet", number);
+    stunp_header header = {0, 0, 0, {0}};
+    int64_t answer = stunp_read_header(message, length, &header), frame = stunp_next_frame(message, length);
+    if (frame != (length < 20 ? 20 : answer < 0 ? STUNP_NOT_STUN : (int64_t)header.length)) fail("another frame", number);
+    if (stunp_is_stun(message, length) != (answer == 0 && message[0] <= 3)) fail("another packet", number);
     int64_t wanted = length < 2 ? 2 : 2 + (message[0] << 8 | message[1]);
-    if (stun_next_packet_frame(message, length) != wanted) fail("another packet's frame", number);
+    if (stunp_next_packet_frame(message, length) != wanted) fail("another packet's frame", number);
     wanted = length < 4 ? 4 : message[0] >> 4 != 4 ? frame : 4 + ((message[2] << 8 | message[3]) + 3) / 4 * 4;
-    if (stun_next_turn_frame(message, length) != wanted) fail("another frame of TURN", number);
+    if (stunp_next_turn_frame(message, length) != wanted) fail("another frame of TURN", number);
 }
 
 static void read_values(const uint8_t *message, size_t length, long number) {
@@ -205,43 +205,43 @@ static void read_values(const uint8_t *message, size_t length, long number) {
     uint16_t type = 0, port = 0;
     size_t value = 0;
     uint8_t octets[16], id[12];
-    int64_t parsed = stun_parse(message, length);
-    int64_t code = stun_error_code(message, length);
-    int64_t address = stun_xor_mapped_address(message, length, octets, sizeof octets, &port);
-    stun_cursor cursor = {0, 0};
+    int64_t parsed = stunp_parse(message, length);
+    int64_t code = stunp_error_code(message, length);
+    int64_t address = stunp_xor_mapped_address(message, length, octets, sizeof octets, &port);
+    stunp_cursor cursor = {0, 0};
     read_header(message, length, number);
     walk_anywhere(message, length, number);
     frame(message, length, number);
     read_address(message, length, draw(2) == 0 ? draw(256) : SIZE_MAX - draw(4), false, number);
-    int64_t fingerprint = stun_check_fingerprint(message, length);
+    int64_t fingerprint = stunp_check_fingerprint(message, length);
     if (parsed < 0) {
-        if (stun_next(message, length, 0, &type, &value) != parsed || stun_walk(message, length, &cursor, &type, &value) != parsed
-            || stun_find(message, length, STUN_USERNAME, &value) != parsed || cursor.place != 0 || stun_class(message, length) != parsed
-            || stun_method(message, length) != parsed || stun_id(message, length, id, sizeof id) != parsed || code != parsed
+        if (stunp_next(message, length, 0, &type, &value) != parsed || stunp_walk(message, length, &cursor, &type, &value) != parsed
+            || stunp_find(message, length, STUNP_USERNAME, &value) != parsed || cursor.place != 0 || stunp_class(message, length) != parsed
+            || stunp_method(message, length) != parsed || stunp_id(message, length, id, sizeof id) != parsed || code != parsed
             || address != parsed || type != 0 || value != 0 || port != 0 || fingerprint != parsed
-            || stun_unknown_types(message, length, &type, 0, &type, 1) != parsed
-            || stun_refuse_unknown(message, length, &type, 0, octets, 16) != parsed)
+            || stunp_unknown_types(message, length, &type, 0, &type, 1) != parsed
+            || stunp_refuse_unknown(message, length, &type, 0, octets, 16) != parsed)
             fail("a refused message is read", number);
         return;
     }
     size_t count = find_visible(message, length, found);
     int64_t place = 0;
     for (size_t i = 0; i < count; i++) {
-        place = stun_next(message, length, (size_t)place, &type, &value);
+        place = stunp_next(message, length, (size_t)place, &type, &value);
         if (place != (int64_t)found[i].place || type != found[i].type || value != found[i].length) fail("another attribute", number);
     }
-    if (stun_next(message, length, (size_t)place, &type, &value) != 0) fail("an attribute more", number);
+    if (stunp_next(message, length, (size_t)place, &type, &value) != 0) fail("an attribute more", number);
     walk_over(message, length, found, count, number);
     if (fingerprint != find_fingerprint(message, length, found, count)) fail("another FINGERPRINT", number);
     find_unknown(message, length, found, count, number);
     for (size_t i = 0; i < count; i++) read_address(message, length, found[i].place, true, number);
     bool has_code = false, has_address = false;
     for (size_t i = 0; i < count; i++) {
-        has_code |= found[i].type == STUN_ERROR_CODE;
-        has_address |= found[i].type == STUN_XOR_MAPPED_ADDRESS;
+        has_code |= found[i].type == STUNP_ERROR_CODE;
+        has_address |= found[i].type == STUNP_XOR_MAPPED_ADDRESS;
     }
-    if (has_code != (code != STUN_MISSING_ATTRIBUTE) || (code < 300 && code > 0) || code > 699) fail("another code", number);
-    if (has_address != (address != STUN_MISSING_ATTRIBUTE) || (address > 0 && address != 4 && address != 16)) fail("another address", number);
+    if (has_code != (code != STUNP_MISSING_ATTRIBUTE) || (code < 300 && code > 0) || code > 699) fail("another code", number);
+    if (has_address != (address != STUNP_MISSING_ATTRIBUTE) || (address > 0 && address != 4 && address != 16)) fail("another address", number);
 }
 
 /* An attribute and a digest more, in a buffer that ends where memory does. */
@@ -253,31 +253,31 @@ static long write_more(const uint8_t *message, size_t length, long number) {
     memset(buffer, 0xa5, room);
     memcpy(buffer, message, length);
     memcpy(before, buffer, room);
-    int64_t parsed = stun_parse(buffer, length);
-    int64_t answer = stun_add(buffer, room, length, STUN_USERNAME, (const uint8_t *)"name", 4);
+    int64_t parsed = stunp_parse(buffer, length);
+    int64_t answer = stunp_add(buffer, room, length, STUNP_USERNAME, (const uint8_t *)"name", 4);
     for (size_t i = parsed < 0 ? 0 : find_visible(message, length, found); i > 0; i--) {
         uint16_t type = found[i - 1].type;
-        closed |= type == STUN_MESSAGE_INTEGRITY || type == STUN_MESSAGE_INTEGRITY_SHA256 || type == STUN_FINGERPRINT;
-        named |= type == STUN_USERNAME;
+        closed |= type == STUNP_MESSAGE_INTEGRITY || type == STUNP_MESSAGE_INTEGRITY_SHA256 || type == STUNP_FINGERPRINT;
+        named |= type == STUNP_USERNAME;
     }
-    int64_t wanted = parsed < 0 ? parsed : closed ? STUN_CLOSED : named ? STUN_ATTRIBUTE_EXISTS
-        : room < length + 8 ? STUN_BUFFER_TOO_SMALL : (int64_t)length + 8;
+    int64_t wanted = parsed < 0 ? parsed : closed ? STUNP_CLOSED : named ? STUNP_ATTRIBUTE_EXISTS
+        : room < length + 8 ? STUNP_BUFFER_TOO_SMALL : (int64_t)length + 8;
     if (answer != wanted) fail("another answer of adding", number);
     if (answer < 0) {
         if (memcmp(before, buffer, room) != 0) fail("a refusal writes", number);
         return 0;
     }
-    if (stun_parse(buffer, length + 8) != 0 || memcmp(buffer + length, "\x00\x06\x00\x04name", 8) != 0) fail("not what was added", number);
+    if (stunp_parse(buffer, length + 8) != 0 || memcmp(buffer + length, "\x00\x06\x00\x04name", 8) != 0) fail("not what was added", number);
     if (memcmp(before + length + 8, buffer + length + 8, room - length - 8) != 0) fail("written after the answer", number);
-    int64_t signed_length = stun_sign(buffer, room, length + 8, STUN_SHA1, (const uint8_t *)"key", 3);
-    if (room < length + 32 ? signed_length != STUN_BUFFER_TOO_SMALL : stun_verify(buffer, (size_t)signed_length, (const uint8_t *)"key", 3) != STUN_SHA1)
+    int64_t signed_length = stunp_sign(buffer, room, length + 8, STUNP_SHA1, (const uint8_t *)"key", 3);
+    if (room < length + 32 ? signed_length != STUNP_BUFFER_TOO_SMALL : stunp_verify(buffer, (size_t)signed_length, (const uint8_t *)"key", 3) != STUNP_SHA1)
         fail("not signed", number);
     /* FINGERPRINT ends it, signed or not. */
     size_t end = signed_length < 0 ? length + 8 : (size_t)signed_length;
     memcpy(before, buffer, room);
-    int64_t ended = stun_add_fingerprint(buffer, room, end);
-    if (ended != (room < end + 8 ? STUN_BUFFER_TOO_SMALL : (int64_t)end + 8)) fail("another end", number);
-    if (ended < 0 ? memcmp(before, buffer, room) != 0 : stun_check_fingerprint(buffer, end + 8) != STUN_RIGHT_FINGERPRINT)
+    int64_t ended = stunp_add_fingerprint(buffer, room, end);
+    if (ended != (room < end + 8 ? STUNP_BUFFER_TOO_SMALL : (int64_t)end + 8)) fail("another end", number);
+    if (ended < 0 ? memcmp(before, buffer, room) != 0 : stunp_check_fingerprint(buffer, end + 8) != STUNP_RIGHT_FINGERPRINT)
         fail("not ended", number);
     return 1;
 }
@@ -299,11 +299,11 @@ static void run_messages(void) {
 /* Reads each attribute, which must lie within the message, one after the other, and returns how many there are. */
 static long walk(const uint8_t *message, size_t length, int64_t parsed) {
     uint16_t type = 0;
-    size_t value = 0, end = STUN_HEADER_LENGTH;
+    size_t value = 0, end = STUNP_HEADER_LENGTH;
     long count = 0;
-    int64_t place = stun_next(message, length, 0, &type, &value);
-    if (parsed < 0) want("stun_next of what is no message", place, parsed);
-    for (; place > 0; place = stun_next(message, length, (size_t)place, &type, &value)) {
+    int64_t place = stunp_next(message, length, 0, &type, &value);
+    if (parsed < 0) want("stunp_next of what is no message", place, parsed);
+    for (; place > 0; place = stunp_next(message, length, (size_t)place, &type, &value)) {
         if ((size_t)place < end || (size_t)place + 4 + value > length) fail("an attribute outside", (long)place);
         end = (size_t)place + 4 + value;
         count++;
@@ -313,30 +313,30 @@ static long walk(const uint8_t *message, size_t length, int64_t parsed) {
 
 /* Shows the message to an agent that asked by its id, and to one that did not. */
 static void handle(const uint8_t *message, size_t length, int64_t parsed) {
-    uint8_t id[STUN_ID_LENGTH];
+    uint8_t id[STUNP_ID_LENGTH];
     uint64_t until;
-    stun_address peer;
+    stunp_address peer;
     if (parsed < 0) {
-        want("stun_agent_handle of what is no message", stun_agent_handle(&agent, message, length, &stranger, 0), parsed);
+        want("stunp_agent_handle of what is no message", stunp_agent_handle(&agent, message, length, &stranger, 0), parsed);
         return;
     }
-    bool is_response = stun_class(message, length) >= STUN_SUCCESS;
-    want("unasked", stun_agent_handle(&agent, message, length, &stranger, 0), !is_response);
-    struct message request = message_of(STUN_REQUEST, 0);
+    bool is_response = stunp_class(message, length) >= STUNP_SUCCESS;
+    want("unasked", stunp_agent_handle(&agent, message, length, &stranger, 0), !is_response);
+    struct message request = message_of(STUNP_REQUEST, 0);
     memcpy(request.bytes + ID_AT, message + ID_AT, sizeof id);
-    int64_t sent = stun_agent_send_request(&agent, request.bytes, request.length, &server_address, 0);
-    want("stun_agent_send_request", sent, 0);
-    want("from a stranger", stun_agent_handle(&agent, message, length, &stranger, 0), !is_response);
-    want("still asked", stun_agent_is_outstanding(&agent, message + ID_AT, sizeof id, &peer), 1);
-    want("from the server", stun_agent_handle(&agent, message, length, &server_address, 0), 1);
-    want("answered", stun_agent_is_outstanding(&agent, message + ID_AT, sizeof id, &peer), !is_response);
-    want("cancel", stun_agent_cancel(&agent, message + ID_AT, sizeof id), !is_response);
-    want("ends", stun_agent_poll(&agent, 0, &until, id, sizeof id), is_response ? 0 : STUN_CANCELLED);
+    int64_t sent = stunp_agent_send_request(&agent, request.bytes, request.length, &server_address, 0);
+    want("stunp_agent_send_request", sent, 0);
+    want("from a stranger", stunp_agent_handle(&agent, message, length, &stranger, 0), !is_response);
+    want("still asked", stunp_agent_is_outstanding(&agent, message + ID_AT, sizeof id, &peer), 1);
+    want("from the server", stunp_agent_handle(&agent, message, length, &server_address, 0), 1);
+    want("answered", stunp_agent_is_outstanding(&agent, message + ID_AT, sizeof id, &peer), !is_response);
+    want("cancel", stunp_agent_cancel(&agent, message + ID_AT, sizeof id), !is_response);
+    want("ends", stunp_agent_poll(&agent, 0, &until, id, sizeof id), is_response ? 0 : STUNP_CANCELLED);
 }
 
 /* Through each call that reads without validating: the answers at both places are the same. */
 static int64_t read_all(const uint8_t *message, size_t length) {
-    int64_t parsed = stun_parse(placed(message, length, true), length);
+    int64_t parsed = stunp_parse(placed(message, length, true), length);
     long count = walk(placed(message, length, true), length, parsed);
     if (walk(placed(message, length, false), length, parsed) != count) fail("two walks", count);
     handle(placed(message, length, true), length, parsed);
@@ -346,9 +346,9 @@ static int64_t read_all(const uint8_t *message, size_t length) {
 
 static int64_t server_says(struct pair *pair, const uint8_t *message, size_t length) {
     const uint8_t *at = placed(message, length, true);
-    int64_t answer = stun_server_validate(&pair->server, at, length, &stranger, 0, some_words);
+    int64_t answer = stunp_server_validate(&pair->server, at, length, &stranger, 0, some_words);
     at = placed(message, length, false);
-    want("two answers", stun_server_validate(&pair->server, at, length, &stranger, 0, some_words), answer);
+    want("two answers", stunp_server_validate(&pair->server, at, length, &stranger, 0, some_words), answer);
     want_same("a message is left", at, message, length);
     return answer;
 }
@@ -359,12 +359,12 @@ static void run_table(struct pair *pair) {
     for (size_t i = 0; i < sizeof table / sizeof *table; i++) {
         size_t length = spell(message, table[i].digits, 4);
         want(table[i].name, read_all(message, length), 0);
-        int64_t wanted = table[i].verdict == STUN_NO_INTEGRITY ? STUN_UNAUTHORIZED : STUN_BAD_REQUEST;
+        int64_t wanted = table[i].verdict == STUNP_NO_INTEGRITY ? STUNP_UNAUTHORIZED : STUNP_BAD_REQUEST;
         want(table[i].name, server_says(pair, message, length), wanted);
-        want(table[i].name, stun_client_validate(&pair->client, message, length), STUN_INTEGRITY_FAILED);
+        want(table[i].name, stunp_client_validate(&pair->client, message, length), STUNP_INTEGRITY_FAILED);
         for (size_t front = 0; front < length; front++) {
-            want("a front of a message", read_all(message, front), STUN_TRUNCATED);
-            want("a front of a message", server_says(pair, message, front), STUN_TRUNCATED);
+            want("a front of a message", read_all(message, front), STUNP_TRUNCATED);
+            want("a front of a message", server_says(pair, message, front), STUNP_TRUNCATED);
         }
     }
 }
@@ -386,19 +386,19 @@ static void run_mutations(struct pair *pair, int64_t algorithm) {
         int64_t parsed = read_all(message, length), verdict = server_says(pair, message, length);
         if (parsed < 0) want("no message", verdict, parsed);
         if (verdict > 0 && is_covered_changed(message, length, &request)) fail("a changed request is validated", i);
-        if (parsed == 0 && (verdict == 0 || verdict > algorithm || verdict < STUN_STALE_NONCE)) fail("another answer", (long)verdict);
+        if (parsed == 0 && (verdict == 0 || verdict > algorithm || verdict < STUNP_STALE_NONCE)) fail("another answer", (long)verdict);
         validated += verdict > 0;
         sound += parsed == 0;
 
         length = mutate(message, answer.bytes, answer.length);
         parsed = read_all(message, length);
-        verdict = stun_client_validate(&pair->client, placed(message, length, true), length);
+        verdict = stunp_client_validate(&pair->client, placed(message, length, true), length);
         if (parsed < 0) want("no message", verdict, parsed);
         if (verdict > 0 && is_covered_changed(message, length, &answer)) fail("a changed answer is validated", i);
     }
     if (validated < MUTATIONS / 100 || sound < MUTATIONS / 4) fail("too few are validated", validated);
     want("the request, still", server_says(pair, request.bytes, request.length), algorithm);
-    want("the answer, still", stun_client_validate(&pair->client, answer.bytes, answer.length), algorithm);
+    want("the answer, still", stunp_client_validate(&pair->client, answer.bytes, answer.length), algorithm);
 }
 
 int main(void) {
@@ -406,16 +406,16 @@ int main(void) {
     run_messages();
     server_address = address_of(1);
     stranger = address_of(2);
-    want("stun_agent_new", stun_agent_new(&agent, STUN_UDP, &stranger), 0);
-    for (uint32_t algorithms = STUN_SHA1; algorithms <= (STUN_SHA1 | STUN_SHA256); algorithms++) {
+    want("stunp_agent_new", stunp_agent_new(&agent, STUNP_UDP, &stranger), 0);
+    for (uint32_t algorithms = STUNP_SHA1; algorithms <= (STUNP_SHA1 | STUNP_SHA256); algorithms++) {
         struct pair pair = pair_of(algorithms);
         run_table(&pair);
         challenge(&pair, &stranger, 0);
         run_table(&pair);
-        run_mutations(&pair, algorithms == STUN_SHA1 ? STUN_SHA1 : STUN_SHA256);
+        run_mutations(&pair, algorithms == STUNP_SHA1 ? STUNP_SHA1 : STUNP_SHA256);
         free_pair(&pair);
     }
-    stun_agent_free(&agent);
+    stunp_agent_free(&agent);
     want_no_blocks("the end");
     puts("hostile: passed");
     return 0;

@@ -1,9 +1,9 @@
 /* What is installed is enough to build with: a message of the first archive, an agent of the
- * second, and its memory, of libstun_heap.a or (OWN_MEMORY) of this file. tests/install.sh builds
+ * second, and its memory, of libstunp_heap.a or (OWN_MEMORY) of this file. tests/install.sh builds
  * it. Prints the version of the header. */
 #include <stdio.h>
 #include <stdlib.h>
-#include <stun_state.h>
+#include <stunp_state.h>
 
 #ifdef OWN_MEMORY
 static size_t blocks;
@@ -24,22 +24,22 @@ void rattle_dealloc(void *at) {
     free(at);
 }
 
-static size_t heap_blocks(void) { return blocks; }
+static size_t stunp_heap_blocks(void) { return blocks; }
 #else
-#include <stun_heap.h>
+#include <stunp_heap.h>
 #endif
 
 int main(void) {
-    const stun_address local = {{127, 0, 0, 1}, 3478, 4}, peer = {{127, 0, 0, 2}, 3478, 4};
-    uint8_t id[STUN_ID_LENGTH] = {1}, bytes[STUN_HEADER_LENGTH];
-    stun_agent agent = {0};
-    int64_t length = stun_begin(STUN_REQUEST, STUN_BINDING, id, sizeof id, bytes, sizeof bytes);
-    if (length != STUN_HEADER_LENGTH) return 1;
-    if (stun_agent_new(&agent, STUN_UDP, &local) != 0) return 2;
-    if (stun_agent_send_request(&agent, bytes, sizeof bytes, &peer, 0) != 0) return 3;
-    if (heap_blocks() == 0) return 4;
-    stun_agent_free(&agent);
-    if (heap_blocks() != 0) return 5;
-    printf("%d.%d.%d\n", STUN_VERSION / 10000, STUN_VERSION / 100 % 100, STUN_VERSION % 100);
+    const stunp_address local = {{127, 0, 0, 1}, 3478, 4}, peer = {{127, 0, 0, 2}, 3478, 4};
+    uint8_t id[STUNP_ID_LENGTH] = {1}, bytes[STUNP_HEADER_LENGTH];
+    stunp_agent agent = {0};
+    int64_t length = stunp_begin(STUNP_REQUEST, STUNP_BINDING, id, sizeof id, bytes, sizeof bytes);
+    if (length != STUNP_HEADER_LENGTH) return 1;
+    if (stunp_agent_new(&agent, STUNP_UDP, &local) != 0) return 2;
+    if (stunp_agent_send_request(&agent, bytes, sizeof bytes, &peer, 0) != 0) return 3;
+    if (stunp_heap_blocks() == 0) return 4;
+    stunp_agent_free(&agent);
+    if (stunp_heap_blocks() != 0) return 5;
+    printf("%d.%d.%d\n", STUNP_VERSION / 10000, STUNP_VERSION / 100 % 100, STUNP_VERSION % 100);
     return 0;
 }

@@ -103,9 +103,9 @@ static block *block_of_value(const void *value, size_t length) {
 
 static void *copied(const void *value, size_t length) { return block_of_value(value, length)->at; }
 
-static const stun_address *address(void) {
+static const stunp_address *address(void) {
     char *word = next_word(), *port = strchr(word, ':');
-    stun_address address = {{0}, 0, 0};
+    stunp_address address = {{0}, 0, 0};
     if (port == NULL || port - word > 2 * (ptrdiff_t)sizeof address.octets) fail("no address");
     address.length = (uint16_t)((port - word) / 2);
     for (size_t i = 0; i < address.length; i++) address.octets[i] = byte_of(word + 2 * i);
@@ -113,8 +113,8 @@ static const stun_address *address(void) {
     return copied(&address, sizeof address);
 }
 
-static const stun_timeouts *timeouts(void) {
-    stun_timeouts timeouts = {0, 0, 0, 0};
+static const stunp_timeouts *timeouts(void) {
+    stunp_timeouts timeouts = {0, 0, 0, 0};
     timeouts.initial = number();
     timeouts.longest = number();
     timeouts.last = number();
@@ -139,19 +139,19 @@ static void wrote_all(block *out, bool is_written) { out->written = is_written ?
 
 /* ---- The calls on messages. */
 
-CALL(version, (void)0, stun_version())
-CALL(parse, block *message = bytes(), stun_parse(ALL(message)))
-CALL(class_of, block *message = bytes(), stun_class(ALL(message)))
-CALL(method, block *message = bytes(), stun_method(ALL(message)))
-CALL(error_code, block *message = bytes(), stun_error_code(ALL(message)))
-CALL(verify, block *message = bytes(); block *key = bytes(), stun_verify(ALL(message), ALL(key)))
-CALL(id, block *message = bytes(); block *out = output(), wrote(out, stun_id(ALL(message), ALL(out))))
+CALL(version, (void)0, stunp_version())
+CALL(parse, block *message = bytes(), stunp_parse(ALL(message)))
+CALL(class_of, block *message = bytes(), stunp_class(ALL(message)))
+CALL(method, block *message = bytes(), stunp_method(ALL(message)))
+CALL(error_code, block *message = bytes(), stunp_error_code(ALL(message)))
+CALL(verify, block *message = bytes(); block *key = bytes(), stunp_verify(ALL(message), ALL(key)))
+CALL(id, block *message = bytes(); block *out = output(), wrote(out, stunp_id(ALL(message), ALL(out))))
 
 static int64_t next(void) {
     block *message = bytes();
     size_t place = (size_t)number();
     block *type = block_of(sizeof(uint16_t)), *length = block_of(sizeof(size_t));
-    int64_t answer = stun_next(ALL(message), place, VALUE(uint16_t, type), VALUE(size_t, length));
+    int64_t answer = stunp_next(ALL(message), place, VALUE(uint16_t, type), VALUE(size_t, length));
     wrote_all(type, answer > 0);
     wrote_all(length, answer > 0);
     return answer;
@@ -159,31 +159,31 @@ static int64_t next(void) {
 
 static int64_t xor_mapped_address(void) {
     block *message = bytes(), *out = output(), *port = block_of(sizeof(uint16_t));
-    int64_t answer = stun_xor_mapped_address(ALL(message), ALL(out), VALUE(uint16_t, port));
+    int64_t answer = stunp_xor_mapped_address(ALL(message), ALL(out), VALUE(uint16_t, port));
     wrote_all(port, answer > 0);
     return wrote(out, answer);
 }
 
 CALL(begin, uint32_t class = short_number(); uint32_t method = short_number(); block *id = bytes(); block *out = output(),
-     wrote(out, stun_begin(class, method, ALL(id), ALL(out))))
+     wrote(out, stunp_begin(class, method, ALL(id), ALL(out))))
 CALL(add, block *message = buffer(); uint32_t type = short_number(); block *value = bytes(),
-     wrote(message, stun_add(USED(message), type, ALL(value))))
+     wrote(message, stunp_add(USED(message), type, ALL(value))))
 CALL(add_xor_mapped_address, block *message = buffer(); block *octets = bytes(),
-     wrote(message, stun_add_xor_mapped_address(USED(message), ALL(octets), short_number())))
+     wrote(message, stunp_add_xor_mapped_address(USED(message), ALL(octets), short_number())))
 CALL(add_error, block *message = buffer(); uint32_t code = short_number(); block *reason = bytes(),
-     wrote(message, stun_add_error(USED(message), code, ALL(reason))))
+     wrote(message, stunp_add_error(USED(message), code, ALL(reason))))
 CALL(sign, block *message = buffer(); uint32_t algorithm = short_number(); block *key = bytes(),
-     wrote(message, stun_sign(USED(message), algorithm, ALL(key))))
+     wrote(message, stunp_sign(USED(message), algorithm, ALL(key))))
 CALL(long_term_key, uint32_t algorithm = short_number(); block *name = bytes(); block *realm = bytes(); block *password = bytes();
-     block *out = output(), wrote(out, stun_long_term_key(algorithm, ALL(name), ALL(realm), ALL(password), ALL(out))))
+     block *out = output(), wrote(out, stunp_long_term_key(algorithm, ALL(name), ALL(realm), ALL(password), ALL(out))))
 CALL(userhash, block *name = bytes(); block *realm = bytes(); block *out = output(),
-     wrote(out, stun_userhash(ALL(name), ALL(realm), ALL(out))))
+     wrote(out, stunp_userhash(ALL(name), ALL(realm), ALL(out))))
 
 /* ---- The calls with state. What is made takes the place of the one before. */
 
-static stun_agent agent;
-static stun_server server;
-static stun_client client;
+static stunp_agent agent;
+static stunp_server server;
+static stunp_client client;
 
 #define MAKES(kind, call)                                                     \
     do {                                                                      \
@@ -198,112 +198,112 @@ static stun_client client;
 
 static int64_t agent_new(void) {
     uint32_t transport = short_number();
-    const stun_address *local = address();
-    MAKES(agent, stun_agent_new(&fresh, transport, local));
+    const stunp_address *local = address();
+    MAKES(agent, stunp_agent_new(&fresh, transport, local));
 }
 
 static int64_t agent_new_with(void) {
     uint32_t transport = short_number();
-    const stun_address *local = address(), *remote = address();
-    const stun_timeouts *waits = timeouts();
-    MAKES(agent, stun_agent_new_with(&fresh, transport, local, remote, waits));
+    const stunp_address *local = address(), *remote = address();
+    const stunp_timeouts *waits = timeouts();
+    MAKES(agent, stunp_agent_new_with(&fresh, transport, local, remote, waits));
 }
 
 static int64_t server_new(void) {
     block *realm = bytes();
-    MAKES(server, stun_server_new(&fresh, ALL(realm)));
+    MAKES(server, stunp_server_new(&fresh, ALL(realm)));
 }
 
-static int64_t client_new(void) { MAKES(client, stun_client_new(&fresh)); }
+static int64_t client_new(void) { MAKES(client, stunp_client_new(&fresh)); }
 
-CALL(agent_send_request, block *message = bytes(); const stun_address *to = address(),
-     stun_agent_send_request(&agent, ALL(message), to, number()))
-CALL(agent_send, block *message = bytes(), stun_agent_send(&agent, ALL(message), address()))
-CALL(agent_handle, block *message = bytes(); const stun_address *from = address(),
-     stun_agent_handle(&agent, ALL(message), from, number()))
-CALL(agent_validated_peer, (void)0, stun_agent_validated_peer(&agent, address()))
-CALL(agent_is_validated_peer, (void)0, stun_agent_is_validated_peer(&agent, address()))
-CALL(agent_cancel, block *id = bytes(), stun_agent_cancel(&agent, ALL(id)))
-CALL(agent_cancel_retransmissions, block *id = bytes(), stun_agent_cancel_retransmissions(&agent, ALL(id)))
-CALL(agent_configure, block *id = bytes(), stun_agent_configure(&agent, ALL(id), timeouts()))
+CALL(agent_send_request, block *message = bytes(); const stunp_address *to = address(),
+     stunp_agent_send_request(&agent, ALL(message), to, number()))
+CALL(agent_send, block *message = bytes(), stunp_agent_send(&agent, ALL(message), address()))
+CALL(agent_handle, block *message = bytes(); const stunp_address *from = address(),
+     stunp_agent_handle(&agent, ALL(message), from, number()))
+CALL(agent_validated_peer, (void)0, stunp_agent_validated_peer(&agent, address()))
+CALL(agent_is_validated_peer, (void)0, stunp_agent_is_validated_peer(&agent, address()))
+CALL(agent_cancel, block *id = bytes(), stunp_agent_cancel(&agent, ALL(id)))
+CALL(agent_cancel_retransmissions, block *id = bytes(), stunp_agent_cancel_retransmissions(&agent, ALL(id)))
+CALL(agent_configure, block *id = bytes(), stunp_agent_configure(&agent, ALL(id), timeouts()))
 
 static int64_t agent_poll(void) {
     uint64_t now = number();
     block *until = block_of(sizeof(uint64_t)), *id = output();
-    int64_t answer = stun_agent_poll(&agent, now, VALUE(uint64_t, until), ALL(id));
+    int64_t answer = stunp_agent_poll(&agent, now, VALUE(uint64_t, until), ALL(id));
     wrote_all(until, answer == 0);
-    id->written = answer > 0 ? STUN_ID_LENGTH : 0;
+    id->written = answer > 0 ? STUNP_ID_LENGTH : 0;
     return answer;
 }
 
 static int64_t agent_poll_transmit(void) {
     uint64_t now = number();
-    block *out = output(), *to = block_of(sizeof(stun_address));
-    int64_t answer = stun_agent_poll_transmit(&agent, now, ALL(out), VALUE(stun_address, to));
+    block *out = output(), *to = block_of(sizeof(stunp_address));
+    int64_t answer = stunp_agent_poll_transmit(&agent, now, ALL(out), VALUE(stunp_address, to));
     wrote_all(to, answer > 0);
     return wrote(out, answer);
 }
 
 static int64_t agent_is_outstanding(void) {
-    block *id = bytes(), *peer = block_of(sizeof(stun_address));
-    int64_t answer = stun_agent_is_outstanding(&agent, ALL(id), VALUE(stun_address, peer));
+    block *id = bytes(), *peer = block_of(sizeof(stunp_address));
+    int64_t answer = stunp_agent_is_outstanding(&agent, ALL(id), VALUE(stunp_address, peer));
     wrote_all(peer, answer == 1);
     return answer;
 }
 
 static int64_t agent_statistics(void) {
-    block *counts = block_of(sizeof(stun_statistics));
-    int64_t answer = stun_agent_statistics(&agent, VALUE(stun_statistics, counts));
+    block *counts = block_of(sizeof(stunp_statistics));
+    int64_t answer = stunp_agent_statistics(&agent, VALUE(stunp_statistics, counts));
     wrote_all(counts, answer == 0);
     return answer;
 }
 
-CALL(server_set_algorithms, (void)0, stun_server_set_algorithms(&server, short_number()))
-CALL(server_set_anonymous_username, (void)0, stun_server_set_anonymous_username(&server, short_number()))
-CALL(server_set_nonce_expiry, (void)0, stun_server_set_nonce_expiry(&server, number()))
-CALL(server_add_user, block *name = bytes(); block *password = bytes(), stun_server_add_user(&server, ALL(name), ALL(password)))
-CALL(server_remove_user, block *name = bytes(), stun_server_remove_user(&server, ALL(name)))
-CALL(server_remove_client, (void)0, stun_server_remove_client(&server, address()))
-CALL(server_forget, (void)0, stun_server_forget(&server, address()))
-CALL(server_forget_expired, (void)0, stun_server_forget_expired(&server, number()))
-CALL(server_sign, block *message = buffer(), wrote(message, stun_server_sign(&server, USED(message), address())))
+CALL(server_set_algorithms, (void)0, stunp_server_set_algorithms(&server, short_number()))
+CALL(server_set_anonymous_username, (void)0, stunp_server_set_anonymous_username(&server, short_number()))
+CALL(server_set_nonce_expiry, (void)0, stunp_server_set_nonce_expiry(&server, number()))
+CALL(server_add_user, block *name = bytes(); block *password = bytes(), stunp_server_add_user(&server, ALL(name), ALL(password)))
+CALL(server_remove_user, block *name = bytes(), stunp_server_remove_user(&server, ALL(name)))
+CALL(server_remove_client, (void)0, stunp_server_remove_client(&server, address()))
+CALL(server_forget, (void)0, stunp_server_forget(&server, address()))
+CALL(server_forget_expired, (void)0, stunp_server_forget_expired(&server, number()))
+CALL(server_sign, block *message = buffer(), wrote(message, stunp_server_sign(&server, USED(message), address())))
 
 static int64_t server_forget_expired_within(void) {
     uint64_t now = number();
-    block *from = block_of_value(address(), sizeof(stun_address));
-    int64_t answer = stun_server_forget_expired_within(&server, now, VALUE(stun_address, from), (size_t)number());
+    block *from = block_of_value(address(), sizeof(stunp_address));
+    int64_t answer = stunp_server_forget_expired_within(&server, now, VALUE(stunp_address, from), (size_t)number());
     wrote_all(from, answer >= 0);
     return answer;
 }
 
 static int64_t server_client(void) {
-    const stun_address *at = address();
+    const stunp_address *at = address();
     block *name = output(), *length = block_of(sizeof(size_t));
-    int64_t answer = stun_server_client(&server, at, ALL(name), VALUE(size_t, length));
+    int64_t answer = stunp_server_client(&server, at, ALL(name), VALUE(size_t, length));
     wrote_all(length, answer > 0);
     name->written = answer > 0 ? *VALUE(size_t, length) : 0;
     return answer;
 }
 
-CALL(server_nonce, const stun_address *at = address(); block *nonce = output(),
-     wrote(nonce, stun_server_nonce(&server, at, ALL(nonce))))
+CALL(server_nonce, const stunp_address *at = address(); block *nonce = output(),
+     wrote(nonce, stunp_server_nonce(&server, at, ALL(nonce))))
 
 static int64_t server_validate(void) {
     block *message = bytes();
-    const stun_address *from = address();
+    const stunp_address *from = address();
     uint64_t now = number();
     uint32_t words[16];
     for (int i = 0; i < 16; i++) words[i] = short_number();
-    return stun_server_validate(&server, ALL(message), from, now, copied(words, sizeof words));
+    return stunp_server_validate(&server, ALL(message), from, now, copied(words, sizeof words));
 }
 
 CALL(client_set_credentials, block *name = bytes(); block *password = bytes(),
-     stun_client_set_credentials(&client, ALL(name), ALL(password)))
-CALL(client_set_algorithms, (void)0, stun_client_set_algorithms(&client, short_number()))
-CALL(client_set_anonymous_username, (void)0, stun_client_set_anonymous_username(&client, short_number()))
-CALL(client_signing_algorithm, (void)0, stun_client_signing_algorithm(&client))
-CALL(client_sign, block *message = buffer(), wrote(message, stun_client_sign(&client, USED(message))))
-CALL(client_validate, block *message = bytes(), stun_client_validate(&client, ALL(message)))
+     stunp_client_set_credentials(&client, ALL(name), ALL(password)))
+CALL(client_set_algorithms, (void)0, stunp_client_set_algorithms(&client, short_number()))
+CALL(client_set_anonymous_username, (void)0, stunp_client_set_anonymous_username(&client, short_number()))
+CALL(client_signing_algorithm, (void)0, stunp_client_signing_algorithm(&client))
+CALL(client_sign, block *message = buffer(), wrote(message, stunp_client_sign(&client, USED(message))))
+CALL(client_validate, block *message = bytes(), stunp_client_validate(&client, ALL(message)))
 
 /* ---- Lines. */
 
@@ -354,30 +354,30 @@ static void finish(int64_t answer) {
 #define IS_SAME(one, other) ((one).is_full == (other).is_full && (one).state == (other).state)
 
 static void make(int64_t (*call)(void)) {
-    stun_agent old_agent = agent;
-    stun_server old_server = server;
-    stun_client old_client = client;
-    size_t asked = heap_asked();
+    stunp_agent old_agent = agent;
+    stunp_server old_server = server;
+    stunp_client old_client = client;
+    size_t asked = stunp_heap_asked();
     int64_t answer = call();
     if (answer < 0 && !(IS_SAME(agent, old_agent) && IS_SAME(server, old_server) && IS_SAME(client, old_client)))
         fail("a refusal changes a handle");
-    printf("%lld %zu", (long long)answer, heap_asked() - asked);
+    printf("%lld %zu", (long long)answer, stunp_heap_asked() - asked);
     finish(answer);
 }
 
 static void play(const char *name) {
     if (strcmp(name, "refuse") == 0) {
-        heap_refuse((size_t)number());
+        stunp_heap_refuse((size_t)number());
         printf("0 0");
         return;
     }
     if (strcmp(name, "reset") == 0) {
-        stun_agent_free(&agent);
-        stun_server_free(&server);
-        stun_client_free(&client);
+        stunp_agent_free(&agent);
+        stunp_server_free(&server);
+        stunp_client_free(&client);
     }
     if (strcmp(name, "reset") == 0 || strcmp(name, "blocks") == 0) {
-        printf("%zu %zu", heap_blocks(), heap_bytes());
+        printf("%zu %zu", stunp_heap_blocks(), stunp_heap_bytes());
         return;
     }
     for (size_t i = 0; i < sizeof calls / sizeof *calls; i++)

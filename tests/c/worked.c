@@ -1,15 +1,15 @@
-/* The worked examples of stun.h and stun_state.h, which check.sh takes out of the headers, each run against a peer in this
+/* The worked examples of stunp.h and stunp_state.h, which check.sh takes out of the headers, each run against a peer in this
  * process. It is C99, over heap.c, and C++17, over an allocator of its own. */
-#include "stun_state.h"
+#include "stunp_state.h"
 #include <stdio.h>
 #include <stdlib.h>
 #include <string.h>
 
-/* What the loop of stun_state.h leaves to its user. */
+/* What the loop of stunp_state.h leaves to its user. */
 static uint64_t moment(void);
 static void fill_randomly(uint8_t *out, size_t length);
-static void send_to(const stun_address *to, const uint8_t *bytes, size_t length);
-static size_t receive(stun_address *from, uint8_t *bytes, size_t room, uint64_t until);
+static void send_to(const stunp_address *to, const uint8_t *bytes, size_t length);
+static size_t receive(stunp_address *from, uint8_t *bytes, size_t room, uint64_t until);
 
 #include "answer.h"
 #include "ask.h"
@@ -36,41 +36,41 @@ static void want(const char *what, int64_t answer, int64_t wanted) {
     exit(1);
 }
 
-/* ---- stun.h */
+/* ---- stunp.h */
 
 static void answers(void) {
     static const uint8_t address[4] = {192, 0, 2, 1};
-    uint8_t request[64], out[128], id[STUN_ID_LENGTH] = {7}, octets[16];
+    uint8_t request[64], out[128], id[STUNP_ID_LENGTH] = {7}, octets[16];
     uint16_t port, type;
-    size_t length = (size_t)stun_begin(STUN_REQUEST, STUN_BINDING, id, sizeof id, request, sizeof request), value_length;
+    size_t length = (size_t)stunp_begin(STUNP_REQUEST, STUNP_BINDING, id, sizeof id, request, sizeof request), value_length;
     size_t written = answer(request, length, address, sizeof address, 32853, out, sizeof out);
-    want("the address", stun_xor_mapped_address(out, written, octets, sizeof octets, &port), 4);
+    want("the address", stunp_xor_mapped_address(out, written, octets, sizeof octets, &port), 4);
     want("its octets", memcmp(octets, address, 4), 0);
     want("its port", port, 32853);
-    length = (size_t)stun_add(request, sizeof request, length, 0x0024, TEXT("\1\2\3\4"));
-    length = (size_t)stun_add(request, sizeof request, length, STUN_SOFTWARE, TEXT("test"));
-    length = (size_t)stun_add(request, sizeof request, length, 0x7fff, TEXT(""));
+    length = (size_t)stunp_add(request, sizeof request, length, 0x0024, TEXT("\1\2\3\4"));
+    length = (size_t)stunp_add(request, sizeof request, length, STUNP_SOFTWARE, TEXT("test"));
+    length = (size_t)stunp_add(request, sizeof request, length, 0x7fff, TEXT(""));
     written = answer(request, length, address, sizeof address, 32853, out, sizeof out);
-    want("unknown types", stun_error_code(out, written), 420);
-    want("the code", stun_next(out, written, 0, &type, &value_length), 20);
-    int64_t place = stun_next(out, written, 20, &type, &value_length);
-    want("UNKNOWN-ATTRIBUTES", type, STUN_UNKNOWN_ATTRIBUTES);
+    want("unknown types", stunp_error_code(out, written), 420);
+    want("the code", stunp_next(out, written, 0, &type, &value_length), 20);
+    int64_t place = stunp_next(out, written, 20, &type, &value_length);
+    want("UNKNOWN-ATTRIBUTES", type, STUNP_UNKNOWN_ATTRIBUTES);
     want("its length", (int64_t)value_length, 4);
     want("the types", memcmp(out + place + 4, "\x00\x24\x7f\xff", 4), 0);
 }
 
-/* ---- stun_state.h */
+/* ---- stunp_state.h */
 
 enum peer { HONEST, SILENT, CHALLENGING, FORGETFUL };
 
 static enum peer peer;
 static uint64_t clock_now;
 static int transmissions;
-static stun_server server;
-static stun_address server_address, client_address, stranger_address;
+static stunp_server server;
+static stunp_address server_address, client_address, stranger_address;
 
 /* The datagrams on their way to the client. */
-static struct { uint8_t bytes[512]; size_t length; const stun_address *from; } waiting[4];
+static struct { uint8_t bytes[512]; size_t length; const stunp_address *from; } waiting[4];
 static size_t first_waiting, after_waiting;
 
 static uint64_t moment(void) { return clock_now; }
@@ -80,17 +80,17 @@ static void fill_randomly(uint8_t *out, size_t length) {
 }
 
 /* An answer to a request that no server wrote, or one with a nonce of its own. */
-static void reply(const uint8_t *request, int64_t code, const stun_address *from) {
-    uint8_t id[STUN_ID_LENGTH], *out = waiting[after_waiting].bytes;
+static void reply(const uint8_t *request, int64_t code, const stunp_address *from) {
+    uint8_t id[STUNP_ID_LENGTH], *out = waiting[after_waiting].bytes;
     const size_t room = sizeof waiting[0].bytes;
-    stun_id(request, 20 + (size_t)(request[2] << 8 | request[3]), id, sizeof id);
-    int64_t length = stun_begin(code == 0 ? STUN_SUCCESS : STUN_ERROR, STUN_BINDING, id, sizeof id, out, room);
-    length = code == 0 ? stun_add_xor_mapped_address(out, room, (size_t)length, client_address.octets, 4, client_address.port)
-                       : stun_add_error(out, room, (size_t)length, (uint32_t)code, TEXT(""));
+    stunp_id(request, 20 + (size_t)(request[2] << 8 | request[3]), id, sizeof id);
+    int64_t length = stunp_begin(code == 0 ? STUNP_SUCCESS : STUNP_ERROR, STUNP_BINDING, id, sizeof id, out, room);
+    length = code == 0 ? stunp_add_xor_mapped_address(out, room, (size_t)length, client_address.octets, 4, client_address.port)
+                       : stunp_add_error(out, room, (size_t)length, (uint32_t)code, TEXT(""));
     if (peer == CHALLENGING) {
         uint8_t nonce = (uint8_t)('a' + transmissions);
-        length = stun_add(out, room, (size_t)length, STUN_REALM, TEXT("realm"));
-        length = stun_add(out, room, (size_t)length, STUN_NONCE, &nonce, 1);
+        length = stunp_add(out, room, (size_t)length, STUNP_REALM, TEXT("realm"));
+        length = stunp_add(out, room, (size_t)length, STUNP_NONCE, &nonce, 1);
     }
     want("a reply", length > 20, 1);
     waiting[after_waiting].from = from;
@@ -98,7 +98,7 @@ static void reply(const uint8_t *request, int64_t code, const stun_address *from
 }
 
 /* The first transmission of each run is lost. Before an answer come two forged ones: from elsewhere, and unsigned. */
-static void send_to(const stun_address *to, const uint8_t *bytes, size_t length) {
+static void send_to(const stunp_address *to, const uint8_t *bytes, size_t length) {
     want("the server's address", memcmp(to, &server_address, sizeof *to), 0);
     if (transmissions++ == 0 || peer == SILENT) return;
     first_waiting = after_waiting = 0;
@@ -111,10 +111,10 @@ static void send_to(const stun_address *to, const uint8_t *bytes, size_t length)
     waiting[after_waiting].from = &server_address;
     waiting[after_waiting].length = serve(&server, bytes, length, &client_address, waiting[after_waiting].bytes, sizeof waiting[0].bytes);
     after_waiting++;
-    if (peer == FORGETFUL && transmissions == 2) want("forgetting", stun_server_forget_expired(&server, UINT64_MAX), 0);
+    if (peer == FORGETFUL && transmissions == 2) want("forgetting", stunp_server_forget_expired(&server, UINT64_MAX), 0);
 }
 
-static size_t receive(stun_address *from, uint8_t *bytes, size_t room, uint64_t until) {
+static size_t receive(stunp_address *from, uint8_t *bytes, size_t room, uint64_t until) {
     if (first_waiting == after_waiting) {
         clock_now = until;
         return 0;
@@ -127,66 +127,66 @@ static size_t receive(stun_address *from, uint8_t *bytes, size_t room, uint64_t 
     return length;
 }
 
-static void asks(stun_agent *agent, const char *password, enum peer with, int64_t wanted, int wanted_transmissions) {
-    static stun_client client;
+static void asks(stunp_agent *agent, const char *password, enum peer with, int64_t wanted, int wanted_transmissions) {
+    static stunp_client client;
     uint8_t octets[16];
     uint16_t port = 0;
     peer = with;
     transmissions = 0;
     first_waiting = after_waiting = 0;
-    want("a client", stun_client_new(&client), 0);
-    want("algorithms", stun_client_set_algorithms(&client, STUN_SHA1 | STUN_SHA256), 0);
-    want("credentials", stun_client_set_credentials(&client, TEXT("name"), (const uint8_t *)password, strlen(password)), 0);
+    want("a client", stunp_client_new(&client), 0);
+    want("algorithms", stunp_client_set_algorithms(&client, STUNP_SHA1 | STUNP_SHA256), 0);
+    want("credentials", stunp_client_set_credentials(&client, TEXT("name"), (const uint8_t *)password, strlen(password)), 0);
     want("ask", ask(agent, &client, &server_address, octets, &port), wanted);
     want("transmissions", transmissions, wanted_transmissions);
     if (wanted == 4) want("the octets", memcmp(octets, client_address.octets, 4), 0);
     if (wanted == 4) want("the port", port, client_address.port);
-    stun_client_free(&client);
+    stunp_client_free(&client);
 }
 
-/* What a loop without stun_agent_poll_transmit comes to: it does not wait, nothing is sent again, and nothing ends. */
+/* What a loop without stunp_agent_poll_transmit comes to: it does not wait, nothing is sent again, and nothing ends. */
 static void polls_alone(void) {
-    uint8_t bytes[64], id[STUN_ID_LENGTH] = {1};
+    uint8_t bytes[64], id[STUNP_ID_LENGTH] = {1};
     uint64_t until = 0;
-    stun_address to;
-    static stun_agent agent;
-    size_t length = (size_t)stun_begin(STUN_REQUEST, STUN_BINDING, id, sizeof id, bytes, sizeof bytes);
-    want("an agent", stun_agent_new(&agent, STUN_UDP, &client_address), 0);
-    want("a request", stun_agent_send_request(&agent, bytes, length, &server_address, 0), 0);
+    stunp_address to;
+    static stunp_agent agent;
+    size_t length = (size_t)stunp_begin(STUNP_REQUEST, STUNP_BINDING, id, sizeof id, bytes, sizeof bytes);
+    want("an agent", stunp_agent_new(&agent, STUNP_UDP, &client_address), 0);
+    want("a request", stunp_agent_send_request(&agent, bytes, length, &server_address, 0), 0);
     for (int i = 0; i < 100; i++) {
         uint64_t now = until;
-        want("polls alone", stun_agent_poll(&agent, now, &until, id, sizeof id), 0);
+        want("polls alone", stunp_agent_poll(&agent, now, &until, id, sizeof id), 0);
         want("the moment", (int64_t)until, 500000000);
     }
-    want("polls late", stun_agent_poll(&agent, UINT64_MAX, &until, id, sizeof id), 0);
-    want("the request again", stun_agent_poll_transmit(&agent, 500000000, bytes, sizeof bytes, &to), (int64_t)length);
-    want("polls then", stun_agent_poll(&agent, 500000000, &until, id, sizeof id), 0);
+    want("polls late", stunp_agent_poll(&agent, UINT64_MAX, &until, id, sizeof id), 0);
+    want("the request again", stunp_agent_poll_transmit(&agent, 500000000, bytes, sizeof bytes, &to), (int64_t)length);
+    want("polls then", stunp_agent_poll(&agent, 500000000, &until, id, sizeof id), 0);
     want("the next moment", (int64_t)until, 1500000000);
-    stun_agent_free(&agent);
+    stunp_agent_free(&agent);
 }
 
 int main(void) {
-    stun_timeouts timeouts = STUN_DEFAULT_TIMEOUTS;
-    static stun_agent agent;
+    stunp_timeouts timeouts = STUNP_DEFAULT_TIMEOUTS;
+    static stunp_agent agent;
     answers();
     server_address.length = client_address.length = stranger_address.length = 4;
     server_address.port = 3478, client_address.port = 50000, stranger_address.port = 3479;
     client_address.octets[3] = 9;
-    want("an agent", stun_agent_new_with(&agent, STUN_UDP, &client_address, &server_address, &timeouts), 0);
-    want("a server", stun_server_new(&server, TEXT("realm")), 0);
-    want("algorithms", stun_server_set_algorithms(&server, STUN_SHA1 | STUN_SHA256), 0);
-    want("a user", stun_server_add_user(&server, TEXT("name"), TEXT("password")), 0);
+    want("an agent", stunp_agent_new_with(&agent, STUNP_UDP, &client_address, &server_address, &timeouts), 0);
+    want("a server", stunp_server_new(&server, TEXT("realm")), 0);
+    want("algorithms", stunp_server_set_algorithms(&server, STUNP_SHA1 | STUNP_SHA256), 0);
+    want("a user", stunp_server_add_user(&server, TEXT("name"), TEXT("password")), 0);
     /* One agent asks them all: none leaves a request behind. */
-    asks(&agent, "wrong", HONEST, STUN_UNAUTHORIZED, 3);
-    asks(&agent, "password", SILENT, STUN_TIMED_OUT, 7);
+    asks(&agent, "wrong", HONEST, STUNP_UNAUTHORIZED, 3);
+    asks(&agent, "password", SILENT, STUNP_TIMED_OUT, 7);
     asks(&agent, "password", HONEST, 4, 3);
     /* A new client at the same address, and one whose address is forgotten between the challenge and its answer. */
     asks(&agent, "password", HONEST, 4, 3);
     asks(&agent, "password", FORGETFUL, 4, 4);
-    asks(&agent, "password", CHALLENGING, STUN_UNAUTHORIZED, 5);
+    asks(&agent, "password", CHALLENGING, STUNP_UNAUTHORIZED, 5);
     polls_alone();
-    stun_agent_free(&agent);
-    stun_server_free(&server);
+    stunp_agent_free(&agent);
+    stunp_server_free(&server);
     puts("worked: passed");
     return 0;
 }

@@ -1,4 +1,4 @@
-/* A driver for libFuzzer over all calls of stun.h and stun_state.h: an input is a sequence of
+/* A driver for libFuzzer over all calls of stunp.h and stunp_state.h: an input is a sequence of
  * steps, and a step a byte that chooses the call, one that sets it, two of a length, and so many
  * bytes, of which most are a message. A server, a client and an agent are kept over the steps of
  * one input. What one call says is compared with what others say; a message lies between pages that
@@ -9,7 +9,7 @@
  * named, and mutations of them in a fixed order. run.sh builds and runs it. */
 #include "../../bench/hostile.h"
 #include "heap.h"
-#include "stun_state.h"
+#include "stunp_state.h"
 
 enum { MOST_ATTRIBUTES = 64, ROOM = 4096, BEHIND = 64, AMPLE = 256, MOST_ADDED = 2304 };
 enum { PATTERN = 0xa5, ID_AT = 8 };
@@ -24,7 +24,7 @@ static void require(bool is_so, const char *what) {
 
 /* The kinds of the steps. */
 enum step {
-    READ, VERIFY, WRITE, BEGIN, TEXTS, /* of stun.h */
+    READ, VERIFY, WRITE, BEGIN, TEXTS, /* of stunp.h */
     SERVER_HEARS, CLIENT_HEARS, EXCHANGE, AGENT_SENDS, AGENT_HEARS, AGENT_IS_ASKED,
     TIME, SERVER_IS_SET, CLIENT_IS_SET, USERS, FORGET, MEMORY, HANDLES,
     STEPS
@@ -37,29 +37,29 @@ struct bytes {
 };
 
 static struct {
-    stun_server server;
-    stun_client client;
-    stun_agent agent;
-    const stun_address *remote; /* to which alone the agent sends, or NULL */
+    stunp_server server;
+    stunp_client client;
+    stunp_agent agent;
+    const stunp_address *remote; /* to which alone the agent sends, or NULL */
     uint64_t now;
 } world;
 
-static const stun_address addresses[] = {
+static const stunp_address addresses[] = {
     {{192, 0, 2, 1}, 3478, 4},
     {{192, 0, 2, 1}, 3479, 4},
     {{0, 0, 0, 0, 0, 0, 0, 0, 0, 0, 0xff, 0xff, 192, 0, 2, 1}, 3478, 16},
     {{0x20, 1, 0xd, 0xb8, 0, 0, 0, 0, 0, 0, 0, 0, 0, 0, 0, 1}, 65535, 16},
     {{0}, 0, 5},
 };
-static const stun_address *address_of(uint8_t setting) {
+static const stunp_address *address_of(uint8_t setting) {
     return addresses + setting % (sizeof addresses / sizeof *addresses);
 }
-static bool is_address(const stun_address *address) {
+static bool is_address(const stunp_address *address) {
     return address->length == 4 || address->length == 16;
 }
 
 /* What is written goes here; behind the room that a call has, nothing may change. */
-static uint8_t out[STUN_LONGEST_MESSAGE + ROOM], before[sizeof out], blank[ROOM];
+static uint8_t out[STUNP_LONGEST_MESSAGE + ROOM], before[sizeof out], blank[ROOM];
 
 static void fill_out(void) { memset(out, PATTERN, ROOM); }
 
@@ -69,13 +69,13 @@ static void require_rest(size_t from, const char *what) {
 
 /* An answer is a number of the header. */
 static int64_t named(int64_t answer) {
-    require(answer >= STUN_NO_WAIT, "a refusal without a name");
+    require(answer >= STUNP_NO_WAIT, "a refusal without a name");
     return answer;
 }
 
 /* ---- The calls that read. */
 
-/* The visible attributes of a message, by stun_walk: no more than have room. */
+/* The visible attributes of a message, by stunp_walk: no more than have room. */
 static struct {
     size_t place, length;
     uint16_t type;
@@ -83,12 +83,12 @@ static struct {
 static size_t count;
 
 static void walk(struct bytes m, int64_t parsed) {
-    stun_cursor cursor = {0, 0};
-    size_t end = STUN_HEADER_LENGTH, length = 77;
+    stunp_cursor cursor = {0, 0};
+    size_t end = STUNP_HEADER_LENGTH, length = 77;
     uint16_t type = 7;
     int64_t place;
     count = 0;
-    while ((place = stun_walk(m.at, m.length, &cursor, &type, &length)) > 0) {
+    while ((place = stunp_walk(m.at, m.length, &cursor, &type, &length)) > 0) {
         require((size_t)place >= end && (size_t)place + 4 + length <= m.length,
                 "an attribute outside");
         end = (size_t)place + 4 + (length + 3) / 4 * 4;
@@ -109,63 +109,63 @@ static size_t first_of(uint32_t type) {
     return i;
 }
 
-/* stun_next and stun_find against the walk. */
+/* stunp_next and stunp_find against the walk. */
 static void find(struct bytes m, int64_t parsed) {
     static const uint16_t types[] = {
-        STUN_USERNAME, STUN_MESSAGE_INTEGRITY, STUN_ERROR_CODE, STUN_FINGERPRINT, 0, 0xffff};
+        STUNP_USERNAME, STUNP_MESSAGE_INTEGRITY, STUNP_ERROR_CODE, STUNP_FINGERPRINT, 0, 0xffff};
     int64_t place = 0;
     for (size_t i = 0; i < count; i++) {
         uint16_t type;
         size_t length;
-        place = stun_next(m.at, m.length, (size_t)place, &type, &length);
+        place = stunp_next(m.at, m.length, (size_t)place, &type, &length);
         require(place == (int64_t)found[i].place && type == found[i].type
                     && length == found[i].length,
-                "stun_next goes elsewhere");
+                "stunp_next goes elsewhere");
         size_t first = first_of(type);
-        place = stun_find(m.at, m.length, type, &length);
+        place = stunp_find(m.at, m.length, type, &length);
         require(place == (int64_t)found[first].place && length == found[first].length,
-                "stun_find finds another");
+                "stunp_find finds another");
         place = (int64_t)found[i].place;
     }
     for (size_t i = 0; i < sizeof types / sizeof *types; i++) {
         size_t length = 77, first = first_of(types[i]);
-        int64_t at = stun_find(m.at, m.length, types[i], &length);
+        int64_t at = stunp_find(m.at, m.length, types[i], &length);
         if (count == MOST_ATTRIBUTES && first == count) continue;
         require(at
                     == (parsed < 0       ? parsed
-                        : first == count ? STUN_MISSING_ATTRIBUTE
+                        : first == count ? STUNP_MISSING_ATTRIBUTE
                                          : (int64_t)found[first].place),
-                "stun_find");
+                "stunp_find");
         require(at > 0 || length == 77, "a refused find writes");
     }
     size_t length;
-    require(stun_find(m.at, m.length, 65536, &length) == STUN_BAD_ARGUMENT, "a type that is none");
+    require(stunp_find(m.at, m.length, 65536, &length) == STUNP_BAD_ARGUMENT, "a type that is none");
 }
 
 static void read_header(struct bytes m, int64_t parsed) {
-    stun_header header;
+    stunp_header header;
     memset(&header, PATTERN, sizeof header);
-    int64_t answer = stun_read_header(m.at, m.length, &header),
-            frame = stun_next_frame(m.at, m.length);
-    uint8_t id[STUN_ID_LENGTH] = {0};
+    int64_t answer = stunp_read_header(m.at, m.length, &header),
+            frame = stunp_next_frame(m.at, m.length);
+    uint8_t id[STUNP_ID_LENGTH] = {0};
     require(answer == 0 || parsed == answer, "a message without a header");
     require(frame
                 == (m.length < 20 ? 20
-                    : answer < 0  ? STUN_NOT_STUN
+                    : answer < 0  ? STUNP_NOT_STUN
                                   : (int64_t)header.length),
             "another frame");
-    require(stun_is_stun(m.at, m.length) == (answer == 0 && m.at[0] <= 3), "stun_is_stun");
-    require(stun_next_packet_frame(m.at, m.length) >= 2
-                && named(stun_next_turn_frame(m.at, m.length)) != 0,
+    require(stunp_is_stun(m.at, m.length) == (answer == 0 && m.at[0] <= 3), "stunp_is_stun");
+    require(stunp_next_packet_frame(m.at, m.length) >= 2
+                && named(stunp_next_turn_frame(m.at, m.length)) != 0,
             "a frame");
-    require(stun_class(m.at, m.length) == (parsed < 0 ? parsed : (int64_t)header.message_class),
+    require(stunp_class(m.at, m.length) == (parsed < 0 ? parsed : (int64_t)header.message_class),
             "another class");
-    require(stun_method(m.at, m.length) == (parsed < 0 ? parsed : (int64_t)header.method),
+    require(stunp_method(m.at, m.length) == (parsed < 0 ? parsed : (int64_t)header.method),
             "another method");
-    require(stun_id(m.at, m.length, id, sizeof id) == (parsed < 0 ? parsed : 12), "no id");
+    require(stunp_id(m.at, m.length, id, sizeof id) == (parsed < 0 ? parsed : 12), "no id");
     require(parsed < 0 || (header.length == m.length && memcmp(id, header.id, sizeof id) == 0),
             "another header");
-    require(stun_id(m.at, m.length, id, 11) == (parsed < 0 ? parsed : STUN_BUFFER_TOO_SMALL),
+    require(stunp_id(m.at, m.length, id, 11) == (parsed < 0 ? parsed : STUNP_BUFFER_TOO_SMALL),
             "a short id");
 }
 
@@ -174,15 +174,15 @@ static void read_plainly(struct bytes m, size_t place) {
     uint8_t octets[2][16];
     uint16_t ports[2] = {0, 0};
     uint64_t number = 7, wanted = 0;
-    int64_t answer = named(stun_read_address(m.at, m.length, place, octets[0], 16, ports));
-    int64_t size = named(stun_read_number(m.at, m.length, place, &number));
-    require(stun_read_xor_address(m.at, m.length, place, octets[1], 16, ports + 1) == answer,
+    int64_t answer = named(stunp_read_address(m.at, m.length, place, octets[0], 16, ports));
+    int64_t size = named(stunp_read_number(m.at, m.length, place, &number));
+    require(stunp_read_xor_address(m.at, m.length, place, octets[1], 16, ports + 1) == answer,
             "two answers of an address");
     require(answer < 0
                 || (ports[0] == (ports[1] ^ 0x2112)
                     && memcmp(octets[0], m.at + place + 8, (size_t)answer) == 0),
             "another plain address");
-    require((size == STUN_BAD_ARGUMENT) == (answer == STUN_BAD_ARGUMENT), "a number of nothing");
+    require((size == STUNP_BAD_ARGUMENT) == (answer == STUNP_BAD_ARGUMENT), "a number of nothing");
     for (int64_t i = 0; i < size; i++) wanted = wanted << 8 | m.at[place + 4 + (size_t)i];
     require(number == (size < 0 ? 7 : wanted), "another number");
 }
@@ -190,28 +190,28 @@ static void read_plainly(struct bytes m, size_t place) {
 static void read_values(struct bytes m, int64_t parsed, uint8_t setting) {
     uint8_t octets[2][16];
     uint16_t ports[2] = {7, 7};
-    size_t code_at = first_of(STUN_ERROR_CODE), xor_at = first_of(STUN_XOR_MAPPED_ADDRESS),
+    size_t code_at = first_of(STUNP_ERROR_CODE), xor_at = first_of(STUNP_XOR_MAPPED_ADDRESS),
            room = setting % 17;
     bool is_all = count < MOST_ATTRIBUTES;
-    int64_t code = named(stun_error_code(m.at, m.length));
+    int64_t code = named(stunp_error_code(m.at, m.length));
     require(code < 0 || (code >= 300 && code <= 699), "a code that is none");
     if (parsed < 0 || is_all)
         require(parsed < 0 ? code == parsed
-                           : (code == STUN_MISSING_ATTRIBUTE) == (code_at == count),
+                           : (code == STUNP_MISSING_ATTRIBUTE) == (code_at == count),
                 "another code");
     memset(octets, PATTERN, sizeof octets);
-    int64_t answer = named(stun_xor_mapped_address(m.at, m.length, octets[0], room, ports));
+    int64_t answer = named(stunp_xor_mapped_address(m.at, m.length, octets[0], room, ports));
     require(answer <= (int64_t)room, "an address without room");
     for (size_t i = answer < 0 ? 0 : (size_t)answer; i < 16; i++)
         require(octets[0][i] == PATTERN, "behind an address");
     require(answer > 0 || ports[0] == 7, "a refused address writes");
     if (parsed < 0 || xor_at == count) {
         if (parsed < 0 || is_all)
-            require(answer == (parsed < 0 ? parsed : STUN_MISSING_ATTRIBUTE),
+            require(answer == (parsed < 0 ? parsed : STUNP_MISSING_ATTRIBUTE),
                     "an address of nothing");
     } else {
         require(
-            stun_read_xor_address(m.at, m.length, found[xor_at].place, octets[1], room, ports + 1)
+            stunp_read_xor_address(m.at, m.length, found[xor_at].place, octets[1], room, ports + 1)
                 == answer,
             "two answers");
         require(answer < 0
@@ -219,7 +219,7 @@ static void read_values(struct bytes m, int64_t parsed, uint8_t setting) {
                 "two addresses");
     }
     for (size_t place = setting; place < m.length + 8; place += 61) {
-        require(named(stun_read_xor_address(m.at, m.length, place, octets[1], 16, ports)) != 0,
+        require(named(stunp_read_xor_address(m.at, m.length, place, octets[1], 16, ports)) != 0,
                 "an address of no bytes");
         read_plainly(m, place);
     }
@@ -232,27 +232,27 @@ static void change_id(struct bytes m) {
 }
 
 static void check_fingerprint(struct bytes m, int64_t parsed) {
-    int64_t answer = named(stun_check_fingerprint(m.at, m.length));
-    require(parsed == 0 ? answer >= 0 && answer <= STUN_MISPLACED_FINGERPRINT : answer == parsed,
+    int64_t answer = named(stunp_check_fingerprint(m.at, m.length));
+    require(parsed == 0 ? answer >= 0 && answer <= STUNP_MISPLACED_FINGERPRINT : answer == parsed,
             "FINGERPRINT");
     if (parsed < 0) return;
     if (count < MOST_ATTRIBUTES)
-        require((answer == STUN_NO_FINGERPRINT) == (first_of(STUN_FINGERPRINT) == count),
+        require((answer == STUNP_NO_FINGERPRINT) == (first_of(STUNP_FINGERPRINT) == count),
                 "no FINGERPRINT");
     change_id(m);
-    int64_t changed = stun_check_fingerprint(before, m.length);
-    if (answer == STUN_RIGHT_FINGERPRINT)
-        require(changed == STUN_WRONG_FINGERPRINT, "a FINGERPRINT of two messages");
-    else if (answer != STUN_WRONG_FINGERPRINT)
+    int64_t changed = stunp_check_fingerprint(before, m.length);
+    if (answer == STUNP_RIGHT_FINGERPRINT)
+        require(changed == STUNP_WRONG_FINGERPRINT, "a FINGERPRINT of two messages");
+    else if (answer != STUNP_WRONG_FINGERPRINT)
         require(changed == answer, "FINGERPRINT by the id");
 }
 
 static void read_unknown(struct bytes m, int64_t parsed, uint8_t setting) {
-    static const uint16_t known[] = {STUN_USERNAME, STUN_MESSAGE_INTEGRITY, STUN_REALM, STUN_NONCE};
+    static const uint16_t known[] = {STUNP_USERNAME, STUNP_MESSAGE_INTEGRITY, STUNP_REALM, STUNP_NONCE};
     uint16_t types[MOST_ATTRIBUTES + 1];
     memset(types, PATTERN, sizeof types);
     size_t room = setting % (MOST_ATTRIBUTES + 1), wanted = 0;
-    int64_t answer = stun_unknown_types(m.at, m.length, known, 4, types, room);
+    int64_t answer = stunp_unknown_types(m.at, m.length, known, 4, types, room);
     require(parsed == 0 || answer == parsed, "unknown types of no message");
     for (size_t i = 0; i < count; i++) {
         uint16_t type = found[i].type;
@@ -269,27 +269,27 @@ static void read_unknown(struct bytes m, int64_t parsed, uint8_t setting) {
     require(types[room] == 0xa5a5, "a type too many");
     fill_out();
     size_t space = (size_t)setting * 8;
-    int64_t length = named(stun_refuse_unknown(m.at, m.length, known, 4, out, space));
+    int64_t length = named(stunp_refuse_unknown(m.at, m.length, known, 4, out, space));
     require_rest(length < 0 ? 0 : (size_t)length, "behind a 420");
     require(length <= (int64_t)space, "a 420 without room");
     if (parsed == 0 && length >= 0) require((length == 0) == (answer == 0), "another 420");
-    if (length > 0) require(stun_error_code(out, (size_t)length) == 420, "no 420");
+    if (length > 0) require(stunp_error_code(out, (size_t)length) == 420, "no 420");
 }
 
 static void read_all(struct bytes m, uint8_t setting) {
-    int64_t parsed = named(stun_parse(m.at, m.length));
-    require(parsed <= 0 && parsed >= STUN_TOO_LARGE, "another answer of stun_parse");
+    int64_t parsed = named(stunp_parse(m.at, m.length));
+    require(parsed <= 0 && parsed >= STUNP_TOO_LARGE, "another answer of stunp_parse");
     walk(m, parsed);
     find(m, parsed);
     read_header(m, parsed);
     read_values(m, parsed, setting);
     check_fingerprint(m, parsed);
     read_unknown(m, parsed, setting);
-    stun_cursor anywhere = {setting, (uint32_t)setting << 24 | setting % 5};
+    stunp_cursor anywhere = {setting, (uint32_t)setting << 24 | setting % 5};
     uint16_t type;
     size_t length;
     for (int i = 0; i < MOST_ATTRIBUTES; i++) {
-        int64_t place = named(stun_walk(m.at, m.length, &anywhere, &type, &length));
+        int64_t place = named(stunp_walk(m.at, m.length, &anywhere, &type, &length));
         if (place <= 0) break;
         require((size_t)place + 4 + length <= m.length, "a walk from anywhere goes outside");
     }
@@ -308,20 +308,20 @@ static void verify(struct bytes m, uint8_t setting) {
     };
     const uint8_t *key = (const uint8_t *)keys[setting % 4].bytes;
     size_t length = keys[setting % 4].length;
-    int64_t parsed = stun_parse(m.at, m.length),
-            answer = named(stun_verify(m.at, m.length, key, length));
+    int64_t parsed = stunp_parse(m.at, m.length),
+            answer = named(stunp_verify(m.at, m.length, key, length));
     walk(m, parsed);
-    size_t weaker = first_of(STUN_MESSAGE_INTEGRITY),
-           stronger = first_of(STUN_MESSAGE_INTEGRITY_SHA256);
+    size_t weaker = first_of(STUNP_MESSAGE_INTEGRITY),
+           stronger = first_of(STUNP_MESSAGE_INTEGRITY_SHA256);
     require(parsed == 0 || answer == parsed, "a digest of no message");
-    require(answer != 0 && answer <= STUN_SHA256, "another answer of stun_verify");
+    require(answer != 0 && answer <= STUNP_SHA256, "another answer of stunp_verify");
     if (parsed < 0 || count == MOST_ATTRIBUTES) return;
-    require((answer == STUN_NO_INTEGRITY) == (weaker == count && stronger == count),
+    require((answer == STUNP_NO_INTEGRITY) == (weaker == count && stronger == count),
             "no integrity");
     if (answer < 0) return;
-    require(answer == (stronger < count ? STUN_SHA256 : STUN_SHA1), "another algorithm");
+    require(answer == (stronger < count ? STUNP_SHA256 : STUNP_SHA1), "another algorithm");
     change_id(m);
-    require(stun_verify(before, m.length, key, length) == STUN_INTEGRITY_FAILED,
+    require(stunp_verify(before, m.length, key, length) == STUNP_INTEGRITY_FAILED,
             "a digest of two messages");
 }
 
@@ -343,30 +343,30 @@ enum addition {
 /* What they add: of a setting, and of the bytes of a step. */
 struct more {
     uint32_t type, code, algorithm;
-    const stun_address *address;
+    const stunp_address *address;
     const uint8_t *value, *reason;
     size_t length, reason_length, size;
     uint64_t number;
 };
 
 static int64_t add(enum addition which, size_t room, size_t length, const struct more *more) {
-    const stun_address *at = more->address;
+    const stunp_address *at = more->address;
     switch (which) {
-    case PLAINLY: return stun_add(out, room, length, more->type, more->value, more->length);
+    case PLAINLY: return stunp_add(out, room, length, more->type, more->value, more->length);
     case XOR_PEER:
-        return stun_add_xor_address(out, room, length, STUN_XOR_PEER_ADDRESS, at->octets,
+        return stunp_add_xor_address(out, room, length, STUNP_XOR_PEER_ADDRESS, at->octets,
                                     at->length, at->port);
     case XOR_MAPPED:
-        return stun_add_xor_mapped_address(out, room, length, at->octets, at->length, at->port);
+        return stunp_add_xor_mapped_address(out, room, length, at->octets, at->length, at->port);
     case PLAIN_ADDRESS:
-        return stun_add_address(out, room, length, STUN_MAPPED_ADDRESS, at->octets, at->length,
+        return stunp_add_address(out, room, length, STUNP_MAPPED_ADDRESS, at->octets, at->length,
                                 at->port);
     case NUMBER:
-        return stun_add_number(out, room, length, STUN_PRIORITY, more->number, more->size);
+        return stunp_add_number(out, room, length, STUNP_PRIORITY, more->number, more->size);
     case ERROR_OF:
-        return stun_add_error(out, room, length, more->code, more->reason, more->reason_length);
-    case SIGNATURE: return stun_sign(out, room, length, more->algorithm, TEXT("key"));
-    default: return stun_add_fingerprint(out, room, length);
+        return stunp_add_error(out, room, length, more->code, more->reason, more->reason_length);
+    case SIGNATURE: return stunp_sign(out, room, length, more->algorithm, TEXT("key"));
+    default: return stunp_add_fingerprint(out, room, length);
     }
 }
 
@@ -383,7 +383,7 @@ static size_t add_exactly(enum addition which, size_t length, const struct more 
     }
     size_t end = (size_t)answer;
     memcpy(out, before, whole);
-    require(add(which, end - 1, length, more) == STUN_BUFFER_TOO_SMALL, "it needs no room");
+    require(add(which, end - 1, length, more) == STUNP_BUFFER_TOO_SMALL, "it needs no room");
     require(memcmp(out, before, whole) == 0, "a refusal for want of room writes");
     require(add(which, end, length, more) == answer, "it needs more room");
     require(memcmp(out + end, before + end, whole - end) == 0, "written behind the message");
@@ -393,8 +393,8 @@ static size_t add_exactly(enum addition which, size_t length, const struct more 
 }
 
 static void write_more(struct bytes m, uint8_t setting) {
-    static const uint16_t types[] = {STUN_USERNAME, STUN_SOFTWARE, STUN_MESSAGE_INTEGRITY,
-                                     STUN_FINGERPRINT};
+    static const uint16_t types[] = {STUNP_USERNAME, STUNP_SOFTWARE, STUNP_MESSAGE_INTEGRITY,
+                                     STUNP_FINGERPRINT};
     const struct more more = {.type = types[setting % 4],
                               .code = 290 + 2u * setting,
                               .algorithm = 1 + setting % 3,
@@ -406,10 +406,10 @@ static void write_more(struct bytes m, uint8_t setting) {
                               .size = setting % 16u,
                               .number = (uint64_t)setting << setting % 57u};
     const uint32_t wanted[ADDITIONS] = {
-        more.type, STUN_XOR_PEER_ADDRESS, STUN_XOR_MAPPED_ADDRESS, STUN_MAPPED_ADDRESS,
-        STUN_PRIORITY, STUN_ERROR_CODE,
-        more.algorithm == 1 ? STUN_MESSAGE_INTEGRITY : STUN_MESSAGE_INTEGRITY_SHA256,
-        STUN_FINGERPRINT};
+        more.type, STUNP_XOR_PEER_ADDRESS, STUNP_XOR_MAPPED_ADDRESS, STUNP_MAPPED_ADDRESS,
+        STUNP_PRIORITY, STUNP_ERROR_CODE,
+        more.algorithm == 1 ? STUNP_MESSAGE_INTEGRITY : STUNP_MESSAGE_INTEGRITY_SHA256,
+        STUNP_FINGERPRINT};
     size_t length = m.length, value;
     memset(out, PATTERN, m.length + ADDITIONS * AMPLE + BEHIND);
     memcpy(out, m.at, m.length);
@@ -417,15 +417,15 @@ static void write_more(struct bytes m, uint8_t setting) {
         size_t end = add_exactly((enum addition)which, length, &more);
         if (end == length) continue;
         uint32_t type = (uint32_t)(out[length] << 8 | out[length + 1]);
-        require(type == wanted[which] && stun_parse(out, end) == 0, "another message is written");
-        require(stun_find(out, end, type, &value) > 0, "what was added is hidden");
+        require(type == wanted[which] && stunp_parse(out, end) == 0, "another message is written");
+        require(stunp_find(out, end, type, &value) > 0, "what was added is hidden");
         length = end;
         if (which == SIGNATURE)
-            require(stun_verify(out, length, TEXT("key")) == (int64_t)more.algorithm, "a digest");
+            require(stunp_verify(out, length, TEXT("key")) == (int64_t)more.algorithm, "a digest");
         if (which == CHECKSUM)
-            require(stun_check_fingerprint(out, length) == STUN_RIGHT_FINGERPRINT, "a FINGERPRINT");
+            require(stunp_check_fingerprint(out, length) == STUNP_RIGHT_FINGERPRINT, "a FINGERPRINT");
     }
-    require(add(PLAINLY, length, length + 1, &more) == STUN_BAD_ARGUMENT,
+    require(add(PLAINLY, length, length + 1, &more) == STUNP_BAD_ARGUMENT,
             "a message longer than its room");
 }
 
@@ -434,45 +434,45 @@ static void begin(struct bytes m, uint8_t setting) {
     uint32_t kind = setting % 5, method = m.length < 2 ? 1 : (uint32_t)(m.at[0] << 8 | m.at[1]);
     size_t room = setting / 5;
     fill_out();
-    int64_t length = named(stun_begin(kind, method, m.at, m.length, out, room));
-    bool is_fit = kind <= STUN_ERROR && method < 4096 && m.length == STUN_ID_LENGTH;
+    int64_t length = named(stunp_begin(kind, method, m.at, m.length, out, room));
+    bool is_fit = kind <= STUNP_ERROR && method < 4096 && m.length == STUNP_ID_LENGTH;
     require(length
-                == (!is_fit     ? STUN_BAD_ARGUMENT
-                    : room < 20 ? STUN_BUFFER_TOO_SMALL
+                == (!is_fit     ? STUNP_BAD_ARGUMENT
+                    : room < 20 ? STUNP_BUFFER_TOO_SMALL
                                 : 20),
             "another beginning");
     require_rest(length < 0 ? 0 : 20, "behind a header");
     if (length < 0) return;
-    require(stun_class(out, 20) == kind && stun_method(out, 20) == (int64_t)method,
+    require(stunp_class(out, 20) == kind && stunp_method(out, 20) == (int64_t)method,
             "another header is written");
-    require(memcmp(out + ID_AT, m.at, STUN_ID_LENGTH) == 0, "another id is written");
+    require(memcmp(out + ID_AT, m.at, STUNP_ID_LENGTH) == 0, "another id is written");
 }
 
 /* Keys, hashes and signed requests of strangers' texts. */
 static void write_texts(struct bytes m, uint8_t setting) {
     uint32_t algorithm = setting % 4;
-    uint8_t keys[2][64], hash[64], id[STUN_ID_LENGTH] = {setting};
+    uint8_t keys[2][64], hash[64], id[STUNP_ID_LENGTH] = {setting};
     memset(keys, PATTERN, sizeof keys);
     memset(hash, PATTERN, sizeof hash);
     size_t half = m.length / 2, room = setting / 4;
-    int64_t length = named(stun_long_term_key(algorithm, m.at, half, m.at + half, m.length - half,
+    int64_t length = named(stunp_long_term_key(algorithm, m.at, half, m.at + half, m.length - half,
                                               TEXT("word"), keys[0], room));
-    require(length < 0 || length == (algorithm == STUN_SHA1 ? 16 : 32), "a key of another length");
+    require(length < 0 || length == (algorithm == STUNP_SHA1 ? 16 : 32), "a key of another length");
     for (size_t i = length < 0 ? 0 : (size_t)length; i < sizeof hash; i++)
         require(keys[0][i] == PATTERN, "behind a key");
-    int64_t hashed = named(stun_userhash(m.at, half, m.at + half, m.length - half, hash, room));
+    int64_t hashed = named(stunp_userhash(m.at, half, m.at + half, m.length - half, hash, room));
     require(hashed < 0 || hashed == 32, "a hash of another length");
     for (size_t i = hashed < 0 ? 0 : 32; i < sizeof hash; i++)
         require(hash[i] == PATTERN, "behind a hash");
     if (length > 0) require((hashed == 32) == (room >= 32), "a key and no hash");
     fill_out();
-    size_t space = STUN_LONGEST_SIGNED - setting;
+    size_t space = STUNP_LONGEST_SIGNED - setting;
     int64_t built =
-        named(stun_build_signed(algorithm, id, sizeof id, m.at, half, TEXT("key"), out, space));
+        named(stunp_build_signed(algorithm, id, sizeof id, m.at, half, TEXT("key"), out, space));
     require_rest(built < 0 ? 0 : (size_t)built, "behind a request");
     if (built > 0)
         require(built <= (int64_t)space
-                    && stun_verify(out, (size_t)built, TEXT("key")) == (int64_t)algorithm,
+                    && stunp_verify(out, (size_t)built, TEXT("key")) == (int64_t)algorithm,
                 "a request");
 }
 
@@ -489,66 +489,66 @@ static size_t signed_length(int64_t answer, size_t room, size_t length) {
     require((size_t)answer >= length && (size_t)answer <= room
                 && (size_t)answer <= length + MOST_ADDED,
             "signed to another length");
-    require(stun_parse(out, (size_t)answer) == 0, "what was signed is no message");
+    require(stunp_parse(out, (size_t)answer) == 0, "what was signed is no message");
     return (size_t)answer;
 }
 
 /* The server's answer to a request with this id, in `out`, and its length, or 0. */
-static size_t answer_to(const uint8_t *id, int64_t verdict, const stun_address *to, size_t room) {
-    uint32_t code = verdict == STUN_BAD_REQUEST ? 400 : verdict == STUN_STALE_NONCE ? 438 : 401;
+static size_t answer_to(const uint8_t *id, int64_t verdict, const stunp_address *to, size_t room) {
+    uint32_t code = verdict == STUNP_BAD_REQUEST ? 400 : verdict == STUNP_STALE_NONCE ? 438 : 401;
     fill_out();
-    int64_t length = stun_begin(verdict > 0 ? STUN_SUCCESS : STUN_ERROR, STUN_BINDING, id,
-                                STUN_ID_LENGTH, out, room);
+    int64_t length = stunp_begin(verdict > 0 ? STUNP_SUCCESS : STUNP_ERROR, STUNP_BINDING, id,
+                                STUNP_ID_LENGTH, out, room);
     if (length > 0 && verdict > 0)
-        length = stun_add_xor_mapped_address(out, room, (size_t)length, to->octets, to->length,
+        length = stunp_add_xor_mapped_address(out, room, (size_t)length, to->octets, to->length,
                                              to->port);
     else if (length > 0)
-        length = stun_add_error(out, room, (size_t)length, code, TEXT("no"));
+        length = stunp_add_error(out, room, (size_t)length, code, TEXT("no"));
     if (length < 0) return 0;
     memcpy(before, out, ROOM);
-    return signed_length(stun_server_sign(&world.server, out, room, (size_t)length, to), room,
+    return signed_length(stunp_server_sign(&world.server, out, room, (size_t)length, to), room,
                          (size_t)length);
 }
 
-static int64_t server_hears(const uint8_t *message, size_t length, const stun_address *from) {
+static int64_t server_hears(const uint8_t *message, size_t length, const stunp_address *from) {
     uint8_t name[1024], nonce[64];
     size_t name_length = 77;
     bool is_full = world.server.is_full;
-    int64_t parsed = stun_parse(message, length);
+    int64_t parsed = stunp_parse(message, length);
     int64_t verdict =
-        named(stun_server_validate(&world.server, message, length, from, world.now, words));
-    require(verdict != 0 && verdict <= STUN_SHA256, "another verdict of the server");
+        named(stunp_server_validate(&world.server, message, length, from, world.now, words));
+    require(verdict != 0 && verdict <= STUNP_SHA256, "another verdict of the server");
     if (!is_full || !is_address(from) || parsed < 0)
         require(verdict
-                    == (!is_full            ? STUN_EMPTY_HANDLE
-                        : !is_address(from) ? STUN_BAD_ARGUMENT
+                    == (!is_full            ? STUNP_EMPTY_HANDLE
+                        : !is_address(from) ? STUNP_BAD_ARGUMENT
                                             : parsed),
                 "a message is heard");
-    int64_t noted = named(stun_server_nonce(&world.server, from, nonce, sizeof nonce));
-    int64_t who = named(stun_server_client(&world.server, from, name, sizeof name, &name_length));
+    int64_t noted = named(stunp_server_nonce(&world.server, from, nonce, sizeof nonce));
+    int64_t who = named(stunp_server_client(&world.server, from, name, sizeof name, &name_length));
     require(noted <= 29, "a nonce that is longer");
     require(who > 0 ? name_length <= sizeof name : name_length == 77, "a name without room");
-    if (verdict > 0 && stun_class(message, length) < STUN_SUCCESS)
-        require(who == verdict || who == STUN_BUFFER_TOO_SMALL, "nobody was validated");
+    if (verdict > 0 && stunp_class(message, length) < STUNP_SUCCESS)
+        require(who == verdict || who == STUNP_BUFFER_TOO_SMALL, "nobody was validated");
     return verdict;
 }
 
 static int64_t client_hears(const uint8_t *message, size_t length) {
     bool is_full = world.client.is_full;
-    int64_t parsed = stun_parse(message, length),
-            answer = named(stun_client_validate(&world.client, message, length));
-    require(answer != 0 && answer <= STUN_RESEND_SHA256, "another verdict of the client");
+    int64_t parsed = stunp_parse(message, length),
+            answer = named(stunp_client_validate(&world.client, message, length));
+    require(answer != 0 && answer <= STUNP_RESEND_SHA256, "another verdict of the client");
     if (!is_full || parsed < 0)
-        require(answer == (is_full ? parsed : STUN_EMPTY_HANDLE), "no message is heard");
+        require(answer == (is_full ? parsed : STUNP_EMPTY_HANDLE), "no message is heard");
     return answer;
 }
 
 /* The step's bytes as a message to the server, and its answer to the client. */
 static void to_server(struct bytes m, uint8_t setting) {
-    stun_header header;
-    const stun_address *from = address_of(setting);
+    stunp_header header;
+    const stunp_address *from = address_of(setting);
     int64_t verdict = server_hears(m.at, m.length, from);
-    if (stun_read_header(m.at, m.length, &header) < 0 || !is_address(from)) return;
+    if (stunp_read_header(m.at, m.length, &header) < 0 || !is_address(from)) return;
     size_t length =
         answer_to(header.id, verdict, from, setting % 2 == 0 ? ROOM / 2 : (size_t)setting);
     if (length > 0 && setting % 4 < 2) client_hears(out, length);
@@ -569,13 +569,13 @@ static bool change(struct bytes m, size_t length) {
 /* A request of the client, the server's answer, and what the client says: either message is changed
  * on its way, or neither. */
 static void exchange(struct bytes m, uint8_t setting) {
-    uint8_t id[STUN_ID_LENGTH] = {setting, 1};
-    const stun_address *from = address_of(setting);
+    uint8_t id[STUNP_ID_LENGTH] = {setting, 1};
+    const stunp_address *from = address_of(setting);
     bool is_both_full = world.server.is_full && world.client.is_full, is_request_changed = false;
     fill_out();
-    int64_t begun = stun_begin(STUN_REQUEST, STUN_BINDING, id, sizeof id, out, ROOM / 2);
+    int64_t begun = stunp_begin(STUNP_REQUEST, STUNP_BINDING, id, sizeof id, out, ROOM / 2);
     memcpy(before, out, ROOM);
-    size_t length = signed_length(stun_client_sign(&world.client, out, ROOM / 2, (size_t)begun),
+    size_t length = signed_length(stunp_client_sign(&world.client, out, ROOM / 2, (size_t)begun),
                                   ROOM / 2, (size_t)begun);
     if (length == 0) return;
     if (setting & 64) is_request_changed = change(m, length);
@@ -591,101 +591,101 @@ static void exchange(struct bytes m, uint8_t setting) {
     memcpy(at, out, length);
     int64_t answer = client_hears(at, length);
     if (is_answer_changed)
-        require(answer != STUN_SHA1 && answer != STUN_SHA256, "a changed answer is validated");
-    if (setting & 32) stun_server_remove_client(&world.server, from);
+        require(answer != STUNP_SHA1 && answer != STUNP_SHA256, "a changed answer is validated");
+    if (setting & 32) stunp_server_remove_client(&world.server, from);
 }
 
 static void agent_sends(struct bytes m, uint8_t setting) {
-    stun_address to = {{0}, 0, 0};
-    const stun_address *peer = address_of(setting);
-    int64_t parsed = stun_parse(m.at, m.length), kind = stun_class(m.at, m.length);
+    stunp_address to = {{0}, 0, 0};
+    const stunp_address *peer = address_of(setting);
+    int64_t parsed = stunp_parse(m.at, m.length), kind = stunp_class(m.at, m.length);
     bool is_full = world.agent.is_full, is_allowed = world.remote == NULL || world.remote == peer;
     int64_t was =
-        parsed < 0 ? 0 : stun_agent_is_outstanding(&world.agent, m.at + ID_AT, STUN_ID_LENGTH, &to);
-    int64_t answer = named(stun_agent_send_request(&world.agent, m.at, m.length, peer, world.now));
-    require(answer <= 0, "another answer of stun_agent_send_request");
+        parsed < 0 ? 0 : stunp_agent_is_outstanding(&world.agent, m.at + ID_AT, STUNP_ID_LENGTH, &to);
+    int64_t answer = named(stunp_agent_send_request(&world.agent, m.at, m.length, peer, world.now));
+    require(answer <= 0, "another answer of stunp_agent_send_request");
     if (!is_full || !is_address(peer)) {
-        require(answer == (is_full ? STUN_BAD_ARGUMENT : STUN_EMPTY_HANDLE),
+        require(answer == (is_full ? STUNP_BAD_ARGUMENT : STUNP_EMPTY_HANDLE),
                 "sent by nobody or to nobody");
         return;
     }
     if (parsed < 0)
         require(answer == parsed, "no message is sent");
-    else if (kind != STUN_REQUEST || !is_allowed)
-        require(answer == STUN_PROTOCOL_VIOLATION, "no request is sent, or to another");
+    else if (kind != STUNP_REQUEST || !is_allowed)
+        require(answer == STUNP_PROTOCOL_VIOLATION, "no request is sent, or to another");
     else if (was == 1)
-        require(answer == STUN_ALREADY_IN_PROGRESS, "sent twice");
+        require(answer == STUNP_ALREADY_IN_PROGRESS, "sent twice");
     if (answer == 0) {
-        require(stun_agent_is_outstanding(&world.agent, m.at + ID_AT, STUN_ID_LENGTH, &to) == 1,
+        require(stunp_agent_is_outstanding(&world.agent, m.at + ID_AT, STUNP_ID_LENGTH, &to) == 1,
                 "not outstanding");
         require(memcmp(&to, peer, sizeof to) == 0, "sent elsewhere");
     }
-    int64_t told = named(stun_agent_send(&world.agent, m.at, m.length, peer));
+    int64_t told = named(stunp_agent_send(&world.agent, m.at, m.length, peer));
     require(told
                 == (parsed < 0                            ? parsed
-                    : kind == STUN_REQUEST || !is_allowed ? STUN_PROTOCOL_VIOLATION
+                    : kind == STUNP_REQUEST || !is_allowed ? STUNP_PROTOCOL_VIOLATION
                                                           : 0),
             "told otherwise");
 }
 
 static void agent_hears(struct bytes m, uint8_t setting) {
-    stun_address to = {{0}, 0, 0};
-    const stun_address *from = address_of(setting);
-    int64_t parsed = stun_parse(m.at, m.length), kind = stun_class(m.at, m.length), asked = 0;
+    stunp_address to = {{0}, 0, 0};
+    const stunp_address *from = address_of(setting);
+    int64_t parsed = stunp_parse(m.at, m.length), kind = stunp_class(m.at, m.length), asked = 0;
     if (parsed == 0)
-        asked = stun_agent_is_outstanding(&world.agent, m.at + ID_AT, STUN_ID_LENGTH, &to);
+        asked = stunp_agent_is_outstanding(&world.agent, m.at + ID_AT, STUNP_ID_LENGTH, &to);
     bool is_asked = asked == 1 && memcmp(&to, from, sizeof to) == 0, is_full = world.agent.is_full;
-    int64_t answer = named(stun_agent_handle(&world.agent, m.at, m.length, from, world.now));
-    if (answer == STUN_OUT_OF_MEMORY) return;
+    int64_t answer = named(stunp_agent_handle(&world.agent, m.at, m.length, from, world.now));
+    if (answer == STUNP_OUT_OF_MEMORY) return;
     require(answer
-                == (!is_full            ? STUN_EMPTY_HANDLE
-                    : !is_address(from) ? STUN_BAD_ARGUMENT
+                == (!is_full            ? STUNP_EMPTY_HANDLE
+                    : !is_address(from) ? STUNP_BAD_ARGUMENT
                     : parsed < 0        ? parsed
-                                        : kind < STUN_SUCCESS || is_asked),
-            "another answer of stun_agent_handle");
+                                        : kind < STUNP_SUCCESS || is_asked),
+            "another answer of stunp_agent_handle");
     if (answer < 0) return;
-    int64_t now_asked = stun_agent_is_outstanding(&world.agent, m.at + ID_AT, STUN_ID_LENGTH, &to);
-    require(now_asked == (kind >= STUN_SUCCESS && is_asked ? 0 : asked), "another request ends");
-    if (answer == 1) require(stun_agent_is_validated_peer(&world.agent, from) == 1, "not a peer");
+    int64_t now_asked = stunp_agent_is_outstanding(&world.agent, m.at + ID_AT, STUNP_ID_LENGTH, &to);
+    require(now_asked == (kind >= STUNP_SUCCESS && is_asked ? 0 : asked), "another request ends");
+    if (answer == 1) require(stunp_agent_is_validated_peer(&world.agent, from) == 1, "not a peer");
 }
 
 /* What is due, some of it, and what the agent is told of one request. */
 static void agent_is_asked(struct bytes m, uint8_t setting) {
-    const stun_timeouts timeouts = {setting % 16 * 100000000u, setting % 5 * 1000000000u,
+    const stunp_timeouts timeouts = {setting % 16 * 100000000u, setting % 5 * 1000000000u,
                                     setting * 10000000u, setting % 9};
-    stun_statistics statistics;
-    stun_address to;
-    uint8_t id[STUN_ID_LENGTH] = {0};
+    stunp_statistics statistics;
+    stunp_address to;
+    uint8_t id[STUNP_ID_LENGTH] = {0};
     memcpy(id, m.at, m.length < sizeof id ? m.length : sizeof id);
-    if (setting & 1) named(stun_agent_cancel(&world.agent, id, sizeof id));
-    if (setting & 2) named(stun_agent_cancel_retransmissions(&world.agent, id, sizeof id));
-    if (setting & 4) named(stun_agent_configure(&world.agent, id, sizeof id, &timeouts));
-    if (setting & 8) named(stun_agent_validated_peer(&world.agent, address_of(setting / 16)));
-    require(stun_agent_cancel(&world.agent, id, m.length % 12) < 0, "an id that is none");
+    if (setting & 1) named(stunp_agent_cancel(&world.agent, id, sizeof id));
+    if (setting & 2) named(stunp_agent_cancel_retransmissions(&world.agent, id, sizeof id));
+    if (setting & 4) named(stunp_agent_configure(&world.agent, id, sizeof id, &timeouts));
+    if (setting & 8) named(stunp_agent_validated_peer(&world.agent, address_of(setting / 16)));
+    require(stunp_agent_cancel(&world.agent, id, m.length % 12) < 0, "an id that is none");
     for (int i = 0; i < 16; i++) {
         fill_out();
         int64_t length = named(
-            stun_agent_poll_transmit(&world.agent, world.now, out, ROOM / 4 + setting * 2, &to));
+            stunp_agent_poll_transmit(&world.agent, world.now, out, ROOM / 4 + setting * 2, &to));
         require_rest(length < 0 ? 0 : (size_t)length, "behind a transmission");
         if (length <= 0) break;
-        require(stun_class(out, (size_t)length) == STUN_REQUEST && is_address(&to),
+        require(stunp_class(out, (size_t)length) == STUNP_REQUEST && is_address(&to),
                 "no request is sent again");
-        require(stun_agent_is_outstanding(&world.agent, out + ID_AT, STUN_ID_LENGTH, &to) == 1,
+        require(stunp_agent_is_outstanding(&world.agent, out + ID_AT, STUNP_ID_LENGTH, &to) == 1,
                 "what is over is sent again");
     }
     for (int i = 0; i < 16; i++) {
         uint64_t until = 77;
-        int64_t answer = named(stun_agent_poll(&world.agent, world.now, &until, id, sizeof id));
-        require(answer <= STUN_CANCELLED
+        int64_t answer = named(stunp_agent_poll(&world.agent, world.now, &until, id, sizeof id));
+        require(answer <= STUNP_CANCELLED
                     && (answer == 0 ? until <= world.now + 3600000000000 || until < world.now
                                     : until == 77),
                 "another wait");
         if (answer <= 0) break;
-        require(stun_agent_is_outstanding(&world.agent, id, sizeof id, &to) == 0,
+        require(stunp_agent_is_outstanding(&world.agent, id, sizeof id, &to) == 0,
                 "what is over is outstanding");
     }
-    require(stun_agent_statistics(&world.agent, &statistics)
-                == (world.agent.is_full ? 0 : STUN_EMPTY_HANDLE),
+    require(stunp_agent_statistics(&world.agent, &statistics)
+                == (world.agent.is_full ? 0 : STUNP_EMPTY_HANDLE),
             "no statistics");
 }
 
@@ -696,77 +696,77 @@ static void go_on(struct bytes m, uint8_t setting) {
 }
 
 static void set_server(uint8_t setting) {
-    named(stun_server_set_algorithms(&world.server, setting % 5));
-    named(stun_server_set_anonymous_username(&world.server, setting / 5 % 4));
-    if (setting & 1) named(stun_server_set_nonce_expiry(&world.server, (uint64_t)setting << 30));
+    named(stunp_server_set_algorithms(&world.server, setting % 5));
+    named(stunp_server_set_anonymous_username(&world.server, setting / 5 % 4));
+    if (setting & 1) named(stunp_server_set_nonce_expiry(&world.server, (uint64_t)setting << 30));
 }
 
 static void set_client(struct bytes m, uint8_t setting) {
     size_t half = m.length / 2;
-    named(stun_client_set_algorithms(&world.client, setting % 5));
-    named(stun_client_set_anonymous_username(&world.client, setting / 5 % 4));
+    named(stunp_client_set_algorithms(&world.client, setting % 5));
+    named(stunp_client_set_anonymous_username(&world.client, setting / 5 % 4));
     if (setting & 1)
-        named(stun_client_set_credentials(&world.client, m.at, half, m.at + half, m.length - half));
+        named(stunp_client_set_credentials(&world.client, m.at, half, m.at + half, m.length - half));
     else
-        named(stun_client_set_credentials(&world.client, TEXT("name"), TEXT("word")));
-    require(named(stun_client_signing_algorithm(&world.client)) <= STUN_SHA256,
+        named(stunp_client_set_credentials(&world.client, TEXT("name"), TEXT("word")));
+    require(named(stunp_client_signing_algorithm(&world.client)) <= STUNP_SHA256,
             "another algorithm signs");
 }
 
 static void set_users(struct bytes m, uint8_t setting) {
     size_t half = m.length / 2;
     if (setting & 1)
-        named(stun_server_add_user(&world.server, m.at, half, m.at + half, m.length - half));
+        named(stunp_server_add_user(&world.server, m.at, half, m.at + half, m.length - half));
     else if (setting & 2)
-        named(stun_server_remove_user(&world.server, m.at, m.length));
+        named(stunp_server_remove_user(&world.server, m.at, m.length));
     else if (setting & 4)
-        named(stun_server_remove_user(&world.server, TEXT("name")));
+        named(stunp_server_remove_user(&world.server, TEXT("name")));
     else
-        named(stun_server_add_user(&world.server, TEXT("name"), TEXT("word")));
+        named(stunp_server_add_user(&world.server, TEXT("name"), TEXT("word")));
 }
 
 static void forget(uint8_t setting) {
     uint8_t nonce[64];
-    const stun_address *at = address_of(setting);
-    stun_address next = {{0}, 0, 0};
+    const stunp_address *at = address_of(setting);
+    stunp_address next = {{0}, 0, 0};
     uint64_t moment = setting & 1 ? world.now : UINT64_MAX;
     switch (setting / 2 % 4) {
-    case 0: named(stun_server_remove_client(&world.server, at)); break;
-    case 1: named(stun_server_forget_expired(&world.server, moment)); break;
+    case 0: named(stunp_server_remove_client(&world.server, at)); break;
+    case 1: named(stunp_server_forget_expired(&world.server, moment)); break;
     case 2:
         for (int i = 0;
              i < 8
-             && named(stun_server_forget_expired_within(&world.server, moment, &next, 1)) == 1;
+             && named(stunp_server_forget_expired_within(&world.server, moment, &next, 1)) == 1;
              i++)
             require(is_address(&next), "goes on nowhere");
         break;
     default:
-        if (named(stun_server_forget(&world.server, at)) == 0)
-            require(stun_server_nonce(&world.server, at, nonce, sizeof nonce) == 0,
+        if (named(stunp_server_forget(&world.server, at)) == 0)
+            require(stunp_server_nonce(&world.server, at, nonce, sizeof nonce) == 0,
                     "a forgotten address has a nonce");
     }
 }
 
 /* Frees a handle or more, and makes those that are empty anew. */
 static void make_handles(struct bytes m, uint8_t setting) {
-    const stun_timeouts timeouts = {500000000u * (setting / 8u % 4), UINT64_MAX, setting,
+    const stunp_timeouts timeouts = {500000000u * (setting / 8u % 4), UINT64_MAX, setting,
                                     1 + setting % 8};
-    if (setting & 1) stun_server_free(&world.server);
-    if (setting & 2) stun_client_free(&world.client);
-    if (setting & 4) stun_agent_free(&world.agent);
+    if (setting & 1) stunp_server_free(&world.server);
+    if (setting & 2) stunp_client_free(&world.client);
+    if (setting & 4) stunp_agent_free(&world.agent);
     bool were_full[] = {world.server.is_full, world.client.is_full, world.agent.is_full};
     int64_t answers[] = {
-        setting & 8 ? stun_server_new(&world.server, m.at, m.length)
-                    : stun_server_new(&world.server, TEXT("realm")),
-        stun_client_new(&world.client),
-        setting & 16 ? stun_agent_new_with(&world.agent, setting / 32 % 3, addresses,
+        setting & 8 ? stunp_server_new(&world.server, m.at, m.length)
+                    : stunp_server_new(&world.server, TEXT("realm")),
+        stunp_client_new(&world.client),
+        setting & 16 ? stunp_agent_new_with(&world.agent, setting / 32 % 3, addresses,
                                            address_of(setting), &timeouts)
-                     : stun_agent_new(&world.agent, setting / 32 % 2, addresses),
+                     : stunp_agent_new(&world.agent, setting / 32 % 2, addresses),
     };
     bool are_full[] = {world.server.is_full, world.client.is_full, world.agent.is_full};
     if (answers[2] == 0) world.remote = setting & 16 ? address_of(setting) : NULL;
     for (int i = 0; i < 3; i++) {
-        require(were_full[i] == (named(answers[i]) == STUN_FULL_HANDLE), "a full handle is filled");
+        require(were_full[i] == (named(answers[i]) == STUNP_FULL_HANDLE), "a full handle is filled");
         require(are_full[i] == (were_full[i] || answers[i] == 0),
                 "a handle is not what the answer says");
     }
@@ -792,7 +792,7 @@ static void play_step(enum step step, uint8_t setting, struct bytes m) {
     case CLIENT_IS_SET: set_client(m, setting); break;
     case USERS: set_users(m, setting); break;
     case FORGET: forget(setting); break;
-    case MEMORY: heap_refuse(setting % 16); break;
+    case MEMORY: stunp_heap_refuse(setting % 16); break;
     default: make_handles(m, setting);
     }
     if (step != EXCHANGE)
@@ -809,22 +809,22 @@ int LLVMFuzzerTestOneInput(const uint8_t *input, size_t size) {
     memset(&world, 0, sizeof world);
     make_handles((struct bytes){pages, pages, 0}, 0);
     set_users((struct bytes){pages, pages, 0}, 0);
-    set_client((struct bytes){pages, pages, 0}, STUN_SHA1 * 2);
+    set_client((struct bytes){pages, pages, 0}, STUNP_SHA1 * 2);
     for (size_t at = 0; size - at >= 4;) {
         size_t length = (size_t)(input[at + 2] << 8 | input[at + 3]);
         struct bytes m = {NULL, input + at + 4, length < size - at - 4 ? length : size - at - 4};
-        if (m.length > STUN_LONGEST_MESSAGE) m.length = STUN_LONGEST_MESSAGE;
+        if (m.length > STUNP_LONGEST_MESSAGE) m.length = STUNP_LONGEST_MESSAGE;
         uint8_t *place = pages + pages_length - m.length;
         if (m.length > 0) memcpy(place, m.origin, m.length);
         m.at = place;
         play_step(input[at] % STEPS, input[at + 1], m);
         at += 4 + m.length;
     }
-    heap_refuse(0);
-    stun_agent_free(&world.agent);
-    stun_client_free(&world.client);
-    stun_server_free(&world.server);
-    require(heap_blocks() == 0 && heap_bytes() == 0, "a block is lost");
+    stunp_heap_refuse(0);
+    stunp_agent_free(&world.agent);
+    stunp_client_free(&world.client);
+    stunp_server_free(&world.server);
+    require(stunp_heap_blocks() == 0 && stunp_heap_bytes() == 0, "a block is lost");
     return 0;
 }
 

@@ -1,4 +1,4 @@
--- The numbers that callers get and give, as include/stun.h has them.
+-- The numbers that callers get and give, as include/stunp.h has them.
 use Rattle.std.specs.Prelude.{ℕ, ℤ, pos, neg_ℤ, Option, Some, None, ◌==◌, if◌then◌else◌}
 use Rattle.stun_base.specs.declared.error.StunParseError.{StunParseError}
 use Rattle.stun_base.specs.declared.error.StunParseError.TheVariants.{Truncated as ParseTruncated, NotStun as ParseNotStun, TooLarge as ParseTooLarge, MissingAttribute, InvalidAttributeData}

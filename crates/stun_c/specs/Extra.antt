@@ -33,7 +33,7 @@ fingerprint_number Right = 1
 fingerprint_number Wrong = 2
 fingerprint_number Misplaced = 3
 
--- what `stun_check_fingerprint` answers
+-- what `stunp_check_fingerprint` answers
 abbrev pub fingerprint_answer : List ℕ → ℤ
 fingerprint_answer bytes = unless_no_message (refusal bytes) (pos (fingerprint_number (fingerprint_in bytes)))
 
@@ -56,7 +56,7 @@ ending_refusal buffer count =
     (if shows_kind FINGERPRINT (take count buffer) then Some AttributeExists
     else fit_refusal (take count buffer) (length buffer - count) 4)
 
--- what `stun_add_fingerprint` makes
+-- what `stunp_add_fingerprint` makes
 abbrev pub fingerprinted : List ℕ → ℕ → Result (List ℕ) Refusal
 fingerprinted buffer count = unless_refused (ending_refusal buffer count) (with_fingerprint (take count buffer))
 
@@ -112,7 +112,7 @@ answer_made message types =
     then if length types == 0 then Ok [] else Ok (unknown_answer message types)
     else Err BadArgument
 
--- what `stun_refuse_unknown` makes
+-- what `stunp_refuse_unknown` makes
 abbrev pub unknown_made : List ℕ → List ℕ → Result (List ℕ) Refusal
 unknown_made request known = unless (known_refusal request known) (answer_made request (unknown_of request known))
 

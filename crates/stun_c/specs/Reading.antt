@@ -40,7 +40,7 @@ header_in bytes = record {
   id = take 12 (drop 8 bytes);
 }
 
--- what `stun_read_header` answers: what follows the header is not looked at
+-- what `stunp_read_header` answers: what follows the header is not looked at
 abbrev pub header_answer : List ℕ → ℤ
 header_answer bytes = unless_no_message (header_refusal bytes) (pos 0)
 
@@ -62,7 +62,7 @@ abbrev pub place_number : Option Member → ℤ
 place_number None = pos 0
 place_number (Some m) = pos m.0
 
--- what `stun_next` answers
+-- what `stunp_next` answers
 abbrev pub next_answer : List ℕ → ℕ → ℤ
 next_answer bytes place = unless_no_message (refusal bytes) (place_number (next_member place bytes))
 
@@ -76,7 +76,7 @@ number_after part None (Some m) number = part m.1
 abbrev pub finding_refusal : ℕ → List ℕ → Option Refusal
 finding_refusal kind bytes = if nat_lt kind 65536 then option_map refusal_of_parse (refusal bytes) else Some BadArgument
 
--- what `stun_find` answers of the attribute that it finds, if there is one
+-- what `stunp_find` answers of the attribute that it finds, if there is one
 abbrev pub find_answer : Option Refusal → Option Member → ℤ
 find_answer (Some refusal) found = code_of refusal
 find_answer None None = code_of NotFound
@@ -96,7 +96,7 @@ abbrev pub code_number : Result CodeAndReason StunParseError → ℤ
 code_number (Ok error) = pos error.code
 code_number (Err error) = code_of (refusal_of_attribute error)
 
--- what `stun_error_code` answers
+-- what `stunp_error_code` answers
 abbrev pub error_answer : List ℕ → ℤ
 error_answer bytes = unless_no_message (refusal bytes) (code_number (error_in bytes))
 
@@ -109,7 +109,7 @@ abbrev pub shown_octets : Result XoredAddress StunParseError → ℕ → Result 
 shown_octets (Ok address) id = Ok (xor_bytes address.octets (xor_key id))
 shown_octets (Err error) id = Err (refusal_of_attribute error)
 
--- what `stun_xor_mapped_address` writes
+-- what `stunp_xor_mapped_address` writes
 abbrev pub octets_of_message : List ℕ → Result (List ℕ) Refusal
 octets_of_message bytes = unless (option_map refusal_of_parse (refusal bytes)) (shown_octets (address_in bytes) (transaction_id_field bytes))
 
@@ -140,7 +140,7 @@ abbrev pub octets_shown : Result XoredAddress Refusal → ℕ → Result (List �
 octets_shown (Ok address) id = Ok (xor_bytes address.octets (xor_key id))
 octets_shown (Err refusal) id = Err refusal
 
--- what `stun_read_xor_address` writes
+-- what `stunp_read_xor_address` writes
 abbrev pub octets_at : List ℕ → ℕ → Result (List ℕ) Refusal
 octets_at bytes place = octets_shown (address_at bytes place) (transaction_id_field bytes)
 

@@ -28,7 +28,7 @@ abbrev pub unless_refused : Option Refusal → List ℕ → Result (List ℕ) Re
 unless_refused None bytes = Ok bytes
 unless_refused (Some refusal) bytes = Err refusal
 
--- what `stun_build_signed` makes: the request with its integrity attribute
+-- what `stunp_build_signed` makes: the request with its integrity attribute
 abbrev pub signed_request : Option IntegrityAlgorithm → List ℕ → List ℕ → List ℕ → Result (List ℕ) Refusal
 signed_request None id username key = Err BadArgument
 signed_request (Some algorithm) id username key =
@@ -40,13 +40,13 @@ abbrev pub key_length : IntegrityAlgorithm → ℕ
 key_length Sha1 = 16
 key_length Sha256 = 32
 
--- what `stun_long_term_key` makes (section 9.2.2)
+-- what `stunp_long_term_key` makes (section 9.2.2)
 abbrev pub key_of_texts : Option IntegrityAlgorithm → List ℕ → List ℕ → List ℕ → Result (List ℕ) Refusal
 key_of_texts None username realm password = Err BadArgument
 key_of_texts (Some algorithm) username realm password =
     if is_utf8 username && is_utf8 realm && is_utf8 password then Ok (long_term_key algorithm username realm password) else Err NotText
 
--- what `stun_userhash` makes (section 14.4)
+-- what `stunp_userhash` makes (section 14.4)
 abbrev pub userhash_of_texts : List ℕ → List ℕ → Result (List ℕ) Refusal
 userhash_of_texts username realm =
     if is_utf8 username && is_utf8 realm then Ok (userhash username realm) else Err NotText

@@ -43,7 +43,7 @@ cursor_refusal cursor bytes =
     else if nat_lt cursor.place HEADER_LENGTH || nat_lt (length bytes) cursor.place then Some BadArgument
     else None
 
--- what `stun_walk` answers of the attribute that it comes to, if there is one
+-- what `stunp_walk` answers of the attribute that it comes to, if there is one
 abbrev pub walk_answer : Option Refusal → Option Member → ℤ
 walk_answer (Some refusal) found = code_of refusal
 walk_answer None found = place_number found

@@ -21,7 +21,7 @@ use Rattle.stun_c.specs.declared.codes.Refusal.TheVariants.{BadArgument, NotText
 use Rattle.stun_c.specs.Codes.{refusal_of_parse}
 use Rattle.stun_c.specs.Requests.{unless_refused}
 
--- what `stun_begin` makes: a header without attributes (RFC 8489, section 5)
+-- what `stunp_begin` makes: a header without attributes (RFC 8489, section 5)
 abbrev pub begun : ℕ → ℕ → List ℕ → Result (List ℕ) Refusal
 begun class method id =
     if nat_lt class 4 && nat_lt method 4096 && (length id == 12)
@@ -61,7 +61,7 @@ abbrev pub added : List ℕ → ℕ → ℕ → List ℕ → Result (List ℕ) R
 added buffer count kind value =
     unless_refused (adding_refusal buffer count kind (length value)) (with_attribute (take count buffer) (record { kind = kind; value = value }))
 
--- what `stun_add` makes, of a type that must be a number of 16 bits
+-- what `stunp_add` makes, of a type that must be a number of 16 bits
 abbrev pub added_number : List ℕ → ℕ → ℕ → List ℕ → Result (List ℕ) Refusal
 added_number buffer count kind value = if nat_lt kind 65536 then added buffer count kind value else Err BadArgument
 
@@ -78,13 +78,13 @@ hidden_value octets port id =
 abbrev pub is_address : List ℕ → ℕ → Bool
 is_address octets port = nat_lt port 65536 && ((length octets == 4) || (length octets == 16))
 
--- what `stun_add_xor_mapped_address` makes with its type: an attribute with a value as XOR-MAPPED-ADDRESS has it
+-- what `stunp_add_xor_mapped_address` makes with its type: an attribute with a value as XOR-MAPPED-ADDRESS has it
 abbrev pub added_address : List ℕ → ℕ → ℕ → List ℕ → ℕ → Result (List ℕ) Refusal
 added_address buffer count kind octets port =
     if is_address octets port
     then added buffer count kind (hidden_value octets port (transaction_id_field (take count buffer))) else Err BadArgument
 
--- what `stun_add_xor_address` makes, of a type that must be a number of 16 bits
+-- what `stunp_add_xor_address` makes, of a type that must be a number of 16 bits
 abbrev pub added_numbered_address : List ℕ → ℕ → ℕ → List ℕ → ℕ → Result (List ℕ) Refusal
 added_numbered_address buffer count kind octets port =
     if nat_lt kind 65536 then added_address buffer count kind octets port else Err BadArgument
@@ -93,7 +93,7 @@ added_numbered_address buffer count kind octets port =
 abbrev pub plain_value : List ℕ → ℕ → List ℕ
 plain_value octets port = xored_value (record { family = family_of_count (length octets); port = port; octets = octets })
 
--- what `stun_add_address` makes, of a type that must be a number of 16 bits
+-- what `stunp_add_address` makes, of a type that must be a number of 16 bits
 abbrev pub added_plain_address : List ℕ → ℕ → ℕ → List ℕ → ℕ → Result (List ℕ) Refusal
 added_plain_address buffer count kind octets port =
     if is_address octets port then added_number buffer count kind (plain_value octets port) else Err BadArgument
@@ -106,7 +106,7 @@ is_size size = (size == 1) || (size == 2) || (size == 4) || (size == 8)
 abbrev pub has_size : ℕ → ℕ → Bool
 has_size size number = is_size size && nat_lt number (256 ^ size)
 
--- what `stun_add_number` makes: what `stun_add` does, of the number in so many bytes
+-- what `stunp_add_number` makes: what `stunp_add` does, of the number in so many bytes
 abbrev pub added_sized : List ℕ → ℕ → ℕ → ℕ → ℕ → Result (List ℕ) Refusal
 added_sized buffer count kind size number =
     if has_size size number then added_number buffer count kind (big_bytes size number) else Err BadArgument
@@ -123,7 +123,7 @@ abbrev pub unless : Option Refusal → Result (List ℕ) Refusal → Result (Lis
 unless None made = made
 unless (Some refusal) made = Err refusal
 
--- what `stun_add_error` makes
+-- what `stunp_add_error` makes
 abbrev pub added_error : List ℕ → ℕ → ℕ → List ℕ → Result (List ℕ) Refusal
 added_error buffer count code reason =
     unless (error_argument_refusal code reason) (added buffer count ERROR_CODE (error_value (record { code = code; reason = reason })))
@@ -133,7 +133,7 @@ abbrev pub signing_refusal : List ℕ → ℕ → IntegrityAlgorithm → Option 
 signing_refusal buffer count algorithm =
     option_or (base_refusal buffer count) (fit_refusal (take count buffer) (length buffer - count) (digest_length algorithm))
 
--- what `stun_sign` makes: the message with its integrity attribute (sections 14.5 and 14.6)
+-- what `stunp_sign` makes: the message with its integrity attribute (sections 14.5 and 14.6)
 abbrev pub signed : List ℕ → ℕ → Option IntegrityAlgorithm → List ℕ → Result (List ℕ) Refusal
 signed buffer count None key = Err BadArgument
 signed buffer count (Some algorithm) key = unless_refused (signing_refusal buffer count algorithm) (with_integrity (take count buffer) algorithm key)

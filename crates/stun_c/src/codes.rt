@@ -1,4 +1,4 @@
-//! The numbers that callers get and give, as `include/stun.h` has them.
+//! The numbers that callers get and give, as `include/stunp.h` has them.
 
 ghost use Rattle.std.specs.Prelude.{◌≡◌, IfOk, IfErr, Some, None};
 ghost use Rattle.stun_base.specs.MessageType.{class_number};

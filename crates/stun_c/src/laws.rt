@@ -1,4 +1,4 @@
-//! What `include/stun.h` says of several calls: numbers of bytes, a whole walk, and what the calls over `stun_extra` refuse and write.
+//! What `include/stunp.h` says of several calls: numbers of bytes, a whole walk, and what the calls over `stun_extra` refuse and write.
 
 ghost use Rattle.std.specs.Prelude.{◌≡◌, ◌+◌, ℕ, suc, List, [], ◌∷◌, drop, length, slice_get, cond, Some};
 ghost use Rattle.std.specs.Option.{option_map};
@@ -33,7 +33,7 @@ pub fn stated_lengths()
         ≡ 28 + padded_length (length username) + digest_length algorithm }
 {}
 
-/// Calls of `stun_walk` on one message, from a cursor of zeros and each with the cursor that the one before left, come to the
+/// Calls of `stunp_walk` on one message, from a cursor of zeros and each with the cursor that the one before left, come to the
 /// visible attributes, each once and in their order, and then to none.
 pub fn a_walk_comes_to_what_is_visible()
     ensures { (bytes : List ℕ) (cursors : ℕ → Cursor) → (cursors 0).place ≡ 0
@@ -41,7 +41,7 @@ pub fn a_walk_comes_to_what_is_visible()
         → (n : ℕ) → slice_get (ahead (cursors n) bytes) 0 ≡ slice_get (visible bytes) n }
 {}
 
-/// `stun_add_fingerprint` refuses a message as `stun_extra` does, and for the same reason.
+/// `stunp_add_fingerprint` refuses a message as `stun_extra` does, and for the same reason.
 pub fn fingerprint_is_refused()
     ensures { (message : List ℕ) (room : ℕ)
         → option_map refusal_of_write (fingerprint_refusal message room)
@@ -49,7 +49,7 @@ pub fn fingerprint_is_refused()
         (fit_refusal message room 4) }
 {}
 
-/// What `stun_refuse_unknown` writes is spelled as any message: an error response with the method and the id of the request, its
+/// What `stunp_refuse_unknown` writes is spelled as any message: an error response with the method and the id of the request, its
 /// ERROR-CODE, and UNKNOWN-ATTRIBUTES.
 pub fn refusal_is_spelled()
     ensures { (request : List ℕ) (types : List AttributeType) → unknown_answer request types

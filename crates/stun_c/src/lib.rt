@@ -1,4 +1,4 @@
-//! The calls for programs in C and Rust, which `include/stun.h` declares.
+//! The calls for programs in C and Rust, which `include/stunp.h` declares.
 //!
 //! Each calls the crates below, and its clause cites their definitions. None allocates, and calls share nothing.
 #![tactic(auto)]
@@ -47,7 +47,7 @@ use walk::Cursor;
 
 /// Whether the bytes are a message: 0, or why they are none.
 #[unsafe(no_mangle)]
-pub extern "C" fn stun_parse(message: &[u8]) -> i64
+pub extern "C" fn stunp_parse(message: &[u8]) -> i64
     ensures { result ≡ parse_answer message.now }
 {
     match Message::from_bytes(message) {
@@ -58,7 +58,7 @@ pub extern "C" fn stun_parse(message: &[u8]) -> i64
 
 /// The number of the algorithm whose digest verifies under the key, or why none does.
 #[unsafe(no_mangle)]
-pub extern "C" fn stun_verify(message: &[u8], key: &[u8]) -> i64
+pub extern "C" fn stunp_verify(message: &[u8], key: &[u8]) -> i64
     ensures { result ≡ verify_answer message.now key.now }
 {
     match verdict(message, key) {
@@ -69,7 +69,7 @@ pub extern "C" fn stun_verify(message: &[u8], key: &[u8]) -> i64
 
 /// Writes a Binding request with this id, USERNAME and integrity under the key, and answers its length.
 #[unsafe(no_mangle)]
-pub extern "C" fn stun_build_signed(
+pub extern "C" fn stunp_build_signed(
     algorithm: u32,
     id: &[u8],
     username: &[u8],
@@ -92,7 +92,7 @@ pub extern "C" fn stun_build_signed(
 
 /// Writes the long-term key of a user for an algorithm, and answers its length, 16 or 32.
 #[unsafe(no_mangle)]
-pub extern "C" fn stun_long_term_key(
+pub extern "C" fn stunp_long_term_key(
     algorithm: u32,
     username: &[u8],
     realm: &[u8],
@@ -111,7 +111,7 @@ pub extern "C" fn stun_long_term_key(
 
 /// Writes the hash that stands for a user at a realm, and answers its length, 32.
 #[unsafe(no_mangle)]
-pub extern "C" fn stun_userhash(username: &[u8], realm: &[u8], out: &mut [u8]) -> i64
+pub extern "C" fn stunp_userhash(username: &[u8], realm: &[u8], out: &mut [u8]) -> i64
     ensures answer { result ≡ written_number (fitted (userhash_of_texts username.now realm.now)
         (length out.old)) }
     ensures written { out.new ≡ buffer_after (fitted (userhash_of_texts username.now realm.now)
@@ -125,7 +125,7 @@ pub extern "C" fn stun_userhash(username: &[u8], realm: &[u8], out: &mut [u8]) -
 
 /// The version of this library: 10000 times its first number, 100 times its second, and its third.
 #[unsafe(no_mangle)]
-pub extern "C" fn stun_version() -> i64
+pub extern "C" fn stunp_version() -> i64
     ensures { result ≡ pos 100 }
 {
     100
@@ -133,7 +133,7 @@ pub extern "C" fn stun_version() -> i64
 
 /// Writes a message without attributes, of a class, a method and an id, and answers its length, 20.
 #[unsafe(no_mangle)]
-pub extern "C" fn stun_begin(class: u32, method: u32, id: &[u8], out: &mut [u8]) -> i64
+pub extern "C" fn stunp_begin(class: u32, method: u32, id: &[u8], out: &mut [u8]) -> i64
     ensures answer { result ≡ written_number (fitted (begun class method id.now) (length out.old)) }
     ensures written { out.new ≡ buffer_after (fitted (begun class method id.now)
         (length out.old)) out.old }
@@ -143,7 +143,7 @@ pub extern "C" fn stun_begin(class: u32, method: u32, id: &[u8], out: &mut [u8])
 
 /// Adds an attribute to the message in the first bytes of a buffer, and answers the new length.
 #[unsafe(no_mangle)]
-pub extern "C" fn stun_add(buffer: &mut [u8], count: usize, kind: u32, value: &[u8]) -> i64
+pub extern "C" fn stunp_add(buffer: &mut [u8], count: usize, kind: u32, value: &[u8]) -> i64
     ensures answer { result ≡ written_number (added_number buffer.old count kind value.now) }
     ensures written { buffer.new ≡ buffer_after
         (added_number buffer.old count kind value.now) buffer.old }
@@ -154,7 +154,7 @@ pub extern "C" fn stun_add(buffer: &mut [u8], count: usize, kind: u32, value: &[
 /// Adds an attribute with a number of so many bytes to the message in the first bytes of a buffer,
 /// and answers the new length.
 #[unsafe(no_mangle)]
-pub extern "C" fn stun_add_number(
+pub extern "C" fn stunp_add_number(
     buffer: &mut [u8],
     count: usize,
     kind: u32,
@@ -171,7 +171,7 @@ pub extern "C" fn stun_add_number(
 /// Adds an attribute of a type with an address, as MAPPED-ADDRESS has it, to the message in the first
 /// bytes of a buffer, and answers the new length.
 #[unsafe(no_mangle)]
-pub extern "C" fn stun_add_address(
+pub extern "C" fn stunp_add_address(
     buffer: &mut [u8],
     count: usize,
     kind: u32,
@@ -188,7 +188,7 @@ pub extern "C" fn stun_add_address(
 
 /// Adds an XOR-MAPPED-ADDRESS to the message in the first bytes of a buffer, and answers the new length.
 #[unsafe(no_mangle)]
-pub extern "C" fn stun_add_xor_mapped_address(
+pub extern "C" fn stunp_add_xor_mapped_address(
     buffer: &mut [u8],
     count: usize,
     octets: &[u8],
@@ -211,7 +211,7 @@ pub extern "C" fn stun_add_xor_mapped_address(
 /// Adds an attribute of a type with an address, hidden as in XOR-MAPPED-ADDRESS, to the message in the first bytes of a buffer,
 /// and answers the new length.
 #[unsafe(no_mangle)]
-pub extern "C" fn stun_add_xor_address(
+pub extern "C" fn stunp_add_xor_address(
     buffer: &mut [u8],
     count: usize,
     kind: u32,
@@ -231,7 +231,7 @@ pub extern "C" fn stun_add_xor_address(
 
 /// Adds an ERROR-CODE to the message in the first bytes of a buffer, and answers the new length.
 #[unsafe(no_mangle)]
-pub extern "C" fn stun_add_error(buffer: &mut [u8], count: usize, code: u32, reason: &[u8]) -> i64
+pub extern "C" fn stunp_add_error(buffer: &mut [u8], count: usize, code: u32, reason: &[u8]) -> i64
     ensures answer { result ≡ written_number (added_error buffer.old count code reason.now) }
     ensures written { buffer.new ≡ buffer_after
         (added_error buffer.old count code reason.now) buffer.old }
@@ -241,7 +241,7 @@ pub extern "C" fn stun_add_error(buffer: &mut [u8], count: usize, code: u32, rea
 
 /// Adds the integrity attribute of an algorithm to the message in the first bytes of a buffer, and answers the new length.
 #[unsafe(no_mangle)]
-pub extern "C" fn stun_sign(buffer: &mut [u8], count: usize, algorithm: u32, key: &[u8]) -> i64
+pub extern "C" fn stunp_sign(buffer: &mut [u8], count: usize, algorithm: u32, key: &[u8]) -> i64
     ensures answer { result ≡ written_number (signed buffer.old count
         (algorithm_numbered algorithm) key.now) }
     ensures written { buffer.new ≡ buffer_after
@@ -252,7 +252,7 @@ pub extern "C" fn stun_sign(buffer: &mut [u8], count: usize, algorithm: u32, key
 
 /// Writes what the header says that the bytes begin with, and answers 0, or why they begin with none.
 #[unsafe(no_mangle)]
-pub extern "C" fn stun_read_header(bytes: &[u8], header: &mut Header) -> i64
+pub extern "C" fn stunp_read_header(bytes: &[u8], header: &mut Header) -> i64
     ensures answer { result ≡ header_answer bytes.now }
     ensures written { header.new ≡ header_after (header_refusal bytes.now) bytes.now header.old }
 {
@@ -261,7 +261,7 @@ pub extern "C" fn stun_read_header(bytes: &[u8], header: &mut Header) -> i64
 
 /// The class of a message, from 0 to 3, or why the bytes are none.
 #[unsafe(no_mangle)]
-pub extern "C" fn stun_class(message: &[u8]) -> i64
+pub extern "C" fn stunp_class(message: &[u8]) -> i64
     ensures { result ≡ class_answer message.now }
 {
     reading::class(message)
@@ -269,7 +269,7 @@ pub extern "C" fn stun_class(message: &[u8]) -> i64
 
 /// The method of a message, or why the bytes are none.
 #[unsafe(no_mangle)]
-pub extern "C" fn stun_method(message: &[u8]) -> i64
+pub extern "C" fn stunp_method(message: &[u8]) -> i64
     ensures { result ≡ method_answer message.now }
 {
     reading::method(message)
@@ -277,7 +277,7 @@ pub extern "C" fn stun_method(message: &[u8]) -> i64
 
 /// Writes the transaction id of a message, and answers its length, 12.
 #[unsafe(no_mangle)]
-pub extern "C" fn stun_id(message: &[u8], out: &mut [u8]) -> i64
+pub extern "C" fn stunp_id(message: &[u8], out: &mut [u8]) -> i64
     ensures answer { result ≡ written_number (fitted (id_of_message message.now) (length out.old)) }
     ensures written { out.new ≡ buffer_after (fitted (id_of_message message.now)
         (length out.old)) out.old }
@@ -287,7 +287,7 @@ pub extern "C" fn stun_id(message: &[u8], out: &mut [u8]) -> i64
 
 /// The place of the first visible attribute after a place, with its type and its value's length, or 0 where there is none.
 #[unsafe(no_mangle)]
-pub extern "C" fn stun_next(
+pub extern "C" fn stunp_next(
     message: &[u8],
     place: usize,
     kind: &mut u16,
@@ -306,7 +306,7 @@ pub extern "C" fn stun_next(
 /// The place of the first visible attribute that is before a cursor, with its type and its value's length, or 0 where there
 /// is none; the cursor goes past it.
 #[unsafe(no_mangle)]
-pub extern "C" fn stun_walk(
+pub extern "C" fn stunp_walk(
     message: &[u8],
     cursor: &mut Cursor,
     kind: &mut u16,
@@ -331,7 +331,7 @@ pub extern "C" fn stun_walk(
 
 /// The place of the first visible attribute of a type, with its value's length, or why there is none.
 #[unsafe(no_mangle)]
-pub extern "C" fn stun_find(message: &[u8], kind: u32, value_length: &mut usize) -> i64
+pub extern "C" fn stunp_find(message: &[u8], kind: u32, value_length: &mut usize) -> i64
     ensures answer { result ≡ find_answer (finding_refusal kind message.now)
         (first_of kind (visible message.now)) }
     ensures value_length { value_length.new ≡ number_after (λ a. length a.value)
@@ -343,7 +343,7 @@ pub extern "C" fn stun_find(message: &[u8], kind: u32, value_length: &mut usize)
 
 /// The code of the error that a message reports, or why it reports none.
 #[unsafe(no_mangle)]
-pub extern "C" fn stun_error_code(message: &[u8]) -> i64
+pub extern "C" fn stunp_error_code(message: &[u8]) -> i64
     ensures { result ≡ error_answer message.now }
 {
     reading::error_code(message)
@@ -351,7 +351,7 @@ pub extern "C" fn stun_error_code(message: &[u8]) -> i64
 
 /// Writes the address that a message reports, 4 or 16 octets, and its port, and answers how many octets there are.
 #[unsafe(no_mangle)]
-pub extern "C" fn stun_xor_mapped_address(message: &[u8], out: &mut [u8], port: &mut u16) -> i64
+pub extern "C" fn stunp_xor_mapped_address(message: &[u8], out: &mut [u8], port: &mut u16) -> i64
     ensures answer { result ≡ written_number (fitted (octets_of_message message.now)
         (length out.old)) }
     ensures written { out.new ≡ buffer_after (fitted (octets_of_message message.now)
@@ -365,7 +365,7 @@ pub extern "C" fn stun_xor_mapped_address(message: &[u8], out: &mut [u8], port: 
 /// Writes the address in the attribute at a place of a message, hidden as in XOR-MAPPED-ADDRESS, 4 or 16 octets, and its port,
 /// and answers how many octets there are.
 #[unsafe(no_mangle)]
-pub extern "C" fn stun_read_xor_address(
+pub extern "C" fn stunp_read_xor_address(
     message: &[u8],
     place: usize,
     out: &mut [u8],
@@ -384,7 +384,7 @@ pub extern "C" fn stun_read_xor_address(
 /// Writes the address in the attribute at a place of a message, as MAPPED-ADDRESS has it, 4 or 16
 /// octets, and its port, and answers how many octets there are.
 #[unsafe(no_mangle)]
-pub extern "C" fn stun_read_address(
+pub extern "C" fn stunp_read_address(
     message: &[u8],
     place: usize,
     out: &mut [u8],
@@ -403,7 +403,7 @@ pub extern "C" fn stun_read_address(
 
 /// Writes the number in the attribute at a place of a message, 1, 2, 4 or 8 bytes, and answers how many they are.
 #[unsafe(no_mangle)]
-pub extern "C" fn stun_read_number(message: &[u8], place: usize, number: &mut u64) -> i64
+pub extern "C" fn stunp_read_number(message: &[u8], place: usize, number: &mut u64) -> i64
     ensures answer { result ≡ written_number (sized_at message.now place) }
     ensures number { number.new ≡ sized_after (sized_at message.now place) number.old }
 {
@@ -412,7 +412,7 @@ pub extern "C" fn stun_read_number(message: &[u8], place: usize, number: &mut u6
 
 /// What the FINGERPRINT of a message is: 0 where it has none, 1 right, 2 wrong, 3 misplaced, or why the bytes are no message.
 #[unsafe(no_mangle)]
-pub extern "C" fn stun_check_fingerprint(message: &[u8]) -> i64
+pub extern "C" fn stunp_check_fingerprint(message: &[u8]) -> i64
     ensures { result ≡ fingerprint_answer message.now }
 {
     fingerprint::check(message)
@@ -420,7 +420,7 @@ pub extern "C" fn stun_check_fingerprint(message: &[u8]) -> i64
 
 /// Adds FINGERPRINT to the message in the first bytes of a buffer, and answers the new length.
 #[unsafe(no_mangle)]
-pub extern "C" fn stun_add_fingerprint(buffer: &mut [u8], count: usize) -> i64
+pub extern "C" fn stunp_add_fingerprint(buffer: &mut [u8], count: usize) -> i64
     ensures answer { result ≡ written_number (fingerprinted buffer.old count) }
     ensures written { buffer.new ≡ buffer_after (fingerprinted buffer.old count) buffer.old }
 {
@@ -429,7 +429,7 @@ pub extern "C" fn stun_add_fingerprint(buffer: &mut [u8], count: usize) -> i64
 
 /// How many types a message has that must be understood and are not among the known; the first of them are written.
 #[unsafe(no_mangle)]
-pub extern "C" fn stun_unknown_types(message: &[u8], known: &[u16], types: &mut [u16]) -> i64
+pub extern "C" fn stunp_unknown_types(message: &[u8], known: &[u16], types: &mut [u16]) -> i64
     ensures answer { result ≡ told_number (known_refusal message.now known.now)
         (unknown_of message.now known.now) }
     ensures types { types.new ≡ types_after (known_refusal message.now known.now)
@@ -440,7 +440,7 @@ pub extern "C" fn stun_unknown_types(message: &[u8], known: &[u16], types: &mut 
 
 /// Writes the answer 420 to a request that has such types, and answers its length, or 0 where it has none.
 #[unsafe(no_mangle)]
-pub extern "C" fn stun_refuse_unknown(request: &[u8], known: &[u16], out: &mut [u8]) -> i64
+pub extern "C" fn stunp_refuse_unknown(request: &[u8], known: &[u16], out: &mut [u8]) -> i64
     ensures answer { result ≡ written_number (fitted (unknown_made request.now known.now)
         (length out.old)) }
     ensures written { out.new ≡ buffer_after (fitted (unknown_made request.now known.now)
@@ -451,7 +451,7 @@ pub extern "C" fn stun_refuse_unknown(request: &[u8], known: &[u16], out: &mut [
 
 /// 1 where a packet is to be given to STUN, or 0.
 #[unsafe(no_mangle)]
-pub extern "C" fn stun_is_stun(packet: &[u8]) -> i64
+pub extern "C" fn stunp_is_stun(packet: &[u8]) -> i64
     ensures yes { (result ≡ pos 1) ↔ IsStunPacket packet.now }
     ensures no { (result ≡ pos 1) ⊎ (result ≡ pos 0) }
 {
@@ -460,7 +460,7 @@ pub extern "C" fn stun_is_stun(packet: &[u8]) -> i64
 
 /// How many bytes the message has that a stream begins with, or its header, where that is not whole, or why it is none.
 #[unsafe(no_mangle)]
-pub extern "C" fn stun_next_frame(bytes: &[u8]) -> i64
+pub extern "C" fn stunp_next_frame(bytes: &[u8]) -> i64
     ensures { result ≡ wanted_number (length bytes.now) (frame_of bytes.now) }
 {
     framing::next_frame(bytes)
@@ -468,7 +468,7 @@ pub extern "C" fn stun_next_frame(bytes: &[u8]) -> i64
 
 /// The same of a packet behind its length in 2 bytes, which counts too.
 #[unsafe(no_mangle)]
-pub extern "C" fn stun_next_packet_frame(bytes: &[u8]) -> i64
+pub extern "C" fn stunp_next_packet_frame(bytes: &[u8]) -> i64
     ensures { result ≡ wanted_number (length bytes.now) (packet_frame_of bytes.now) }
 {
     framing::next_packet_frame(bytes)
@@ -476,7 +476,7 @@ pub extern "C" fn stun_next_packet_frame(bytes: &[u8]) -> i64
 
 /// The same of a message or ChannelData, with its header and its padding.
 #[unsafe(no_mangle)]
-pub extern "C" fn stun_next_turn_frame(bytes: &[u8]) -> i64
+pub extern "C" fn stunp_next_turn_frame(bytes: &[u8]) -> i64
     ensures { result ≡ wanted_number (length bytes.now) (turn_frame_of bytes.now) }
 {
     framing::next_turn_frame(bytes)

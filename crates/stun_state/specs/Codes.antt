@@ -1,4 +1,4 @@
--- The numbers that callers get and give, as include/stun.h and include/stun_state.h have them.
+-- The numbers that callers get and give, as include/stunp.h and include/stunp_state.h have them.
 use Rattle.std.specs.Prelude.{Bool, ℕ, ℤ, pos, neg_ℤ, Option, Some, None, ◌==◌, if◌then◌else◌}
 use Rattle.stun_auth.specs.declared.algorithm_set.AlgorithmSet.{AlgorithmSet}
 use Rattle.stun_auth.specs.declared.algorithm_set.AlgorithmSet.TheVariants.{OnlySha1, OnlySha256, Both}

@@ -1,4 +1,4 @@
-//! The numbers that callers get and give, as `include/stun.h` and `include/stun_state.h` have them.
+//! The numbers that callers get and give, as `include/stunp.h` and `include/stunp_state.h` have them.
 
 ghost use Rattle.std.specs.Prelude.{◌≡◌, IfOk, IfErr, Some, None};
 ghost use Rattle.stun_state.specs.Codes.{algorithm_number, code_of, feature_numbered, refusal_of_write};

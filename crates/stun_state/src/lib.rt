@@ -1,4 +1,4 @@
-//! The calls with state for programs in C and Rust, which `include/stun_state.h` declares.
+//! The calls with state for programs in C and Rust, which `include/stunp_state.h` declares.
 //!
 //! Each takes what its handle keeps, calls the crates below, and puts it back. The clauses say what a call answers, writes and
 //! leaves in the words of those crates: `kept` is what the handle kept, and `handle.new` what it keeps.
@@ -46,7 +46,7 @@ use std::alloc::Global;
 
 /// Fills a handle with an agent of a transport at a local address.
 #[unsafe(no_mangle)]
-pub extern "C" fn stun_agent_new(
+pub extern "C" fn stunp_agent_new(
     alloc: Global,
     handle: &mut AgentHandle,
     transport: u32,
@@ -79,7 +79,7 @@ pub extern "C" fn stun_agent_new(
 
 /// The same with time-outs of the caller's, and with a remote address, to which alone the agent then sends.
 #[unsafe(no_mangle)]
-pub extern "C" fn stun_agent_new_with(
+pub extern "C" fn stunp_agent_new_with(
     alloc: Global,
     handle: &mut AgentHandle,
     transport: u32,
@@ -115,7 +115,7 @@ pub extern "C" fn stun_agent_new_with(
 
 /// Keeps a request and counts it.
 #[unsafe(no_mangle)]
-pub extern "C" fn stun_agent_send_request(
+pub extern "C" fn stunp_agent_send_request(
     alloc: Global,
     handle: &mut AgentHandle,
     message: &[u8],
@@ -146,7 +146,7 @@ pub extern "C" fn stun_agent_send_request(
 
 /// Counts a response or an indication that is sent to an address.
 #[unsafe(no_mangle)]
-pub extern "C" fn stun_agent_send(
+pub extern "C" fn stunp_agent_send(
     alloc: Global,
     handle: &mut AgentHandle,
     message: &[u8],
@@ -170,7 +170,7 @@ pub extern "C" fn stun_agent_send(
 
 /// What is to be done at a moment.
 #[unsafe(no_mangle)]
-pub extern "C" fn stun_agent_poll(
+pub extern "C" fn stunp_agent_poll(
     alloc: Global,
     handle: &mut AgentHandle,
     now: u64,
@@ -200,7 +200,7 @@ pub extern "C" fn stun_agent_poll(
 
 /// The request that is to be sent again now, and where to.
 #[unsafe(no_mangle)]
-pub extern "C" fn stun_agent_poll_transmit(
+pub extern "C" fn stunp_agent_poll_transmit(
     alloc: Global,
     handle: &mut AgentHandle,
     now: u64,
@@ -232,7 +232,7 @@ pub extern "C" fn stun_agent_poll_transmit(
 
 /// Takes a message that came from an address.
 #[unsafe(no_mangle)]
-pub extern "C" fn stun_agent_handle(
+pub extern "C" fn stunp_agent_handle(
     alloc: Global,
     handle: &mut AgentHandle,
     message: &[u8],
@@ -264,7 +264,7 @@ pub extern "C" fn stun_agent_handle(
 
 /// Names an address as one whose messages were taken.
 #[unsafe(no_mangle)]
-pub extern "C" fn stun_agent_validated_peer(
+pub extern "C" fn stunp_agent_validated_peer(
     alloc: Global,
     handle: &mut AgentHandle,
     peer: &Address,
@@ -292,7 +292,7 @@ pub extern "C" fn stun_agent_validated_peer(
 
 /// Whether a message from an address was taken, or the address was named as such.
 #[unsafe(no_mangle)]
-pub extern "C" fn stun_agent_is_validated_peer(
+pub extern "C" fn stunp_agent_is_validated_peer(
     alloc: Global,
     handle: &mut AgentHandle,
     peer: &Address,
@@ -313,7 +313,7 @@ pub extern "C" fn stun_agent_is_validated_peer(
 
 /// Whether a request of an id is outstanding, and the address that it went to.
 #[unsafe(no_mangle)]
-pub extern "C" fn stun_agent_is_outstanding(
+pub extern "C" fn stunp_agent_is_outstanding(
     alloc: Global,
     handle: &mut AgentHandle,
     id: &[u8],
@@ -338,7 +338,7 @@ pub extern "C" fn stun_agent_is_outstanding(
 
 /// Cancels the request of an id.
 #[unsafe(no_mangle)]
-pub extern "C" fn stun_agent_cancel(alloc: Global, handle: &mut AgentHandle, id: &[u8]) -> i64
+pub extern "C" fn stunp_agent_cancel(alloc: Global, handle: &mut AgentHandle, id: &[u8]) -> i64
     ensures empty { IfNone handle.old.agent ((result ≡ code_of Refusal.EmptyHandle)
         × (handle.new.agent ≡ None)) }
     ensures answer { IfSome handle.old.agent (λ kept. result ≡ number_answer
@@ -357,7 +357,7 @@ pub extern "C" fn stun_agent_cancel(alloc: Global, handle: &mut AgentHandle, id:
 
 /// Ends the retransmissions of the request of an id.
 #[unsafe(no_mangle)]
-pub extern "C" fn stun_agent_cancel_retransmissions(
+pub extern "C" fn stunp_agent_cancel_retransmissions(
     alloc: Global,
     handle: &mut AgentHandle,
     id: &[u8],
@@ -380,7 +380,7 @@ pub extern "C" fn stun_agent_cancel_retransmissions(
 
 /// Gives the request of an id time-outs of its own.
 #[unsafe(no_mangle)]
-pub extern "C" fn stun_agent_configure(
+pub extern "C" fn stunp_agent_configure(
     alloc: Global,
     handle: &mut AgentHandle,
     id: &[u8],
@@ -404,7 +404,7 @@ pub extern "C" fn stun_agent_configure(
 
 /// What the agent counted.
 #[unsafe(no_mangle)]
-pub extern "C" fn stun_agent_statistics(
+pub extern "C" fn stunp_agent_statistics(
     alloc: Global,
     handle: &mut AgentHandle,
     statistics: &mut Statistics,
@@ -426,7 +426,7 @@ pub extern "C" fn stun_agent_statistics(
 
 /// Frees the agent. The handle is empty then.
 #[unsafe(no_mangle)]
-pub extern "C" fn stun_agent_free(alloc: Global, handle: &mut AgentHandle)
+pub extern "C" fn stunp_agent_free(alloc: Global, handle: &mut AgentHandle)
     ensures { handle.new.agent ≡ None }
 {
     let _agent = handle.take(alloc);
@@ -434,7 +434,7 @@ pub extern "C" fn stun_agent_free(alloc: Global, handle: &mut AgentHandle)
 
 /// Fills a handle with a server of a realm.
 #[unsafe(no_mangle)]
-pub extern "C" fn stun_server_new(alloc: Global, handle: &mut ServerHandle, realm: &[u8]) -> i64
+pub extern "C" fn stunp_server_new(alloc: Global, handle: &mut ServerHandle, realm: &[u8]) -> i64
     ensures full { IfSome handle.old.server (λ kept. (result ≡ code_of Refusal.FullHandle)
         × (handle.new.server ≡ Some kept)) }
     ensures made { IfNone handle.old.server (MatchOption (text_refusal realm.now)
@@ -461,7 +461,7 @@ pub extern "C" fn stun_server_new(alloc: Global, handle: &mut ServerHandle, real
 
 /// Which algorithms the server supports.
 #[unsafe(no_mangle)]
-pub extern "C" fn stun_server_set_algorithms(
+pub extern "C" fn stunp_server_set_algorithms(
     alloc: Global,
     handle: &mut ServerHandle,
     algorithms: u32,
@@ -484,7 +484,7 @@ pub extern "C" fn stun_server_set_algorithms(
 
 /// Whether users may be named by a hash.
 #[unsafe(no_mangle)]
-pub extern "C" fn stun_server_set_anonymous_username(
+pub extern "C" fn stunp_server_set_anonymous_username(
     alloc: Global,
     handle: &mut ServerHandle,
     feature: u32,
@@ -507,7 +507,7 @@ pub extern "C" fn stun_server_set_anonymous_username(
 
 /// How long a nonce lasts.
 #[unsafe(no_mangle)]
-pub extern "C" fn stun_server_set_nonce_expiry(
+pub extern "C" fn stunp_server_set_nonce_expiry(
     alloc: Global,
     handle: &mut ServerHandle,
     nanoseconds: u64,
@@ -529,7 +529,7 @@ pub extern "C" fn stun_server_set_nonce_expiry(
 
 /// Registers a user.
 #[unsafe(no_mangle)]
-pub extern "C" fn stun_server_add_user(
+pub extern "C" fn stunp_server_add_user(
     alloc: Global,
     handle: &mut ServerHandle,
     name: &[u8],
@@ -558,7 +558,7 @@ pub extern "C" fn stun_server_add_user(
 
 /// Removes a user.
 #[unsafe(no_mangle)]
-pub extern "C" fn stun_server_remove_user(
+pub extern "C" fn stunp_server_remove_user(
     alloc: Global,
     handle: &mut ServerHandle,
     name: &[u8],
@@ -581,7 +581,7 @@ pub extern "C" fn stun_server_remove_user(
 
 /// Forgets who was validated at an address.
 #[unsafe(no_mangle)]
-pub extern "C" fn stun_server_remove_client(
+pub extern "C" fn stunp_server_remove_client(
     alloc: Global,
     handle: &mut ServerHandle,
     at: &Address,
@@ -605,7 +605,7 @@ pub extern "C" fn stun_server_remove_client(
 
 /// Forgets all that is kept of an address.
 #[unsafe(no_mangle)]
-pub extern "C" fn stun_server_forget(alloc: Global, handle: &mut ServerHandle, at: &Address) -> i64
+pub extern "C" fn stunp_server_forget(alloc: Global, handle: &mut ServerHandle, at: &Address) -> i64
     ensures empty { IfNone handle.old.server ((result ≡ code_of Refusal.EmptyHandle)
         × (handle.new.server ≡ None)) }
     ensures answer { IfSome handle.old.server (λ _. result ≡ done_answer
@@ -625,7 +625,7 @@ pub extern "C" fn stun_server_forget(alloc: Global, handle: &mut ServerHandle, a
 
 /// Forgets each address without a client whose nonce expired before a moment.
 #[unsafe(no_mangle)]
-pub extern "C" fn stun_server_forget_expired(
+pub extern "C" fn stunp_server_forget_expired(
     alloc: Global,
     handle: &mut ServerHandle,
     now: u64,
@@ -647,7 +647,7 @@ pub extern "C" fn stun_server_forget_expired(
 
 /// Forgets so at no more than a number of addresses, from one on.
 #[unsafe(no_mangle)]
-pub extern "C" fn stun_server_forget_expired_within(
+pub extern "C" fn stunp_server_forget_expired_within(
     alloc: Global,
     handle: &mut ServerHandle,
     now: u64,
@@ -677,7 +677,7 @@ pub extern "C" fn stun_server_forget_expired_within(
 
 /// Who was validated last at an address.
 #[unsafe(no_mangle)]
-pub extern "C" fn stun_server_client(
+pub extern "C" fn stunp_server_client(
     alloc: Global,
     handle: &mut ServerHandle,
     at: &Address,
@@ -706,7 +706,7 @@ pub extern "C" fn stun_server_client(
 
 /// The last nonce that was made for an address.
 #[unsafe(no_mangle)]
-pub extern "C" fn stun_server_nonce(
+pub extern "C" fn stunp_server_nonce(
     alloc: Global,
     handle: &mut ServerHandle,
     at: &Address,
@@ -732,7 +732,7 @@ pub extern "C" fn stun_server_nonce(
 
 /// Who signed a message that came from an address.
 #[unsafe(no_mangle)]
-pub extern "C" fn stun_server_validate(
+pub extern "C" fn stunp_server_validate(
     alloc: Global,
     handle: &mut ServerHandle,
     message: &[u8],
@@ -766,7 +766,7 @@ pub extern "C" fn stun_server_validate(
 
 /// Signs the message at the front of a buffer, which goes to an address.
 #[unsafe(no_mangle)]
-pub extern "C" fn stun_server_sign(
+pub extern "C" fn stunp_server_sign(
     alloc: Global,
     handle: &mut ServerHandle,
     buffer: &mut [u8],
@@ -795,7 +795,7 @@ pub extern "C" fn stun_server_sign(
 
 /// Frees the server. The handle is empty then.
 #[unsafe(no_mangle)]
-pub extern "C" fn stun_server_free(alloc: Global, handle: &mut ServerHandle)
+pub extern "C" fn stunp_server_free(alloc: Global, handle: &mut ServerHandle)
     ensures { handle.new.server ≡ None }
 {
     let _server = handle.take(alloc);
@@ -803,7 +803,7 @@ pub extern "C" fn stun_server_free(alloc: Global, handle: &mut ServerHandle)
 
 /// Fills a handle with a client without credentials.
 #[unsafe(no_mangle)]
-pub extern "C" fn stun_client_new(alloc: Global, handle: &mut ClientHandle) -> i64
+pub extern "C" fn stunp_client_new(alloc: Global, handle: &mut ClientHandle) -> i64
     ensures full { IfSome handle.old.client (λ kept. (result ≡ code_of Refusal.FullHandle)
         × (handle.new.client ≡ Some kept)) }
     ensures made { IfNone handle.old.client (OrOutOfMemory result None handle.new.client (pos 0)
@@ -825,7 +825,7 @@ pub extern "C" fn stun_client_new(alloc: Global, handle: &mut ClientHandle) -> i
 
 /// Whose name and password are used.
 #[unsafe(no_mangle)]
-pub extern "C" fn stun_client_set_credentials(
+pub extern "C" fn stunp_client_set_credentials(
     alloc: Global,
     handle: &mut ClientHandle,
     name: &[u8],
@@ -849,7 +849,7 @@ pub extern "C" fn stun_client_set_credentials(
 
 /// Which algorithms the client supports.
 #[unsafe(no_mangle)]
-pub extern "C" fn stun_client_set_algorithms(
+pub extern "C" fn stunp_client_set_algorithms(
     alloc: Global,
     handle: &mut ClientHandle,
     algorithms: u32,
@@ -872,7 +872,7 @@ pub extern "C" fn stun_client_set_algorithms(
 
 /// What the client does with the user's name.
 #[unsafe(no_mangle)]
-pub extern "C" fn stun_client_set_anonymous_username(
+pub extern "C" fn stunp_client_set_anonymous_username(
     alloc: Global,
     handle: &mut ClientHandle,
     feature: u32,
@@ -895,7 +895,7 @@ pub extern "C" fn stun_client_set_anonymous_username(
 
 /// By which algorithm a message would be signed now.
 #[unsafe(no_mangle)]
-pub extern "C" fn stun_client_signing_algorithm(alloc: Global, handle: &mut ClientHandle) -> i64
+pub extern "C" fn stunp_client_signing_algorithm(alloc: Global, handle: &mut ClientHandle) -> i64
     ensures empty { IfNone handle.old.client ((result ≡ code_of Refusal.EmptyHandle)
         × (handle.new.client ≡ None)) }
     ensures answer { IfSome handle.old.client (λ kept. result
@@ -912,7 +912,7 @@ pub extern "C" fn stun_client_signing_algorithm(alloc: Global, handle: &mut Clie
 
 /// Signs the message at the front of a buffer.
 #[unsafe(no_mangle)]
-pub extern "C" fn stun_client_sign(
+pub extern "C" fn stunp_client_sign(
     alloc: Global,
     handle: &mut ClientHandle,
     buffer: &mut [u8],
@@ -937,7 +937,7 @@ pub extern "C" fn stun_client_sign(
 
 /// What a response says.
 #[unsafe(no_mangle)]
-pub extern "C" fn stun_client_validate(
+pub extern "C" fn stunp_client_validate(
     alloc: Global,
     handle: &mut ClientHandle,
     message: &[u8],
@@ -964,7 +964,7 @@ pub extern "C" fn stun_client_validate(
 
 /// Frees the client. The handle is empty then.
 #[unsafe(no_mangle)]
-pub extern "C" fn stun_client_free(alloc: Global, handle: &mut ClientHandle)
+pub extern "C" fn stunp_client_free(alloc: Global, handle: &mut ClientHandle)
     ensures { handle.new.client ≡ None }
 {
     let _client = handle.take(alloc);

@@ -1,7 +1,7 @@
-//! STUN for programs in C, over the exported sources: what `include/stun.h` and
-//! `include/stun_state.h` declare, and nothing else.
+//! STUN for programs in C, over the exported sources: what `include/stunp.h` and
+//! `include/stunp_state.h` declare, and nothing else.
 //!
-//! `cargo build --release -p seatcrane-stun-c` makes `libstun.a` and `libstun.so`. What is unsafe stands
+//! `cargo build --release -p seatcrane-stun-c` makes `libstunp.a` and `libstunp.so`. What is unsafe stands
 //! in `border.rs`, where a slice comes as a pointer and a length, in `handle.rs`, where a handle keeps a
 //! pointer, and in `memory.rs`, which asks the program for memory.
 

@@ -1,9 +1,9 @@
-// stun.h and stun_state.h for C++17, to copy: handles that free themselves, messages that keep
+// stunp.h and stunp_state.h for C++17, to copy: handles that free themselves, messages that keep
 // their length, views in and results out. Nothing throws, but where C++ itself has no memory left.
-#ifndef STUN_HPP
-#define STUN_HPP
+#ifndef STUNP_HPP
+#define STUNP_HPP
 
-#include "stun_state.h"
+#include "stunp_state.h"
 #include <array>
 #include <optional>
 #include <string>
@@ -12,7 +12,7 @@
 #include <utility>
 #include <vector>
 
-namespace stun {
+namespace stunp {
 
 // Bytes that are read during a call: of a text, a vector, an array. The calls of C take no null
 // pointer, which an empty std::string_view or std::vector may have, so an empty view has another.
@@ -54,7 +54,7 @@ template <class T = int64_t> class [[nodiscard]] result {
     T &operator*() { return value_; }
     T *operator->() { return &value_; }
     int64_t number() const { return answer_; }
-    const char *text() const { return stun_strerror(answer_); }
+    const char *text() const { return stunp_strerror(answer_); }
 };
 // Of a call whose value is its answer.
 template <class T = int64_t, class Call, class... Arguments>
@@ -64,8 +64,8 @@ result<T> ask(Call of, Arguments... arguments) {
 }
 
 enum class kind : uint32_t { request, indication, success, error };
-enum class algorithm : uint32_t { sha1 = STUN_SHA1, sha256 = STUN_SHA256, both = 3 };
-using address = stun_address;
+enum class algorithm : uint32_t { sha1 = STUNP_SHA1, sha256 = STUNP_SHA256, both = 3 };
+using address = stunp_address;
 
 // ---- Handles, which move and are not copied. Each call refuses one that was not made.
 template <class H, void (*Free)(H *)> class handle {
@@ -79,44 +79,44 @@ template <class H, void (*Free)(H *)> class handle {
     H *get() { return &handle_; }
 };
 
-struct server : handle<stun_server, stun_server_free> {
+struct server : handle<stunp_server, stunp_server_free> {
     static result<server> make(view realm, algorithm supported = algorithm::sha1) {
         server made;
-        int64_t answer = call(stun_server_new, made.get(), realm);
-        if (answer == 0) answer = stun_server_set_algorithms(made.get(), uint32_t(supported));
+        int64_t answer = call(stunp_server_new, made.get(), realm);
+        if (answer == 0) answer = stunp_server_set_algorithms(made.get(), uint32_t(supported));
         return result<server>(answer, std::move(made));
     }
-    result<> add_user(view name, view word) { return ask(stun_server_add_user, get(), name, word); }
+    result<> add_user(view name, view word) { return ask(stunp_server_add_user, get(), name, word); }
     result<algorithm> validate(view message, const address &from, uint64_t now,
                                const std::array<uint32_t, 16> &words) {
-        return ask<algorithm>(stun_server_validate, get(), message, &from, now, words.data());
+        return ask<algorithm>(stunp_server_validate, get(), message, &from, now, words.data());
     }
     // Who was validated last at an address, or an empty name. One that USERHASH hid may be longer.
     result<std::string> client(const address &at, size_t longest = 513) {
         std::vector<uint8_t> name(longest + 1);
         size_t length = 0;
-        int64_t by = stun_server_client(get(), &at, name.data(), longest, &length);
+        int64_t by = stunp_server_client(get(), &at, name.data(), longest, &length);
         return result<std::string>(by, std::string(view(name.data(), length).text()));
     }
 };
 
-struct client : handle<stun_client, stun_client_free> {
+struct client : handle<stunp_client, stunp_client_free> {
     static result<client> make(view name, view password, algorithm supported = algorithm::sha1) {
         client made;
-        int64_t answer = stun_client_new(made.get());
-        if (answer == 0) answer = stun_client_set_algorithms(made.get(), uint32_t(supported));
-        if (answer == 0) answer = call(stun_client_set_credentials, made.get(), name, password);
+        int64_t answer = stunp_client_new(made.get());
+        if (answer == 0) answer = stunp_client_set_algorithms(made.get(), uint32_t(supported));
+        if (answer == 0) answer = call(stunp_client_set_credentials, made.get(), name, password);
         return result<client>(answer, std::move(made));
     }
-    // The value is that of an algorithm, or one for which stun_is_resend holds.
-    result<> validate(view message) { return ask(stun_client_validate, get(), message); }
+    // The value is that of an algorithm, or one for which stunp_is_resend holds.
+    result<> validate(view message) { return ask(stunp_client_validate, get(), message); }
 };
 
-// Its calls are those of C, as `ask(stun_agent_handle, agent.get(), message, &from, now)`.
-struct agent : handle<stun_agent, stun_agent_free> {
-    static result<agent> make(const address &local, uint32_t transport = STUN_UDP) {
+// Its calls are those of C, as `ask(stunp_agent_handle, agent.get(), message, &from, now)`.
+struct agent : handle<stunp_agent, stunp_agent_free> {
+    static result<agent> make(const address &local, uint32_t transport = STUNP_UDP) {
         agent made;
-        int64_t answer = stun_agent_new(made.get(), transport, &local);
+        int64_t answer = stunp_agent_new(made.get(), transport, &local);
         return result<agent>(answer, std::move(made));
     }
 };
@@ -133,21 +133,21 @@ class writer {
 
   public:
     writer(kind of, uint32_t method, view id, size_t room = 2048) : bytes_(room ? room : 1) {
-        length_ = call(stun_begin, uint32_t(of), method, id, bytes_.data(), bytes_.size());
+        length_ = call(stunp_begin, uint32_t(of), method, id, bytes_.data(), bytes_.size());
     }
-    writer &add(uint32_t type, view value) { return then(stun_add, type, value); }
+    writer &add(uint32_t type, view value) { return then(stunp_add, type, value); }
     writer &add_address(uint32_t type, const address &at) {
-        return then(stun_add_xor_address, type, view(at.octets, at.length), at.port);
+        return then(stunp_add_xor_address, type, view(at.octets, at.length), at.port);
     }
-    writer &add_error(uint32_t code, view why) { return then(stun_add_error, code, why); }
-    writer &sign(algorithm by, view key) { return then(stun_sign, uint32_t(by), key); }
+    writer &add_error(uint32_t code, view why) { return then(stunp_add_error, code, why); }
+    writer &sign(algorithm by, view key) { return then(stunp_sign, uint32_t(by), key); }
     writer &sign(client &by) {
-        return then([&](auto... message) { return stun_client_sign(by.get(), message...); });
+        return then([&](auto... message) { return stunp_client_sign(by.get(), message...); });
     }
     writer &sign(server &by, const address &to) {
-        return then([&](auto... message) { return stun_server_sign(by.get(), message..., &to); });
+        return then([&](auto... message) { return stunp_server_sign(by.get(), message..., &to); });
     }
-    writer &fingerprint() { return then(stun_add_fingerprint); }
+    writer &fingerprint() { return then(stunp_add_fingerprint); }
     result<view> finish() const {
         return result<view>(length_, view(bytes_.data(), length_ < 0 ? 0 : size_t(length_)));
     }
@@ -157,36 +157,36 @@ class writer {
 struct attribute { uint16_t type; view value; };
 struct message {
     view bytes;
-    result<stun_header> header() const { // that of a whole message
-        stun_header header{};
-        int64_t answer = call(stun_parse, bytes);
-        if (answer == 0) answer = call(stun_read_header, bytes, &header);
-        return result<stun_header>(answer, header);
+    result<stunp_header> header() const { // that of a whole message
+        stunp_header header{};
+        int64_t answer = call(stunp_parse, bytes);
+        if (answer == 0) answer = call(stunp_read_header, bytes, &header);
+        return result<stunp_header>(answer, header);
     }
     result<view> find(uint32_t type) const {
         size_t length = 0;
-        int64_t at = call(stun_find, bytes, type, &length);
+        int64_t at = call(stunp_find, bytes, type, &length);
         return result<view>(at, view(bytes.data() + (at < 0 ? 0 : at + 4), length));
     }
     result<address> find_address(uint32_t type) const { // of a type whose value is under XOR
         address out{};
         size_t length = 0;
-        int64_t at = call(stun_find, bytes, type, &length);
-        if (at > 0) at = call(stun_read_xor_address, bytes, size_t(at), out.octets, 16u, &out.port);
+        int64_t at = call(stunp_find, bytes, type, &length);
+        if (at > 0) at = call(stunp_read_xor_address, bytes, size_t(at), out.octets, 16u, &out.port);
         out.length = uint16_t(at);
         return result<address>(at, out);
     }
-    result<> error_code() const { return ask(stun_error_code, bytes); }
-    result<> fingerprint() const { return ask(stun_check_fingerprint, bytes); }
-    result<algorithm> verify(view key) const { return ask<algorithm>(stun_verify, bytes, key); }
+    result<> error_code() const { return ask(stunp_error_code, bytes); }
+    result<> fingerprint() const { return ask(stunp_check_fingerprint, bytes); }
+    result<algorithm> verify(view key) const { return ask<algorithm>(stunp_verify, bytes, key); }
     struct iterator {
         view bytes;
-        stun_cursor cursor{};
+        stunp_cursor cursor{};
         uint16_t type = 0;
         size_t length = 0;
         int64_t place = 0;
         iterator &operator++() {
-            return place = call(stun_walk, bytes, &cursor, &type, &length), *this;
+            return place = call(stunp_walk, bytes, &cursor, &type, &length), *this;
         }
         attribute operator*() const { return {type, {bytes.data() + place + 4, length}}; }
         bool operator!=(std::nullptr_t) const { return place > 0; }
@@ -195,6 +195,6 @@ struct message {
     std::nullptr_t end() const { return nullptr; }
 };
 
-} // namespace stun
+} // namespace stunp
 
 #endif

@@ -187,11 +187,11 @@ static stunp_client client;
 
 #define MAKES(kind, call)                                                     \
     do {                                                                      \
-        stun_##kind fresh = {false, NULL};                                    \
+        stunp_##kind fresh = {false, NULL};                                    \
         int64_t answer = call;                                                \
         if (fresh.is_full != (answer == 0)) fail("a handle that is not made"); \
         if (answer < 0) return answer;                                        \
-        stun_##kind##_free(&kind);                                            \
+        stunp_##kind##_free(&kind);                                            \
         kind = fresh;                                                         \
         return answer;                                                        \
     } while (0)

@@ -1,5 +1,5 @@
 # The words of this repository. Only `prove`, `c` and `check` need the toolchain (rt).
-.PHONY: help rust rust-c prove c check bench install
+.PHONY: help rust rust-c prove c check bench install release verify-release
 
 help:
 	@echo "make rust     export the proved sources as plain Rust to target/export, and run its tests"
@@ -9,6 +9,7 @@ help:
 	@echo "make prove    prove everything, and run all tests (rt ci)"
 	@echo "make check    what the gate runs (.ci/run)"
 	@echo "make bench    speed, over the archives that make c built"
+	@echo "make release  release/ from what is built; LOG=FILE is what .ci/run printed"
 
 rust:
 	@tools/rust.sh
@@ -31,3 +32,9 @@ check:
 
 bench:
 	bench/run.sh
+
+release:
+	@python3 tools/release.py release "$(LOG)"
+
+verify-release:
+	@python3 tools/release.py --verify release

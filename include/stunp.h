@@ -8,27 +8,23 @@
  *
  * The calls, in the order of this file:
  *
- *   messages      stunp_parse  stunp_read_header  stunp_class  stunp_method  stunp_id
- *   attributes    stunp_find  stunp_walk  stunp_next
- *    by place     stunp_read_text  stunp_read_number  stunp_read_address
- *                 stunp_read_xor_address  stunp_read_types
- *    by type      stunp_find_text  stunp_find_number  stunp_find_address
- *                 stunp_find_xor_address  stunp_find_types
- *    of its own   stunp_error_code  stunp_xor_mapped_address
- *   checks        stunp_verify  stunp_check_fingerprint  stunp_unknown_types
- *   writing       stunp_begin  stunp_add  stunp_add_number  stunp_add_address
- *                 stunp_add_xor_address  stunp_add_xor_mapped_address  stunp_add_error
- *                 stunp_sign  stunp_add_fingerprint
- *    a writer     stunp_write  stunp_write_on  stunp_write_bytes  stunp_write_text
- *                 stunp_write_number  stunp_write_address  stunp_write_xor_address
- *                 stunp_write_error  stunp_write_integrity  stunp_write_fingerprint
- *                 stunp_written
- *    at once      stunp_build_signed  stunp_refuse_unknown
- *   keys          stunp_long_term_key  stunp_userhash
- *   streams       stunp_is_stun  stunp_next_frame  stunp_next_packet_frame
- *                 stunp_next_turn_frame
- *   errors        stunp_strerror  stunp_error_text
- *   versions      stunp_version  stunp_release_0_2
+ *   messages: stunp_parse, stunp_read_header, stunp_class, stunp_method, stunp_id
+ *   attributes: stunp_find, stunp_walk, stunp_next
+ *   attributes by place: stunp_read_text, stunp_read_number, stunp_read_address,
+ *    stunp_read_xor_address, stunp_read_types
+ *   attributes by type: stunp_find_text, stunp_find_number, stunp_find_address,
+ *    stunp_find_xor_address, stunp_find_types, stunp_error_code, stunp_xor_mapped_address
+ *   checks: stunp_verify, stunp_check_fingerprint, stunp_unknown_types
+ *   writing: stunp_begin, stunp_add, stunp_add_number, stunp_add_address, stunp_add_xor_address,
+ *    stunp_add_xor_mapped_address, stunp_add_error, stunp_sign, stunp_add_fingerprint
+ *   writing by a writer: stunp_write, stunp_write_on, stunp_write_bytes, stunp_write_text,
+ *    stunp_write_number, stunp_write_address, stunp_write_xor_address, stunp_write_error,
+ *    stunp_write_integrity, stunp_write_fingerprint, stunp_written
+ *   whole messages: stunp_build_signed, stunp_refuse_unknown
+ *   keys: stunp_long_term_key, stunp_userhash
+ *   packets and streams: stunp_is_stun, stunp_next_frame, stunp_next_packet_frame,
+ *    stunp_next_turn_frame
+ *   errors and versions: stunp_error_text, stunp_strerror, stunp_version, stunp_release_0_2
  *
  * Memory. A call does not allocate, keeps nothing that is passed, and writes nowhere but to its
  * output. Lengths are in bytes, where nothing else is said. What is passed is read from its first

@@ -583,7 +583,7 @@ static void writes_samples(void) {
     stunp_write_xor_address(&answer, STUNP_XOR_MAPPED_ADDRESS, peer_6, 16, 32853);
     CHECK(stunp_written(&answer), 0);
     CHECK((int64_t)answer.length, 60);
-    CHECK(memcmp(out + 4, response_6 + 4, 35), 0);
+    CHECK(memcmp(out + 4, response_6 + 4, 31), 0);
     CHECK(memcmp(out + 36, response_6 + 36, 24), 0);
     stunp_write_address(&answer, STUNP_MAPPED_ADDRESS, peer_4, 4, 32853);
     stunp_write_error(&answer, 487, "Role Conflict");

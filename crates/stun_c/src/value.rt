@@ -70,11 +70,7 @@ fn types_at(message: &[u8], place: usize) -> Result<UnknownAttributes<'_>, Refus
 }
 
 /// Writes types to the front of the caller's, as many as have room.
-#[tactic(auto, using(
-    crate::proofs::Told::held_next,
-    crate::proofs::Told::held_none,
-    crate::proofs::Told::held_all
-))]
+#[tactic(auto, using(crate::proofs::Told::held_next, crate::proofs::Told::held_none, crate::proofs::Told::held_all))]
 fn hold(held: &UnknownAttributes<'_>, types: &mut [u16])
     ensures { types.new ≡ numbers_after held.now types.old }
 {

@@ -6,7 +6,8 @@ use core::slice;
 ///
 /// # Safety
 ///
-/// Where the length is not 0, so many values are at the pointer, and nothing writes them before the call ends.
+/// Where the length is not 0, so many values are at the pointer, and nothing writes them before the
+/// call ends.
 pub unsafe fn read<'a, T>(at: *const T, length: usize) -> &'a [T] {
     if length == 0 {
         return &[];
@@ -19,7 +20,8 @@ pub unsafe fn read<'a, T>(at: *const T, length: usize) -> &'a [T] {
 ///
 /// # Safety
 ///
-/// Where the length is not 0, so many values are at the pointer, and nothing else reads or writes them before the call ends.
+/// Where the length is not 0, so many values are at the pointer, and nothing else reads or writes
+/// them before the call ends.
 pub unsafe fn written<'a, T>(at: *mut T, length: usize) -> &'a mut [T] {
     if length == 0 {
         return &mut [];

@@ -1,8 +1,8 @@
 //! Deadlines in a tree, which is a heap by their moments and a radix tree by their ids.
 ghost use Rattle.std.specs.Prelude.{◌≡◌, ℕ, [], ◌∷◌, ◌+◌, ◌≤◌, fold, map, None, IfOk, IsPermutation};
 ghost use Rattle.stun_agent.specs.Transactions.{sooner};
-ghost use Rattle.stun_agent.specs.code.Deadlines.{early, entries_at, is_passed};
-ghost use Rattle.stun_agent.specs.code.DeadlineTree.{items, below, middle, height, height_below, is_no_later, IsAlone, IsExchanged, IsLast, IsTree, IsBelow, IsWithin, TakesFirst, TakesNext, Takes, IsSearch, least_come, with_id};
+ghost use Rattle.stun_agent.specs.code.Deadlines.{early, entries_at, is_passed, lesser};
+ghost use Rattle.stun_agent.specs.code.DeadlineTree.{items, below, middle, height, height_below, is_no_later, IsAlone, IsExchanged, IsLast, IsTree, IsBelow, IsWithin, TakesFirst, TakesNext, Takes, IsSearch, least_come, first_come, with_id};
 ghost use Rattle.stun_agent.specs.declared.deadline_tree.Link.TheVariants.{Empty};
 
 use crate::deadlines::{Deadline, Reads};
@@ -58,10 +58,10 @@ impl<A: Allocator> DeadlineTree<A> {
         requires { entries_at entry.id self.old ≡ [] }
         ensures { IsPermutation (entry ∷ self.old) self.new }
     {
-        let Entry { deadline, node } = entry;
+        let Entry { mut deadline, node } = entry;
         // An id is a number below `IDS`, which its number tells.
         let _id = deadline.id.as_u128();
-        put(&mut self.root, 0, IDS, deadline, node);
+        put(&mut self.root, 0, IDS, &mut deadline, node);
     }
 
     /// Takes out the entry of an id.
@@ -85,7 +85,10 @@ impl<A: Allocator> DeadlineTree<A> {
         ensures paths { reads.new ≤ reads.old + 194 }
         ensures path { last.now ≡ None → reads.new ≤ reads.old + 97 }
     {
-        least_come(&self.root, 0, IDS, now, last, reads)
+        match last {
+            Some(_) => least_come(&self.root, 0, IDS, now, last, reads),
+            None => least_of_all(&self.root, now, None, reads),
+        }
     }
 }
 
@@ -169,37 +172,35 @@ fn put<A: Allocator>(
     link: &mut Link<A>,
     low: u128,
     high: u128,
-    deadline: Deadline,
+    deadline: &mut Deadline,
     own: Box<Node<A>, A>,
 )
     requires tree { IsTree low high link.old }
-    requires within { IsWithin low high deadline }
+    requires within { IsWithin low high deadline.old }
     requires alone { IsAlone own.value }
-    ensures items { IsPermutation (deadline ∷ items link.old) (items link.new) }
+    ensures items { IsPermutation (deadline.old ∷ items link.old) (items link.new) }
     ensures tree { IsTree low high link.new }
 {
     match link {
-        Link::Empty => *link = Link::Held(deadline, own),
+        Link::Empty => *link = Link::Held(*deadline, own),
         Link::Held(top, node) => {
-            let later = exchange_sooner(top, deadline);
+            leave_sooner(top, deadline);
             let middle = middle(low, high);
-            if later.id.as_u128() < middle {
-                put(&mut node.left, low, middle, later, own);
+            if deadline.id.as_u128() < middle {
+                put(&mut node.left, low, middle, deadline, own);
             } else {
-                put(&mut node.right, middle, high, later, own);
+                put(&mut node.right, middle, high, deadline, own);
             }
         }
     }
 }
 
-/// Leaves the sooner of two deadlines at the top, and returns the other one.
-fn exchange_sooner(top: &mut Deadline, deadline: Deadline) -> Deadline
-    ensures { IsExchanged deadline top.old top.new result }
+/// Leaves the sooner of two deadlines at the top, and the other one in its place.
+fn leave_sooner(top: &mut Deadline, deadline: &mut Deadline)
+    ensures { IsExchanged deadline.old top.old top.new deadline.new }
 {
     if deadline.moment < top.moment {
-        mem::replace(top, deadline)
-    } else {
-        deadline
+        mem::swap(top, deadline);
     }
 }
 
@@ -281,6 +282,46 @@ fn unlink<A: Allocator>(link: &mut Link<A>) -> Option<Entry<A>>
     match mem::replace(link, Link::Empty) {
         Link::Empty => None,
         Link::Held(deadline, node) => Some(Entry { deadline, node }),
+    }
+}
+
+/// The least id among those below a link whose moment has come, and this one. It goes down one path:
+/// where one on the left has come, none on the right is less.
+fn least_of_all<A: Allocator, L: Ledger>(
+    link: &Link<A>,
+    now: Instant,
+    least: Option<TransactionId>,
+    reads: &mut Reads<L>,
+) -> Option<TransactionId>
+    ensures answer { (low high : ℕ) → IsTree low high link.now → result
+        ≡ lesser least (least_come now None (items link.now)) }
+    ensures work { reads.new ≤ reads.old + early now (items link.now) }
+    ensures path { reads.new ≤ reads.old + height link.now }
+{
+    match link {
+        Link::Empty => least,
+        Link::Held(top, node) => {
+            if top.moment > now {
+                return least;
+            }
+            reads.tick();
+            let least = with_id(least, None, top.id);
+            if has_come(&node.left, now) {
+                least_of_all(&node.left, now, least, reads)
+            } else {
+                least_of_all(&node.right, now, least, reads)
+            }
+        }
+    }
+}
+
+/// Whether a link leads to a deadline that has come.
+fn has_come<A: Allocator>(link: &Link<A>, now: Instant) -> bool
+    ensures { result ≡ first_come now (items link.now) }
+{
+    match link {
+        Link::Empty => false,
+        Link::Held(top, _) => top.moment <= now,
     }
 }
 

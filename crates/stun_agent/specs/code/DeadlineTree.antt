@@ -114,6 +114,11 @@ with_id least last id = if is_passed last id then least else sooner least id
 abbrev pub least_come : ℕ → Option ℕ → List Deadline → Option ℕ
 least_come now last ds = fold sooner None (map (λ d. d.id) (filter (λ d. nat_le d.moment now && not (is_passed last d.id)) ds))
 
+-- the first of these has come, and there is one
+abbrev pub first_come : ℕ → List Deadline → Bool
+first_come now [] = false
+first_come now (d ∷ ds) = nat_le d.moment now
+
 -- how many nodes may be read to find an id from `low` on, where paths have so many: those of two paths, and those of one
 -- where there is no such id, or where none is passed
 pub record IsSearch (last : Option ℕ) (low path : ℕ) (found : Option ℕ) (old new : ℕ) : Type 0 where

@@ -1,8 +1,9 @@
 //! Deadlines in a tree, which is a heap by their moments and a radix tree by their ids.
-ghost use Rattle.std.specs.Prelude.{◌≡◌, ℕ, [], ◌∷◌, ◌+◌, ◌≤◌, fold, map, None, IfOk, IsPermutation};
+ghost use Rattle.std.specs.Prelude.{◌≡◌, ℕ, [], ◌∷◌, ◌+◌, ◌≤◌, fold, map, None, IfOk, IfSome, IsPermutation};
+ghost use Rattle.std.specs.Option.{is_some};
 ghost use Rattle.stun_agent.specs.Transactions.{sooner};
 ghost use Rattle.stun_agent.specs.code.Deadlines.{early, entries_at, is_passed, lesser};
-ghost use Rattle.stun_agent.specs.code.DeadlineTree.{items, below, middle, height, height_below, is_no_later, IsAlone, IsExchanged, IsLast, IsTree, IsBelow, IsWithin, TakesFirst, TakesNext, Takes, IsSearch, least_come, first_come, with_id};
+ghost use Rattle.stun_agent.specs.code.DeadlineTree.{items, below, middle, height, height_below, is_no_later, IsAlone, IsExchanged, IsLast, IsTree, IsBelow, IsWithin, TakesFirst, TakesNext, Takes, first_of, next_of, IsSearch, least_come, first_come, with_id};
 ghost use Rattle.stun_agent.specs.declared.deadline_tree.Link.TheVariants.{Empty};
 
 use crate::deadlines::{Deadline, Reads};
@@ -219,7 +220,9 @@ fn take<A: Allocator>(
         Link::Empty => None,
         Link::Held(top, node) => {
             if top.id == id {
-                return take_first(link);
+                let deadline = *top;
+                let node = take_first(link)?;
+                return Some(Entry { deadline, node });
             }
             let middle = middle(low, high);
             if id.as_u128() < middle {
@@ -231,34 +234,59 @@ fn take<A: Allocator>(
     }
 }
 
-/// Takes out the deadline that a link leads to. The sooner of the two below it comes in its place.
+/// Takes out the deadline that a link leads to, and returns a node. The sooner of the two below it
+/// comes in its place.
 #[cycle(take_first)]
-fn take_first<A: Allocator>(link: &mut Link<A>) -> Option<Entry<A>>
-    ensures taken { TakesFirst (items link.old) result (items link.new) }
+fn take_first<A: Allocator>(link: &mut Link<A>) -> Option<Box<Node<A>, A>>
+    ensures taken { TakesFirst (items link.old) (first_of (items link.old)) (items link.new) }
+    ensures some { is_some result ≡ is_some (first_of (items link.old)) }
+    ensures alone { IfSome result (λ node. IsAlone node.value) }
     ensures tree { (low high : ℕ) → IsTree low high link.old → IsTree low high link.new }
 {
     match link {
         Link::Empty => None,
-        Link::Held(top, node) => match take_next(node) {
-            Some(mut next) => {
-                let sooner = next.deadline();
-                next.set(mem::replace(top, sooner));
-                Some(next)
+        Link::Held(top, node) => match next(node) {
+            Some(next) => {
+                *top = next;
+                take_next(node)
             }
             None => unlink(link),
         },
     }
 }
 
-/// Takes out the sooner of the two deadlines below a node.
+/// Takes out the sooner of the two deadlines below a node, and returns another node.
 #[cycle(take_first)]
-fn take_next<A: Allocator>(node: &mut Node<A>) -> Option<Entry<A>>
-    ensures { TakesNext node.old result node.new }
+fn take_next<A: Allocator>(node: &mut Node<A>) -> Option<Box<Node<A>, A>>
+    ensures taken { TakesNext node.old (next_of node.old) node.new }
+    ensures some { is_some result ≡ is_some (next_of node.old) }
+    ensures alone { IfSome result (λ other. IsAlone other.value) }
 {
     if is_no_later(&node.left, &node.right) {
         take_first(&mut node.left)
     } else {
         take_first(&mut node.right)
+    }
+}
+
+/// The sooner of the two deadlines below a node.
+fn next<A: Allocator>(node: &Node<A>) -> Option<Deadline>
+    ensures { result ≡ next_of node.now }
+{
+    if is_no_later(&node.left, &node.right) {
+        first(&node.left)
+    } else {
+        first(&node.right)
+    }
+}
+
+/// The deadline that a link leads to.
+fn first<A: Allocator>(link: &Link<A>) -> Option<Deadline>
+    ensures { result ≡ first_of (items link.now) }
+{
+    match link {
+        Link::Empty => None,
+        Link::Held(top, _) => Some(*top),
     }
 }
 
@@ -274,14 +302,16 @@ fn is_no_later<A: Allocator>(link: &Link<A>, other: &Link<A>) -> bool
 }
 
 /// Takes the last node off a link.
-fn unlink<A: Allocator>(link: &mut Link<A>) -> Option<Entry<A>>
+fn unlink<A: Allocator>(link: &mut Link<A>) -> Option<Box<Node<A>, A>>
     requires { IsLast link.old }
-    ensures taken { TakesFirst (items link.old) result [] }
+    ensures taken { TakesFirst (items link.old) (first_of (items link.old)) [] }
+    ensures some { is_some result ≡ is_some (first_of (items link.old)) }
+    ensures alone { IfSome result (λ node. IsAlone node.value) }
     ensures empty { link.new ≡ Empty }
 {
     match mem::replace(link, Link::Empty) {
         Link::Empty => None,
-        Link::Held(deadline, node) => Some(Entry { deadline, node }),
+        Link::Held(_, node) => Some(node),
     }
 }
 

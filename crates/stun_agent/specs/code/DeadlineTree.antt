@@ -100,6 +100,15 @@ pub record IsNextTaken {A : Type 0} (d : Deadline) (old new : Node A) : Type 0 w
 abbrev pub TakesNext : {A : Type 0} → Node A → Option Deadline → Node A → Type 0
 TakesNext old taken new = MatchOption taken (IsAlone old × (new ≡ old)) (λ d. IsNextTaken d old new)
 
+-- the first of these, if there is any
+abbrev pub first_of : List Deadline → Option Deadline
+first_of [] = None
+first_of (d ∷ ds) = Some d
+
+-- the sooner of the two first ones below a node, if there is any
+abbrev pub next_of : {A : Type 0} → Node A → Option Deadline
+next_of node = if is_no_later (items node.left) (items node.right) then first_of (items node.left) else first_of (items node.right)
+
 -- it leads to nothing, or to a node that nothing is below
 abbrev pub IsLast : {A : Type 0} → Link A → Type 0
 IsLast Empty = Unit {0}

@@ -136,10 +136,6 @@ module _ (now : ℕ) (last : Option ℕ) where
         sym (side_by_side ls rs ∙ ap (λ o. fold sooner o (ids rs)) (sym found) ∙ fold_keeps id (ids rs) high)
 
 -- ---- where no id is passed
-pub lesser_none : (o : Option ℕ) → lesser None o ≡ o
-lesser_none None = refl
-lesser_none (Some m) = refl
-
 lesser_sooner : (least : Option ℕ) (n : ℕ) (o : Option ℕ) → lesser (sooner least n) o ≡ lesser least (sooner o n)
 lesser_sooner least n None = refl
 lesser_sooner None n (Some m) = ap Some (let same : min n m ≡ min m n = omega arith in same)

@@ -22,7 +22,6 @@ use Rattle.stun_state.specs.Numbers.{algorithm_answer}
 use Rattle.stun_state.specs.declared.address.Address.{Address}
 use Rattle.stun_state.specs.declared.codes.Refusal.{Refusal}
 use Rattle.stun_state.specs.declared.codes.Refusal.TheVariants.{BufferTooSmall}
-use Rattle.stun_state.specs.declared.server.Validated.{Validated as Known}
 
 -- ---- settings
 
@@ -77,11 +76,14 @@ abbrev pub client_at : ServerSeen → SocketAddr → Option ClientSeen
 client_at s address = option_and_then (λ (p : PlaceSeen). p.client) (map.get s.places address)
 
 -- who is told, where a buffer of so many bytes has room for the name
-abbrev pub client_told : ℕ → Option ClientSeen → Result (Option Known) Refusal
+abbrev pub client_told : ℕ → Option ClientSeen → Result (Option IntegrityAlgorithm) Refusal
 client_told room None = Ok None
-client_told room (Some c) =
-    if nat_lt room (length c.name) then Err BufferTooSmall
-    else Ok (Some (record { name_length = length c.name; algorithm = c.algorithm }))
+client_told room (Some c) = if nat_lt room (length c.name) then Err BufferTooSmall else Ok (Some c.algorithm)
+
+-- how long the name is, also where it has no room
+abbrev pub name_length_of : Option ClientSeen → ℕ → ℕ
+name_length_of None before = before
+name_length_of (Some c) before = length c.name
 
 -- the buffer with a text at its front, where it has room for it
 abbrev pub with_text : List ℕ → List ℕ → List ℕ
@@ -93,7 +95,7 @@ name_written buffer None = buffer
 name_written buffer (Some c) = with_text buffer c.name
 
 -- the same at an address as a caller gives it
-abbrev pub client_found : ServerSeen → Address → ℕ → Result (Option Known) Refusal
+abbrev pub client_found : ServerSeen → Address → ℕ → Result (Option IntegrityAlgorithm) Refusal
 client_found s address room = at_address (socket_address address) (λ a. client_told room (client_at s a))
 
 -- ---- nonces

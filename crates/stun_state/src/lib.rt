@@ -11,7 +11,7 @@ ghost use Rattle.stun_auth.specs.ClientSigning.{signing_algorithm};
 ghost use Rattle.stun_auth.specs.Forgetting.{after_forgetting, without_place};
 ghost use Rattle.stun_auth.specs.ForgettingSteps.{after_step, next_address};
 ghost use Rattle.stun_state.specs.Addresses.{socket_address, start_for, start_told};
-ghost use Rattle.stun_state.specs.Agent.{bytes_told, found, handled, id_in, id_told, kept_after_configuring, kept_after_message, kept_after_naming, kept_after_request, known, made, made_with, moment_told, peer_found, polled, requested, sent, sent_again, sent_to, told_of, transport_numbered, unless_no_wait, with_changed};
+ghost use Rattle.stun_state.specs.Agent.{bytes_told, found, handled, id_in, id_told, kept_after_configuring, kept_after_message, kept_after_naming, kept_after_request, known, made, made_with, moment_told, peer_found, polled, requested, sent, sent_again, sent_to, statistics_answer, told_of, transport_numbered, unless_untimed, with_changed};
 ghost use Rattle.stun_state.specs.Answers.{after_address, after_start, at_address, at_start, done_if_given, text_refusal, texts_refusal, unless_refused};
 ghost use Rattle.stun_auth.specs.Client.{new_client};
 ghost use Rattle.stun_auth.specs.Registered.{with_user};
@@ -20,9 +20,9 @@ ghost use Rattle.stun_state.specs.Client as on_client;
 ghost use Rattle.stun_state.specs.Client.{after_validating, validated, with_credentials};
 ghost use Rattle.stun_state.specs.Codes.{algorithm_or_none, algorithms_numbered, code_of, feature_numbered};
 ghost use Rattle.stun_state.specs.Memory.{AsksAgain, IsRequestTaken, LeavesServer, message_adds_none, naming_adds_none};
-ghost use Rattle.stun_state.specs.Numbers.{IsOrOutOfMemory, OrOutOfMemory, client_answer, done_answer, left_by, length_answer, length_told, number_answer, reading_answer};
+ghost use Rattle.stun_state.specs.Numbers.{IsOrOutOfMemory, OrOutOfMemory, done_answer, found_answer, left_by, length_answer, number_answer, reading_answer};
 ghost use Rattle.stun_state.specs.Server as on_server;
-ghost use Rattle.stun_state.specs.Server.{client_at, client_found, kept_after_validating, name_written, nonce_at, nonce_found, nonce_written, step_answer, validation_number, with_expiry, without_client, without_named};
+ghost use Rattle.stun_state.specs.Server.{client_at, client_found, kept_after_validating, name_length_of, name_written, nonce_at, nonce_found, nonce_written, step_answer, validation_number, with_expiry, without_client, without_named};
 ghost use Rattle.stun_state.specs.Signing.{buffer_after, kept_after_signing, length_of, signed_by_client, signed_for};
 
 mod address;
@@ -389,7 +389,7 @@ pub extern "C" fn stunp_agent_configure(
     ensures empty { IfNone handle.old.agent ((result ≡ code_of Refusal.EmptyHandle)
         × (handle.new.agent ≡ None)) }
     ensures answer { IfSome handle.old.agent (λ kept. result ≡ number_answer
-        (unless_no_wait timeouts.now (found (id_in id.now) kept.agent))) }
+        (unless_untimed timeouts.now (found (id_in id.now) kept.agent))) }
     ensures state { IfSome handle.old.agent (λ kept. handle.new.agent ≡ Some (record {
       agent = kept_after_configuring timeouts.now (id_in id.now) kept.agent;
     })) }
@@ -412,16 +412,18 @@ pub extern "C" fn stunp_agent_statistics(
     ensures empty { IfNone handle.old.agent ((result ≡ code_of Refusal.EmptyHandle)
         × (handle.new.agent ≡ None)
         × (statistics.new ≡ statistics.old)) }
-    ensures answer { IfSome handle.old.agent (λ kept. (result ≡ pos 0)
-        × (statistics.new ≡ told_of kept.agent.statistics statistics.old)) }
+    ensures answer { IfSome handle.old.agent (λ _. result
+        ≡ done_answer (statistics_answer statistics.old)) }
+    ensures told { IfSome handle.old.agent (λ kept. statistics.new ≡ left_by result statistics.old
+        (told_of kept.agent.statistics statistics.old)) }
     ensures same { handle.new.agent ≡ handle.old.agent }
 {
     let Some(mut kept) = handle.take(alloc) else {
         return Refusal::EmptyHandle.code();
     };
-    agent::tell_statistics(&kept.agent, statistics);
+    let answer = answers::done(agent::tell_statistics(&kept.agent, statistics));
     handle.put(alloc, kept);
-    0
+    answer
 }
 
 /// Frees the agent. The handle is empty then.
@@ -687,19 +689,22 @@ pub extern "C" fn stunp_server_client(
     ensures empty { IfNone handle.old.server ((result ≡ code_of Refusal.EmptyHandle)
         × (handle.new.server ≡ None)
         × (name.new ≡ name.old) × (name_length.new ≡ name_length.old)) }
-    ensures answer { IfSome handle.old.server (λ kept. result ≡ client_answer
+    ensures answer { IfSome handle.old.server (λ kept. result ≡ found_answer
         (client_found kept.server at.now (length name.old))) }
     ensures name { IfSome handle.old.server (λ kept. name.new
         ≡ after_address (socket_address at.now) name.old
         (λ at. name_written name.old (client_at kept.server at))) }
-    ensures name_length { IfSome handle.old.server (λ kept. name_length.new ≡ length_told
-        (client_found kept.server at.now (length name.old)) name_length.old) }
+
+    // Also where the buffer has no room for the name.
+    ensures name_length { IfSome handle.old.server (λ kept. name_length.new
+        ≡ after_address (socket_address at.now) name_length.old
+        (λ at. name_length_of (client_at kept.server at) name_length.old)) }
     ensures same { handle.new.server ≡ handle.old.server }
 {
     let Some(mut kept) = handle.take(alloc) else {
         return Refusal::EmptyHandle.code();
     };
-    let answer = answers::client(server::client(&kept.server, at, name), name_length);
+    let answer = answers::found(server::client(&kept.server, at, name, name_length));
     handle.put(alloc, kept);
     answer
 }

@@ -129,6 +129,10 @@ known a peer = Ok (if is_peer peer a.peers then 1 else 0)
 abbrev pub kept_after_naming : Agent → Address → Agent
 kept_after_naming a peer = after_address (socket_address peer) a (λ peer. agent.with_validated peer a)
 
+-- the same once it is forgotten
+abbrev pub kept_after_forgetting : Agent → Address → Agent
+kept_after_forgetting a peer = after_address (socket_address peer) a (λ peer. agent.without_validated peer a)
+
 -- ---- time
 
 -- the number of what a poll answers

@@ -1,8 +1,9 @@
 -- The numbers that calls answer.
-use Rattle.std.specs.Prelude.{◌≡◌, ◌⊎◌, ◌+◌, ◌&&◌, Bool, ℕ, ℤ, pos, int_lt, min, if◌then◌else◌, Option, Some, None, Result, Ok, Err}
+use Rattle.std.specs.Prelude.{◌≡◌, ◌⊎◌, ◌+◌, ◌&&◌, not, Bool, ℕ, ℤ, pos, int_lt, min, if◌then◌else◌, Option, Some, None, Result, Ok, Err}
 use Rattle.stun_auth.specs.declared.client_answer.LongTermClientValidation.{LongTermClientValidation}
 use Rattle.stun_auth.specs.declared.client_answer.LongTermClientValidation.TheVariants as Reading
 use Rattle.stun_base.specs.declared.algorithm.IntegrityAlgorithm.{IntegrityAlgorithm}
+use Rattle.stun_base.specs.declared.algorithm.IntegrityAlgorithm.TheVariants.{Sha256}
 use Rattle.stun_state.specs.Codes.{code_of, algorithm_number}
 use Rattle.stun_state.specs.declared.codes.Refusal.{Refusal}
 use Rattle.stun_state.specs.declared.codes.Refusal.TheVariants.{OutOfMemory}
@@ -47,7 +48,7 @@ found_answer (Err refusal) = code_of refusal
 -- whether an answer of reading asks for another request: it is one of the numbers of `resend_number`
 abbrev pub is_resend_answer : ℤ → Bool
 is_resend_answer answer =
-    int_lt (pos 2) answer && int_lt answer (pos 6)
+    not (int_lt answer (pos (resend_number None))) && not (int_lt (pos (resend_number (Some Sha256))) answer)
 
 -- a call answers this number and leaves this in its handle; or an allocation failed: it answers the number of that, and the
 -- handle is as before

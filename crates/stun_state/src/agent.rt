@@ -7,7 +7,7 @@ ghost use Rattle.byteorder.specs.Endian.{big_bytes};
 ghost use Rattle.stun_agent.specs.Agent.{after_message, after_poll, after_poll_transmit, after_send, after_send_request, poll_answer, sent_by_poll};
 ghost use Rattle.stun_agent.specs.Transactions.{cancelled, silenced};
 ghost use Rattle.stun_state.specs.Addresses.{socket_address};
-ghost use Rattle.stun_state.specs.Agent.{bytes_told, found, handled, id_in, id_told, kept_after_configuring, kept_after_naming, known, made, made_with, moment_told, nanoseconds, peer_found, polled, refusal_of_agent, remote_given, requested, sent, sent_again, sent_to, statistics_answer, timeouts_refusal, told, told_of, transport_numbered, unless_untimed, with_changed};
+ghost use Rattle.stun_state.specs.Agent.{bytes_told, found, handled, id_in, id_told, kept_after_configuring, kept_after_forgetting, kept_after_naming, known, made, made_with, moment_told, nanoseconds, peer_found, polled, refusal_of_agent, remote_given, requested, sent, sent_again, sent_to, statistics_answer, timeouts_refusal, told, told_of, transport_numbered, unless_untimed, with_changed};
 ghost use Rattle.stun_state.specs.Answers.{OrMemory, at_address, done_if_given};
 ghost use Rattle.stun_state.specs.Memory.{IsRequestTaken, message_adds_none, naming_adds_none};
 
@@ -31,6 +31,7 @@ const ID_LENGTH: usize = 12;
 
 /// How many bytes a caller's time-outs have, and its statistics. Each begins with that number.
 const TIMEOUTS_SIZE: usize = size_of::<Timeouts>();
+
 const STATISTICS_SIZE: usize = size_of::<Statistics>();
 
 /// When a request is sent again, in nanoseconds.
@@ -324,6 +325,15 @@ pub fn is_validated_peer(agent: &StunAgent<Global>, peer: &Address) -> Result<u3
     ensures { result ≡ at_address (socket_address peer.now) (known agent.now) }
 {
     Ok(u32::from(agent.is_validated_peer(peer.socket()?)))
+}
+
+/// Forgets that messages from an address were taken, or that it was named.
+pub fn forget_peer(agent: &mut StunAgent<Global>, peer: &Address) -> Result<(), Refusal>
+    ensures answer { result ≡ done_if_given (socket_address peer.now) }
+    ensures state { agent.new ≡ kept_after_forgetting agent.old peer.now }
+{
+    agent.forget_validated_peer(peer.socket()?);
+    Ok(())
 }
 
 /// Whether a request of an id is outstanding, and the address that it went to.

@@ -1,14 +1,16 @@
 //! The numbers that calls answer.
 
 ghost use Rattle.std.specs.Prelude.{◌≡◌, pos};
-ghost use Rattle.stun_state.specs.Numbers.{algorithm_answer, done_answer, found_answer, length_answer, number_answer, reading_answer, resend_number};
+ghost use Rattle.stun_state.specs.Numbers.{algorithm_answer, done_answer, found_answer, is_resend_answer, length_answer, number_answer, reading_answer, resend_number};
 
 use crate::codes::{Refusal, algorithm_number};
 use stun_auth::auth::LongTermClientValidation;
 use stun_base::algorithm::IntegrityAlgorithm;
 
-/// The number of a response that asks for another request, and that is not rightly signed.
+/// The number of a response that asks for another request, and that is not rightly signed; and the last number of one that is.
 const RESEND: i64 = 3;
+
+const RESEND_SHA256: i64 = 5;
 
 /// The greatest number that a call answers.
 const MOST: usize = 9_223_372_036_854_775_807;
@@ -51,6 +53,13 @@ fn resend(signed_by: Option<IntegrityAlgorithm>) -> i64
         Some(algorithm) => RESEND + i64::from(algorithm_number(algorithm)),
         None => RESEND,
     }
+}
+
+/// Whether an answer is one of the numbers by which another request is asked for.
+pub fn is_resend(answer: i64) -> bool
+    ensures { result ≡ is_resend_answer answer }
+{
+    answer >= RESEND && answer <= RESEND_SHA256
 }
 
 /// What a response says, or the refusal.

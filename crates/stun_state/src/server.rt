@@ -17,10 +17,11 @@ ghost use Rattle.stun_state.specs.Codes.{algorithms_numbered, feature_numbered};
 ghost use Rattle.stun_state.specs.Memory.{LeavesServer};
 ghost use Rattle.stun_state.specs.Signing.{buffer_after, is_too_long, length_of, message_of, server_signs, signed_by_server};
 ghost use Rattle.stun_state.specs.code.Measured.{IsMeasured};
-ghost use Rattle.stun_state.specs.Server.{after_validating, client_at, client_told, name_length_of, name_written, nonce_at, nonce_told, nonce_written, step_answer, validated, validation_answer, with_algorithms, with_expiry, with_feature, without_client, without_named};
+ghost use Rattle.stun_state.specs.Server.{client_at, client_told, kept_after_validating, name_length_of, name_written, nonce_at, nonce_told, nonce_written, room_refusal, step_answer, validated, validation_answer, with_algorithms, with_expiry, with_feature, without_client, without_named};
 
 use crate::address::Address;
 use crate::codes::{Refusal, feature_numbered};
+use crate::handle::server::Server;
 use crate::signing::{SHORT, base_message, is_response, is_too_long, put, writer_of};
 use crate::text::{copied, text};
 use std::alloc::Global;
@@ -378,7 +379,7 @@ fn sign_in<'m>(
 
 /// Who signed a message that came from an address. A refusal may make a nonce for the address.
 pub fn validate(
-    server: &mut LongTermServerAuth<Global>,
+    kept: &mut Server,
     message: &[u8],
     from: &Address,
     now: u64,
@@ -386,21 +387,44 @@ pub fn validate(
 ) -> Result<IntegrityAlgorithm, Refusal>
     ensures answer { OrMemory result
         (result ≡ at_address (socket_address from.now)
-        (validated server.old message.now now words.now)) ⊤ }
+        (validated kept.old message.now now words.now)) ⊤ }
     ensures state { OrMemory result
-        (server.new ≡ after_address (socket_address from.now) server.old
-        (after_validating server.old message.now now words.now))
-        (server.new ≡ server.old) }
+        (kept.new ≡ record kept.old {
+          server = kept_after_validating kept.old message.now from.now now words.now;
+        })
+        (kept.new ≡ kept.old) }
 
     // Where nothing of the server changes, no failed allocation is answered.
-    ensures unchanged { LeavesServer server.old message.now now words.now
+    ensures unchanged { LeavesServer kept.old message.now now words.now
         (socket_address from.now) →
         result ≡ at_address (socket_address from.now)
-        (validated server.old message.now now words.now) }
+        (validated kept.old message.now now words.now) }
 {
     let from = from.socket()?;
     let message = Message::from_bytes(message)?;
-    validate_message(server, &message, from, Instant::from_nanos(now), *words)
+    check_room(&kept.server, kept.most_addresses, from)?;
+    validate_message(
+        &mut kept.server,
+        &message,
+        from,
+        Instant::from_nanos(now),
+        *words,
+    )
+}
+
+/// Refuses an address of which nothing is kept, where something is of as many as may be.
+fn check_room(
+    server: &LongTermServerAuth<Global>,
+    most: usize,
+    from: SocketAddr,
+) -> Result<(), Refusal>
+    ensures ok { OnOk result (room_refusal server.now most from ≡ None) }
+    ensures err { IfErr result (λ refusal. room_refusal server.now most from ≡ Some refusal) }
+{
+    if server.address_count() < most || server.nonce_for_client(from).is_some() {
+        return Ok(());
+    }
+    Err(Refusal::TooManyAddresses)
 }
 
 /// Who signed a message.

@@ -441,7 +441,7 @@ pub extern "C" fn stunp_agent_statistics(
 
 /// Frees the agent. The handle is empty then.
 #[unsafe(no_mangle)]
-pub extern "C" fn stunp_agent_free(alloc: Global, handle: &mut AgentHandle)
+pub extern "C" fn stunp_agent_clear(alloc: Global, handle: &mut AgentHandle)
     ensures { handle.new.agent ≡ None }
 {
     let _agent = handle.take(alloc);

@@ -179,7 +179,7 @@ pub extern "C" fn stunp_client_validate(
 
 /// Frees the client. The handle is empty then.
 #[unsafe(no_mangle)]
-pub extern "C" fn stunp_client_free(alloc: Global, handle: &mut ClientHandle)
+pub extern "C" fn stunp_client_clear(alloc: Global, handle: &mut ClientHandle)
     ensures { handle.new.client ≡ None }
 {
     let _client = handle.take(alloc);

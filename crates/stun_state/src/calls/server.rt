@@ -430,7 +430,7 @@ pub extern "C" fn stunp_server_sign(
 
 /// Frees the server. The handle is empty then.
 #[unsafe(no_mangle)]
-pub extern "C" fn stunp_server_free(alloc: Global, handle: &mut ServerHandle)
+pub extern "C" fn stunp_server_clear(alloc: Global, handle: &mut ServerHandle)
     ensures { handle.new.server ≡ None }
 {
     let _server = handle.take(alloc);

@@ -403,13 +403,8 @@ pub fn validate(
     let from = from.socket()?;
     let message = Message::from_bytes(message)?;
     check_room(&kept.server, kept.most_addresses, from)?;
-    validate_message(
-        &mut kept.server,
-        &message,
-        from,
-        Instant::from_nanos(now),
-        *words,
-    )
+    let moment = Instant::from_nanos(now);
+    validate_message(&mut kept.server, &message, from, moment, *words)
 }
 
 /// Refuses an address of which nothing is kept, where something is of as many as may be.

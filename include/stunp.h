@@ -530,7 +530,8 @@ int64_t stunp_add_fingerprint(uint8_t *buffer, size_t room, size_t length);
  * failed. So a message is written by one call after the other, and stunp_written tells at the
  * end. */
 
-/* Keeps what a call returned: the new length, or the refusal. */
+/* Keeps what a call returned that adds to the message: the new length, or the refusal. So a program
+ * gives a writer calls of its own. */
 static inline void stunp_writer_took(stunp_writer *writer, int64_t answer) {
     if (answer < 0) writer->refusal = answer;
     else writer->length = (size_t)answer;

@@ -143,21 +143,12 @@ pub extern "C" fn stunp_server_set_most_addresses(
     0
 }
 
-/// Of how many addresses something is kept.
+/// Frees the server. The handle is empty then.
 #[unsafe(no_mangle)]
-pub extern "C" fn stunp_server_address_count(alloc: Global, handle: &mut ServerHandle) -> i64
-    ensures empty { IfNone handle.old.server ((result ≡ code_of Refusal.EmptyHandle)
-        × (handle.new.server ≡ None)) }
-    ensures answer { IfSome handle.old.server (λ kept. result
-        ≡ length_answer (Ok (map.len kept.server.places))) }
-    ensures same { handle.new.server ≡ handle.old.server }
+pub extern "C" fn stunp_server_clear(alloc: Global, handle: &mut ServerHandle)
+    ensures { handle.new.server ≡ None }
 {
-    let Some(kept) = handle.take(alloc) else {
-        return Refusal::EmptyHandle.code();
-    };
-    let answer = answers::length(Ok(kept.server.address_count()));
-    handle.put(alloc, kept);
-    answer
+    let _server = handle.take(alloc);
 }
 
 /// Registers a user.
@@ -212,98 +203,36 @@ pub extern "C" fn stunp_server_remove_user(
     answer
 }
 
-/// Forgets who was validated at an address.
+/// Who signed a message that came from an address.
 #[unsafe(no_mangle)]
-pub extern "C" fn stunp_server_remove_client(
+pub extern "C" fn stunp_server_validate(
     alloc: Global,
     handle: &mut ServerHandle,
-    at: &Address,
-) -> i64
-    ensures empty { IfNone handle.old.server ((result ≡ code_of Refusal.EmptyHandle)
-        × (handle.new.server ≡ None)) }
-    ensures answer { IfSome handle.old.server (λ _. result ≡ done_answer
-        (done_if_given (socket_address at.now))) }
-    ensures state { IfSome handle.old.server (λ kept. handle.new.server ≡ Some (record kept {
-      server = after_address (socket_address at.now) kept.server
-          (without_client kept.server);
-    })) }
-{
-    let Some(mut kept) = handle.take(alloc) else {
-        return Refusal::EmptyHandle.code();
-    };
-    let answer = answers::done(server::remove_client(&mut kept.server, at));
-    handle.put(alloc, kept);
-    answer
-}
-
-/// Forgets all that is kept of an address.
-#[unsafe(no_mangle)]
-pub extern "C" fn stunp_server_forget(alloc: Global, handle: &mut ServerHandle, at: &Address) -> i64
-    ensures empty { IfNone handle.old.server ((result ≡ code_of Refusal.EmptyHandle)
-        × (handle.new.server ≡ None)) }
-    ensures answer { IfSome handle.old.server (λ _. result ≡ done_answer
-        (done_if_given (socket_address at.now))) }
-    ensures state { IfSome handle.old.server (λ kept. handle.new.server ≡ Some (record kept {
-      server = after_address (socket_address at.now) kept.server
-          (without_place kept.server);
-    })) }
-{
-    let Some(mut kept) = handle.take(alloc) else {
-        return Refusal::EmptyHandle.code();
-    };
-    let answer = answers::done(server::forget(&mut kept.server, at));
-    handle.put(alloc, kept);
-    answer
-}
-
-/// Forgets each address without a client whose nonce expired before a moment.
-#[unsafe(no_mangle)]
-pub extern "C" fn stunp_server_forget_expired(
-    alloc: Global,
-    handle: &mut ServerHandle,
+    message: &[u8],
+    from: &Address,
     now: u64,
+    words: &[u32; 16],
 ) -> i64
     ensures empty { IfNone handle.old.server ((result ≡ code_of Refusal.EmptyHandle)
         × (handle.new.server ≡ None)) }
-    ensures answer { IfSome handle.old.server (λ _. result ≡ pos 0) }
-    ensures state { IfSome handle.old.server (λ kept. handle.new.server ≡ Some (record kept {
-      server = after_forgetting kept.server now;
-    })) }
-{
-    let Some(mut kept) = handle.take(alloc) else {
-        return Refusal::EmptyHandle.code();
-    };
-    server::forget_expired(&mut kept.server, now);
-    handle.put(alloc, kept);
-    0
-}
 
-/// Forgets so at no more than a number of addresses, from one on.
-#[unsafe(no_mangle)]
-pub extern "C" fn stunp_server_forget_expired_within(
-    alloc: Global,
-    handle: &mut ServerHandle,
-    now: u64,
-    from: &mut Address,
-    most: usize,
-) -> i64
-    ensures empty { IfNone handle.old.server ((result ≡ code_of Refusal.EmptyHandle)
-        × (handle.new.server ≡ None)
-        × (from.new ≡ from.old)) }
-    ensures answer { IfSome handle.old.server (λ kept. result ≡ number_answer
-        (at_start (start_told from.old) (step_answer kept.server most))) }
-    ensures state { IfSome handle.old.server (λ kept. handle.new.server ≡ Some (record kept {
-      server = after_start (start_told from.old) kept.server
-          (λ start. after_step kept.server now start most);
-    })) }
-    ensures from { IfSome handle.old.server (λ kept. from.new
-        ≡ after_start (start_told from.old) from.old
-        (λ start. start_for (next_address kept.server start most))) }
+    // The number of what the authenticator answers, and what its call leaves.
+    ensures answer { IfSome handle.old.server (λ kept. OrOutOfMemory result
+        handle.old.server handle.new.server
+        (validation_number kept message.now from.now now words.now)
+        (Some (record kept {
+          server = kept_after_validating kept message.now from.now now words.now;
+        }))) }
+
+    // Where nothing of the server changes, as where the same client is accepted again, no failed allocation is answered.
+    ensures unchanged { IfSome handle.old.server (λ kept.
+        LeavesServer kept message.now now words.now (socket_address from.now) →
+        result ≡ validation_number kept message.now from.now now words.now) }
 {
     let Some(mut kept) = handle.take(alloc) else {
         return Refusal::EmptyHandle.code();
     };
-    let answer = answers::number(server::forget_expired_within(&mut kept.server, now, from, most));
+    let answer = answers::algorithm(server::validate(&mut kept, message, from, now, words));
     handle.put(alloc, kept);
     answer
 }
@@ -340,62 +269,31 @@ pub extern "C" fn stunp_server_client(
     answer
 }
 
-/// The last nonce that was made for an address.
+/// Signs the message at the front of a buffer, which goes to an address.
 #[unsafe(no_mangle)]
-pub extern "C" fn stunp_server_nonce(
+pub extern "C" fn stunp_server_sign(
     alloc: Global,
     handle: &mut ServerHandle,
-    at: &Address,
-    nonce: &mut [u8],
+    buffer: &mut [u8],
+    length: usize,
+    to: &Address,
 ) -> i64
     ensures empty { IfNone handle.old.server ((result ≡ code_of Refusal.EmptyHandle)
         × (handle.new.server ≡ None)
-        × (nonce.new ≡ nonce.old)) }
-    ensures answer { IfSome handle.old.server (λ kept. result ≡ length_answer
-        (nonce_found kept.server at.now (length nonce.old))) }
-    ensures nonce { IfSome handle.old.server (λ kept. nonce.new
-        ≡ after_address (socket_address at.now) nonce.old
-        (λ at. nonce_written nonce.old (nonce_at kept.server at))) }
-    ensures same { handle.new.server ≡ handle.old.server }
+        × (buffer.new ≡ buffer.old)) }
+    ensures answer { IfSome handle.old.server (λ kept. result
+        ≡ length_answer (length_of (signed_for kept.server buffer.old length to.now))) }
+    ensures written { IfSome handle.old.server (λ kept. buffer.new
+        ≡ buffer_after (signed_for kept.server buffer.old length to.now) buffer.old) }
+    ensures state { IfSome handle.old.server (λ kept. handle.new.server ≡ Some (record kept {
+      server = left_by result kept.server
+          (kept_after_signing kept.server buffer.old length to.now);
+    })) }
 {
     let Some(mut kept) = handle.take(alloc) else {
         return Refusal::EmptyHandle.code();
     };
-    let answer = answers::length(server::nonce(&kept.server, at, nonce));
-    handle.put(alloc, kept);
-    answer
-}
-
-/// Who signed a message that came from an address.
-#[unsafe(no_mangle)]
-pub extern "C" fn stunp_server_validate(
-    alloc: Global,
-    handle: &mut ServerHandle,
-    message: &[u8],
-    from: &Address,
-    now: u64,
-    words: &[u32; 16],
-) -> i64
-    ensures empty { IfNone handle.old.server ((result ≡ code_of Refusal.EmptyHandle)
-        × (handle.new.server ≡ None)) }
-
-    // The number of what the authenticator answers, and what its call leaves.
-    ensures answer { IfSome handle.old.server (λ kept. OrOutOfMemory result
-        handle.old.server handle.new.server
-        (validation_number kept message.now from.now now words.now)
-        (Some (record kept {
-          server = kept_after_validating kept message.now from.now now words.now;
-        }))) }
-
-    // Where nothing of the server changes, as where the same client is accepted again, no failed allocation is answered.
-    ensures unchanged { IfSome handle.old.server (λ kept.
-        LeavesServer kept message.now now words.now (socket_address from.now) →
-        result ≡ validation_number kept message.now from.now now words.now) }
-{
-    let Some(mut kept) = handle.take(alloc) else {
-        return Refusal::EmptyHandle.code();
-    };
-    let answer = answers::algorithm(server::validate(&mut kept, message, from, now, words));
+    let answer = answers::length(server::sign(&mut kept.server, buffer, length, to));
     handle.put(alloc, kept);
     answer
 }
@@ -499,39 +397,141 @@ pub extern "C" fn stunp_server_sign_of(
     answer
 }
 
-/// Signs the message at the front of a buffer, which goes to an address.
+/// Of how many addresses something is kept.
 #[unsafe(no_mangle)]
-pub extern "C" fn stunp_server_sign(
+pub extern "C" fn stunp_server_address_count(alloc: Global, handle: &mut ServerHandle) -> i64
+    ensures empty { IfNone handle.old.server ((result ≡ code_of Refusal.EmptyHandle)
+        × (handle.new.server ≡ None)) }
+    ensures answer { IfSome handle.old.server (λ kept. result
+        ≡ length_answer (Ok (map.len kept.server.places))) }
+    ensures same { handle.new.server ≡ handle.old.server }
+{
+    let Some(kept) = handle.take(alloc) else {
+        return Refusal::EmptyHandle.code();
+    };
+    let answer = answers::length(Ok(kept.server.address_count()));
+    handle.put(alloc, kept);
+    answer
+}
+
+/// The last nonce that was made for an address.
+#[unsafe(no_mangle)]
+pub extern "C" fn stunp_server_nonce(
     alloc: Global,
     handle: &mut ServerHandle,
-    buffer: &mut [u8],
-    length: usize,
-    to: &Address,
+    at: &Address,
+    nonce: &mut [u8],
 ) -> i64
     ensures empty { IfNone handle.old.server ((result ≡ code_of Refusal.EmptyHandle)
         × (handle.new.server ≡ None)
-        × (buffer.new ≡ buffer.old)) }
-    ensures answer { IfSome handle.old.server (λ kept. result
-        ≡ length_answer (length_of (signed_for kept.server buffer.old length to.now))) }
-    ensures written { IfSome handle.old.server (λ kept. buffer.new
-        ≡ buffer_after (signed_for kept.server buffer.old length to.now) buffer.old) }
+        × (nonce.new ≡ nonce.old)) }
+    ensures answer { IfSome handle.old.server (λ kept. result ≡ length_answer
+        (nonce_found kept.server at.now (length nonce.old))) }
+    ensures nonce { IfSome handle.old.server (λ kept. nonce.new
+        ≡ after_address (socket_address at.now) nonce.old
+        (λ at. nonce_written nonce.old (nonce_at kept.server at))) }
+    ensures same { handle.new.server ≡ handle.old.server }
+{
+    let Some(mut kept) = handle.take(alloc) else {
+        return Refusal::EmptyHandle.code();
+    };
+    let answer = answers::length(server::nonce(&kept.server, at, nonce));
+    handle.put(alloc, kept);
+    answer
+}
+
+/// Forgets who was validated at an address.
+#[unsafe(no_mangle)]
+pub extern "C" fn stunp_server_remove_client(
+    alloc: Global,
+    handle: &mut ServerHandle,
+    at: &Address,
+) -> i64
+    ensures empty { IfNone handle.old.server ((result ≡ code_of Refusal.EmptyHandle)
+        × (handle.new.server ≡ None)) }
+    ensures answer { IfSome handle.old.server (λ _. result ≡ done_answer
+        (done_if_given (socket_address at.now))) }
     ensures state { IfSome handle.old.server (λ kept. handle.new.server ≡ Some (record kept {
-      server = left_by result kept.server
-          (kept_after_signing kept.server buffer.old length to.now);
+      server = after_address (socket_address at.now) kept.server
+          (without_client kept.server);
     })) }
 {
     let Some(mut kept) = handle.take(alloc) else {
         return Refusal::EmptyHandle.code();
     };
-    let answer = answers::length(server::sign(&mut kept.server, buffer, length, to));
+    let answer = answers::done(server::remove_client(&mut kept.server, at));
     handle.put(alloc, kept);
     answer
 }
 
-/// Frees the server. The handle is empty then.
+/// Forgets all that is kept of an address.
 #[unsafe(no_mangle)]
-pub extern "C" fn stunp_server_clear(alloc: Global, handle: &mut ServerHandle)
-    ensures { handle.new.server ≡ None }
+pub extern "C" fn stunp_server_forget(alloc: Global, handle: &mut ServerHandle, at: &Address) -> i64
+    ensures empty { IfNone handle.old.server ((result ≡ code_of Refusal.EmptyHandle)
+        × (handle.new.server ≡ None)) }
+    ensures answer { IfSome handle.old.server (λ _. result ≡ done_answer
+        (done_if_given (socket_address at.now))) }
+    ensures state { IfSome handle.old.server (λ kept. handle.new.server ≡ Some (record kept {
+      server = after_address (socket_address at.now) kept.server
+          (without_place kept.server);
+    })) }
 {
-    let _server = handle.take(alloc);
+    let Some(mut kept) = handle.take(alloc) else {
+        return Refusal::EmptyHandle.code();
+    };
+    let answer = answers::done(server::forget(&mut kept.server, at));
+    handle.put(alloc, kept);
+    answer
+}
+
+/// Forgets each address without a client whose nonce expired before a moment.
+#[unsafe(no_mangle)]
+pub extern "C" fn stunp_server_forget_expired(
+    alloc: Global,
+    handle: &mut ServerHandle,
+    now: u64,
+) -> i64
+    ensures empty { IfNone handle.old.server ((result ≡ code_of Refusal.EmptyHandle)
+        × (handle.new.server ≡ None)) }
+    ensures answer { IfSome handle.old.server (λ _. result ≡ pos 0) }
+    ensures state { IfSome handle.old.server (λ kept. handle.new.server ≡ Some (record kept {
+      server = after_forgetting kept.server now;
+    })) }
+{
+    let Some(mut kept) = handle.take(alloc) else {
+        return Refusal::EmptyHandle.code();
+    };
+    server::forget_expired(&mut kept.server, now);
+    handle.put(alloc, kept);
+    0
+}
+
+/// Forgets so at no more than a number of addresses, from one on.
+#[unsafe(no_mangle)]
+pub extern "C" fn stunp_server_forget_expired_within(
+    alloc: Global,
+    handle: &mut ServerHandle,
+    now: u64,
+    from: &mut Address,
+    most: usize,
+) -> i64
+    ensures empty { IfNone handle.old.server ((result ≡ code_of Refusal.EmptyHandle)
+        × (handle.new.server ≡ None)
+        × (from.new ≡ from.old)) }
+    ensures answer { IfSome handle.old.server (λ kept. result ≡ number_answer
+        (at_start (start_told from.old) (step_answer kept.server most))) }
+    ensures state { IfSome handle.old.server (λ kept. handle.new.server ≡ Some (record kept {
+      server = after_start (start_told from.old) kept.server
+          (λ start. after_step kept.server now start most);
+    })) }
+    ensures from { IfSome handle.old.server (λ kept. from.new
+        ≡ after_start (start_told from.old) from.old
+        (λ start. start_for (next_address kept.server start most))) }
+{
+    let Some(mut kept) = handle.take(alloc) else {
+        return Refusal::EmptyHandle.code();
+    };
+    let answer = answers::number(server::forget_expired_within(&mut kept.server, now, from, most));
+    handle.put(alloc, kept);
+    answer
 }

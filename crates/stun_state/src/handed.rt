@@ -153,7 +153,7 @@ fn sign_with(
     to: &Address,
     user: &mut LongTermServerUser<Global>,
 ) -> Result<usize, Refusal>
-    requires { user.old.realm ≡ server.old.registered.realm }
+    requires realm { user.old.realm ≡ server.old.registered.realm }
     requires algorithms { user.old.algorithms ≡ server.old.registered.algorithms }
     ensures answer { result ≡ length_of (at_address (socket_address to.now)
         (signed_by_server (with_users server.old user.old) buffer.old length)) }

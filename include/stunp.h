@@ -70,8 +70,8 @@
  *         return written < 0 ? 0 : writer.length;
  *     }
  *
- * An agent of ICE writes a check, and tells whether a request is one that knows its password, and of
- * which priority (RFC 8445, sections 7.2.2 and 7.3):
+ * An agent of ICE writes a check, and tells whether a request is one that knows its password, and
+ * of which priority (RFC 8445, sections 7.2.2 and 7.3):
  *
  *     size_t write_check(const char *name, const char *password, uint64_t controlling,
  *                        const uint8_t id[12], uint8_t *out, size_t room) {

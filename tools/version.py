@@ -16,7 +16,7 @@ PLACES = (
     ("README.md", r"\| Version \| ([0-9.]+[0-9])", False),
     ("include/stunp.h", r"#define STUNP_VERSION (\d+)", True),
     ("crates/stun_c/src/lib.rt", r"fn stunp_version\(\) -> i64\n[^{]*\{[^}]*\}\n\{\n    (\d+)\n", True),
-    ("crates/stun_state/src/lib.rt", r"fn stunp_state_version\([^)]*\) -> i64\n[^{]*\{[^}]*\}\n\{\n    (\d+)\n", True),
+    ("crates/stun_state/src/calls/release.rt", r"const VERSION: i64 = (\d+);", True),
 )
 
 

@@ -1,5 +1,6 @@
 pub mod AcceptingLemmas
 pub mod AfterCalls
+pub mod AgentLoopLemmas
 pub mod Along
 pub mod Answered
 pub mod AppendedLemmas
@@ -13,6 +14,7 @@ pub mod Hashes
 pub mod Heard
 pub mod IsolationLemmas
 pub mod Keeping
+pub mod LateLemmas
 pub mod Matched
 pub mod Meeting
 pub mod NextLemmas
@@ -27,6 +29,7 @@ pub mod Runs
 pub mod ScheduleLaw
 pub mod Sending
 pub mod ServedCalls
+pub mod ServerLoopLemmas
 pub mod ShardsLemmas
 pub mod Sights
 pub mod Signed

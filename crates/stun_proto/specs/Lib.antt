@@ -14,6 +14,8 @@ pub mod Appending
 pub mod Shards
 -- what a server answers to a list of calls (RFC 8489, section 9.2.4)
 pub mod Serving
+-- sentence 1: a server whose calls its user makes one by one
+pub mod ServerLoop
 -- what signing a message for an address comes to
 pub mod Signing
 -- sentence 2: what a client and a server can agree on (section 9.2)
@@ -40,6 +42,8 @@ pub mod Run
 pub mod Examples
 -- what holds of all runs: each list of events has one and no other, and each request keeps its plan
 pub mod RunLaws
+-- sentence 3: an agent that its user polls in a loop of their own, on time or late
+pub mod AgentLoop
 -- what the steps of a run add to the counters of its agent
 pub mod Counters
 -- a run that stops because an allocation failed, and how it goes on

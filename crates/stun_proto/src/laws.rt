@@ -10,6 +10,7 @@ ghost use Rattle.stun_agent.specs.Transactions.{IsAscending};
 ghost use Rattle.stun_auth.specs.Reading.{Reading};
 ghost use Rattle.stun_auth.specs.Server.{Sight};
 ghost use Rattle.stun_auth.specs.Validation.{answer};
+ghost use Rattle.stun_proto.specs.AgentLoop.{LateLoopsAreBounded, LoopsAreDriven, LoopsSendByPlan, LoopsSendByTurns, TurnsAreNeverEarly};
 ghost use Rattle.stun_proto.specs.Appending.{AgreeingAreAnsweredAlike, ContinuedAreAnsweredAlike};
 ghost use Rattle.stun_proto.specs.Best.{BestIsStrongest};
 ghost use Rattle.stun_proto.specs.Examples.{binding_request, udp_steps, tcp_steps};
@@ -22,6 +23,7 @@ ghost use Rattle.stun_proto.specs.Headline.{IsAskedOnce, SendsByPlan, ValidatesO
 ghost use Rattle.stun_proto.specs.Run.{IsDriven};
 ghost use Rattle.stun_proto.specs.RunLaws.{EventsHaveRuns, IsDetermined, IsDeterminedThroughout, KeepPlans, requester};
 ghost use Rattle.stun_proto.specs.Schedule.{AreInOrder, plan};
+ghost use Rattle.stun_proto.specs.ServerLoop.{CallsAreServed, CallsAreValidated};
 ghost use Rattle.stun_proto.specs.Serving.{reply_of};
 ghost use Rattle.stun_proto.specs.Shards.{ShardsServeAsOne};
 ghost use Rattle.stun_proto.specs.Steps.{Step, step_of};
@@ -79,6 +81,26 @@ pub fn runs_keep_plans()
         → IsDriven until a events steps b → KeepPlans until a events steps }
 {}
 
+/// An agent that began with no request outstanding, and that a user polls in a loop of their own, on
+/// time (`Loop`): each turn comes no later than `poll` said to wait until. It makes the steps of
+/// `drive` with the same events. So the third sentence holds of it (RFC 8489, section 6.2.1).
+pub fn loops_are_driven()
+    ensures driven { LoopsAreDriven }
+    ensures plans { LoopsSendByPlan }
+{}
+
+/// The same agent polled late, by however much. Up to its end a request at which no event is aimed is
+/// sent at the first turn at which its timeout has passed since it was sent before, and at no other,
+/// as often as its plan says at most; and it times out at the first turn at which the final wait has
+/// passed since then. No step comes before its moment in the plan. Where each turn is at most so
+/// late, transmission k, counted from 0, is at most k times as late, and the time-out once more than
+/// the last transmission.
+pub fn late_loops_send_by_turns()
+    ensures turns { LoopsSendByTurns }
+    ensures never_early { TurnsAreNeverEarly }
+    ensures bounded { LateLoopsAreBounded }
+{}
+
 /// The plan of one request, spelled out. With the default settings, over UDP: a transmission at 0, 500, 1500, 3500, 7500,
 /// 15500 and 31500 ms, and its time-out at 39500 ms. Over TCP: one transmission, and the time-out at the same moment (RFC
 /// 8489, sections 6.2.1 and 6.2.2). A new agent that is asked this request and nothing else meets the premise of
@@ -96,6 +118,17 @@ pub fn one_call_validates()
         → ValidatesOneCall s now words r (answer s now words r) }
 {
     stun_auth::laws::accepted_messages_are_validated();
+}
+
+/// Calls that a user makes on one server, one by one, are a run of `serve`: each as the clauses of the
+/// server's own call say (`IsMade`), and from the server that the one before left, they have the
+/// replies of the run, and leave its server. So the first sentence holds of them
+/// (RFC 8489, section 9.2.4).
+pub fn calls_are_a_run()
+    ensures served { CallsAreServed }
+    ensures validated { CallsAreValidated }
+{
+    auth_laws::accepted_messages_are_validated();
 }
 
 /// What a client and a server can agree on is the strongest algorithm that both support. There is none exactly where they share

@@ -1,0 +1,91 @@
+-- A server whose calls its user makes one by one, in a loop of their own: what the clauses of these calls say, and that they are a
+-- run of `serve`.
+use Rattle.std.specs.Prelude.{◌≡◌, ℕ, List, [], ◌∷◌, Option, Some, None, Result, Ok, Err, string_bytes, if◌then◌else◌}
+use Rattle.std.specs.Duration.{as_nanos}
+use Rattle.stun_base.specs.declared.error.StunParseError.{StunParseError}
+use Rattle.stun_base.specs.declared.error.StunWriteError.{StunWriteError}
+use Rattle.stun_base.specs.MessageType.{class_in, is_response}
+use Rattle.stun_types.specs.Message.{refusal}
+use Rattle.stun_auth.specs.Additions.{Page, page_of}
+use Rattle.stun_auth.specs.Algorithms.{only, with_algorithm}
+use Rattle.stun_auth.specs.Forgetting.{after_forgetting, without_place}
+use Rattle.stun_auth.specs.Places.{with_change, with_client}
+use Rattle.stun_auth.specs.Reading.{reading_of}
+use Rattle.stun_auth.specs.Registered.{with_user, without_user}
+use Rattle.stun_auth.specs.ServerSigning.{after_signing, server_signed}
+use Rattle.stun_auth.specs.Validation.{ServerSeen, after_message, answer, sight}
+use Rattle.stun_proto.specs.declared.replay.call.ServerCall.{ServerCall}
+use Rattle.stun_proto.specs.declared.replay.call.ServerCall.TheVariants as Call
+use Rattle.stun_proto.specs.Headline.{ValidatesEachCall}
+use Rattle.stun_proto.specs.Replies.{message_read}
+use Rattle.stun_proto.specs.Serving.{Reply, NotAMessage, SignRefused, Signed, Done, TooShort, after_calls, is_too_short, replies, reply_of_answer}
+use Rattle.stun_proto.specs.Signing.{written_anew}
+
+-- ---- one call
+
+-- the reply to a call, and the server after it
+pub record Told : Type 0 where
+  pub reply : Reply
+  pub server : ServerSeen
+
+abbrev pub told : Reply → ServerSeen → Told
+told reply server = record { reply = reply; server = server }
+
+-- bytes that are no message reach no call of the server: `Message::from_bytes` refuses them
+abbrev pub IfMessage : ServerSeen → Option StunParseError → Told → Type 0 → Type 0
+IfMessage s (Some error) after called = after ≡ told (NotAMessage error) s
+IfMessage s None after called = called
+
+-- `sign_outgoing_message`, clauses `answer`, `signed` and `refused`, of a message in a vector, which was built by `add_attribute`
+-- alone, so that `serve` writes the same one anew
+abbrev pub signed_or_refused : ServerSeen → ServerSeen → Result Page StunWriteError → Told
+signed_or_refused s signed (Ok page) = told (Signed page.bytes) signed
+signed_or_refused s signed (Err error) = told (SignRefused error) s
+
+-- What the clauses of the server's own calls say of the reply and of the server after it. A call that answers `OutOfMemory` leaves
+-- the server, and is no call of the loop
+abbrev pub IsMade : ServerSeen → ServerCall → Told → Type 0
+-- `validate_incoming_message`, clauses `answer` and `state`
+IsMade s (Call.Validate from now message words) after =
+    IfMessage s (refusal message.items) after
+    (after ≡ told (reply_of_answer (answer (sight s from) now words (reading_of message.items))) (after_message s from now words (reading_of message.items)))
+IsMade s (Call.Sign to message) after =
+    IfMessage s (refusal message.items) after
+    ((written_anew message.items ≡ Ok message.items)
+    × (after ≡ signed_or_refused s (after_signing s to (is_response (class_in message.items)))
+    (server_signed (sight s to) (is_response (class_in message.items)) (page_of message.items))))
+-- each of the others: its one clause, or `ok`, or `state`
+IsMade s (Call.AddUser name password) after =
+    after ≡ told Done (record s { registered = with_user s.registered (record { username = string_bytes name; password = string_bytes password }) })
+IsMade s (Call.RemoveUser name) after = after ≡ told Done (record s { registered = without_user s.registered (string_bytes name) })
+IsMade s (Call.AddIntegrity algorithm) after =
+    after ≡ told Done (record s { registered = record s.registered { algorithms = with_algorithm algorithm s.registered.algorithms } })
+IsMade s (Call.SetIntegrity algorithm) after = after ≡ told Done (record s { registered = record s.registered { algorithms = only algorithm } })
+IsMade s (Call.SetAnonymous feature) after = after ≡ told Done (record s { feature = feature })
+IsMade s (Call.RemoveClient address) after = after ≡ told Done (record s { places = with_change s.places address (with_client None) })
+-- less than the least expiry is not handed to the call, which asks for that much
+IsMade s (Call.SetExpiry expiry) after =
+    after ≡ (if is_too_short expiry then told TooShort s else told Done (record s { expiry = as_nanos expiry }))
+IsMade s (Call.ForgetExpired now) after = after ≡ told Done (after_forgetting s now)
+IsMade s (Call.Forget address) after = after ≡ told Done (without_place s address)
+
+-- ---- a loop
+
+-- calls that are made one after the other, and the replies to them: each begins with the server that the one before left
+abbrev pub AreMade : ServerSeen → List ServerCall → List Reply → ServerSeen → Type 0
+AreMade s [] [] last = last ≡ s
+AreMade s [] (r ∷ given) last = ⊥
+AreMade s (call ∷ calls) [] last = ⊥
+AreMade s (call ∷ calls) (r ∷ given) last = (after : ServerSeen) × IsMade s call (told r after) × AreMade after calls given last
+
+-- they are a run of `serve`: the same replies, and the same server after them
+abbrev pub CallsAreServed : Type 0
+CallsAreServed =
+    (start last : ServerSeen) (calls : List ServerCall) (given : List Reply) → AreMade start calls given last
+    → (given ≡ replies start calls) × (last ≡ after_calls start calls)
+
+-- so the first sentence holds of them
+abbrev pub CallsAreValidated : Type 0
+CallsAreValidated =
+    (start last : ServerSeen) (calls : List ServerCall) (given : List Reply) → AreMade start calls given last
+    → ValidatesEachCall message_read replies start calls given

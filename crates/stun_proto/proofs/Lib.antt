@@ -17,6 +17,7 @@ pub mod Keeping
 pub mod LateLemmas
 pub mod Matched
 pub mod Meeting
+pub mod MeetingLoopLemmas
 pub mod NextLemmas
 pub mod Once
 pub mod Outcomes

@@ -30,6 +30,8 @@ pub mod Negotiating
 pub mod Sides
 -- when both sides have come to the same challenge
 pub mod Matching
+-- sentence 2: a client and a server whose users make their calls one by one
+pub mod MeetingLoop
 -- a nonce that has expired, and the one that takes its place (sections 9.2.4 and 9.2.5)
 pub mod Renewal
 -- sentence 3: the plan of a request, and what disturbs it (sections 6.2.1 and 6.2.2)

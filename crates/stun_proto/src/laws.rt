@@ -18,6 +18,7 @@ ghost use Rattle.stun_proto.specs.CallValues.{value_of};
 ghost use Rattle.stun_proto.specs.Counters.{RunsCountSteps};
 ghost use Rattle.stun_proto.specs.EventValues.{event_value};
 ghost use Rattle.stun_proto.specs.Honest.{ShortNamesAreSigned, StrongestIsAgreed};
+ghost use Rattle.stun_proto.specs.MeetingLoop.{MeetingsAgree, MeetingsAreNegotiated};
 ghost use Rattle.stun_proto.specs.Renewal.{NonceIsRenewed};
 ghost use Rattle.stun_proto.specs.Headline.{IsAskedOnce, SendsByPlan, ValidatesOneCall};
 ghost use Rattle.stun_proto.specs.Run.{IsDriven};
@@ -168,6 +169,17 @@ pub fn strongest_is_agreed()
     auth_laws::signed_messages_are_read();
     auth_laws::built_messages_can_be_signed();
     auth_laws::sides_add_by_attribute();
+}
+
+/// A client and a server whose users make their calls one by one, each on what the other side has
+/// sent, in order (`HaveMet`), are in a meeting as `negotiate` has it: they come to the same outcome,
+/// and both sides are left the same. So an honest client is accepted with its second request and the
+/// strongest algorithm of both (RFC 8489, section 9.2).
+pub fn calls_are_a_meeting()
+    ensures negotiated { MeetingsAreNegotiated }
+    ensures strongest { MeetingsAgree }
+{
+    strongest_is_agreed();
 }
 
 /// No signing of the meeting of a ready client (`IsReady`) is refused where realm and user name fit

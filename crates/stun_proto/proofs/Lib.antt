@@ -9,6 +9,7 @@ pub mod Counting
 pub mod DriveLemmas
 pub mod Driven
 pub mod Existence
+pub mod ExampleLemmas
 pub mod GoingOn
 pub mod Hashes
 pub mod Heard
@@ -22,6 +23,7 @@ pub mod NextLemmas
 pub mod Once
 pub mod Outcomes
 pub mod OneTransaction
+pub mod PathLemmas
 pub mod Refusals
 pub mod Renewed
 pub mod RepliesLemmas
@@ -30,6 +32,7 @@ pub mod Runs
 pub mod ScheduleLaw
 pub mod Sending
 pub mod ServedCalls
+pub mod ServedExample
 pub mod ServerLoopLemmas
 pub mod ShardsLemmas
 pub mod Sights

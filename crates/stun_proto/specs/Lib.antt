@@ -32,6 +32,8 @@ pub mod Sides
 pub mod Matching
 -- sentence 2: a client and a server whose users make their calls one by one
 pub mod MeetingLoop
+-- a client that must hash its user's name, and its server
+pub mod MeetingExample
 -- a nonce that has expired, and the one that takes its place (sections 9.2.4 and 9.2.5)
 pub mod Renewal
 -- sentence 3: the plan of a request, and what disturbs it (sections 6.2.1 and 6.2.2)

@@ -1,5 +1,5 @@
--- A server whose calls its user makes one by one, in a loop of their own: what the clauses of these calls say, and that they are a
--- run of `serve`.
+-- A server whose calls its user makes one by one, in a loop of their own: what the clauses of these
+-- calls say, and that they are a run of `serve`.
 use Rattle.std.specs.Prelude.{◌≡◌, ℕ, List, [], ◌∷◌, Option, Some, None, Result, Ok, Err, string_bytes, if◌then◌else◌}
 use Rattle.std.specs.Duration.{as_nanos}
 use Rattle.stun_base.specs.declared.error.StunParseError.{StunParseError}
@@ -36,56 +36,70 @@ abbrev pub IfMessage : ServerSeen → Option StunParseError → Told → Type 0 
 IfMessage s (Some error) after called = after ≡ told (NotAMessage error) s
 IfMessage s None after called = called
 
--- `sign_outgoing_message`, clauses `answer`, `signed` and `refused`, of a message in a vector, which was built by `add_attribute`
--- alone, so that `serve` writes the same one anew
+-- a signing that succeeds, and one that is refused
 abbrev pub signed_or_refused : ServerSeen → ServerSeen → Result Page StunWriteError → Told
 signed_or_refused s signed (Ok page) = told (Signed page.bytes) signed
 signed_or_refused s signed (Err error) = told (SignRefused error) s
 
--- What the clauses of the server's own calls say of the reply and of the server after it. A call that answers `OutOfMemory` leaves
--- the server, and is no call of the loop
+-- What the clauses of the server's own calls say of the reply and of the server after it. A call
+-- that answers `OutOfMemory` leaves the server, and is no call of the loop
 abbrev pub IsMade : ServerSeen → ServerCall → Told → Type 0
 -- `validate_incoming_message`, clauses `answer` and `state`
 IsMade s (Call.Validate from now message words) after =
+    let r = reading_of message.items in
     IfMessage s (refusal message.items) after
-    (after ≡ told (reply_of_answer (answer (sight s from) now words (reading_of message.items))) (after_message s from now words (reading_of message.items)))
+    (after ≡ told (reply_of_answer (answer (sight s from) now words r))
+    (after_message s from now words r))
+-- `sign_outgoing_message`, clauses `answer`, `signed` and `refused`, of a message in a vector which
+-- `serve` writes anew as it is: one that was built by `add_attribute` alone
 IsMade s (Call.Sign to message) after =
+    let response = is_response (class_in message.items) in
     IfMessage s (refusal message.items) after
     ((written_anew message.items ≡ Ok message.items)
-    × (after ≡ signed_or_refused s (after_signing s to (is_response (class_in message.items)))
-    (server_signed (sight s to) (is_response (class_in message.items)) (page_of message.items))))
+    × (after ≡ signed_or_refused s (after_signing s to response)
+    (server_signed (sight s to) response (page_of message.items))))
 -- each of the others: its one clause, or `ok`, or `state`
 IsMade s (Call.AddUser name password) after =
-    after ≡ told Done (record s { registered = with_user s.registered (record { username = string_bytes name; password = string_bytes password }) })
-IsMade s (Call.RemoveUser name) after = after ≡ told Done (record s { registered = without_user s.registered (string_bytes name) })
+    let user = record { username = string_bytes name; password = string_bytes password } in
+    after ≡ told Done (record s { registered = with_user s.registered user })
+IsMade s (Call.RemoveUser name) after =
+    after ≡ told Done (record s { registered = without_user s.registered (string_bytes name) })
 IsMade s (Call.AddIntegrity algorithm) after =
-    after ≡ told Done (record s { registered = record s.registered { algorithms = with_algorithm algorithm s.registered.algorithms } })
-IsMade s (Call.SetIntegrity algorithm) after = after ≡ told Done (record s { registered = record s.registered { algorithms = only algorithm } })
+    let all = with_algorithm algorithm s.registered.algorithms in
+    after ≡ told Done (record s { registered = record s.registered { algorithms = all } })
+IsMade s (Call.SetIntegrity algorithm) after =
+    after ≡ told Done (record s { registered = record s.registered { algorithms = only algorithm } })
 IsMade s (Call.SetAnonymous feature) after = after ≡ told Done (record s { feature = feature })
-IsMade s (Call.RemoveClient address) after = after ≡ told Done (record s { places = with_change s.places address (with_client None) })
+IsMade s (Call.RemoveClient address) after =
+    after ≡ told Done (record s { places = with_change s.places address (with_client None) })
 -- less than the least expiry is not handed to the call, which asks for that much
 IsMade s (Call.SetExpiry expiry) after =
-    after ≡ (if is_too_short expiry then told TooShort s else told Done (record s { expiry = as_nanos expiry }))
+    after ≡ (if is_too_short expiry then told TooShort s
+    else told Done (record s { expiry = as_nanos expiry }))
 IsMade s (Call.ForgetExpired now) after = after ≡ told Done (after_forgetting s now)
 IsMade s (Call.Forget address) after = after ≡ told Done (without_place s address)
 
 -- ---- a loop
 
--- calls that are made one after the other, and the replies to them: each begins with the server that the one before left
+-- calls that are made one after the other, and the replies to them: each begins with the server that
+-- the one before left
 abbrev pub AreMade : ServerSeen → List ServerCall → List Reply → ServerSeen → Type 0
 AreMade s [] [] last = last ≡ s
 AreMade s [] (r ∷ given) last = ⊥
 AreMade s (call ∷ calls) [] last = ⊥
-AreMade s (call ∷ calls) (r ∷ given) last = (after : ServerSeen) × IsMade s call (told r after) × AreMade after calls given last
+AreMade s (call ∷ calls) (r ∷ given) last =
+    (after : ServerSeen) × IsMade s call (told r after) × AreMade after calls given last
 
 -- they are a run of `serve`: the same replies, and the same server after them
 abbrev pub CallsAreServed : Type 0
 CallsAreServed =
-    (start last : ServerSeen) (calls : List ServerCall) (given : List Reply) → AreMade start calls given last
+    (start last : ServerSeen) (calls : List ServerCall) (given : List Reply)
+    → AreMade start calls given last
     → (given ≡ replies start calls) × (last ≡ after_calls start calls)
 
 -- so the first sentence holds of them
 abbrev pub CallsAreValidated : Type 0
 CallsAreValidated =
-    (start last : ServerSeen) (calls : List ServerCall) (given : List Reply) → AreMade start calls given last
+    (start last : ServerSeen) (calls : List ServerCall) (given : List Reply)
+    → AreMade start calls given last
     → ValidatesEachCall message_read replies start calls given

@@ -1,5 +1,5 @@
 //! Laws of runs: what holds of the definitions alone, and what equalities are.
-ghost use Rattle.std.specs.Prelude.{◌≡◌, ◌≤◌, ◌↔◌, IsTrue, List, [], Ok, ℕ};
+ghost use Rattle.std.specs.Prelude.{◌≡◌, ◌≤◌, ◌↔◌, IsTrue, List, [], Ok, length, ℕ};
 ghost use Rattle.std.specs.declared.net.socket_addr.SocketAddr.{SocketAddr as Address};
 ghost use Rattle.stun_base.specs.Moments.{last_moment};
 ghost use Rattle.stun_base.specs.declared.transport.TransportType.{TransportType as Transport};
@@ -7,6 +7,7 @@ ghost use Rattle.stun_base.specs.declared.transport.TransportType.TheVariants.{U
 ghost use Rattle.stun_agent.specs.Agent.{Agent, new_agent};
 ghost use Rattle.stun_agent.specs.Timing.{default_settings};
 ghost use Rattle.stun_agent.specs.Transactions.{IsAscending};
+ghost use Rattle.stun_auth.specs.Client.{initial};
 ghost use Rattle.stun_auth.specs.Reading.{Reading};
 ghost use Rattle.stun_auth.specs.Server.{Sight};
 ghost use Rattle.stun_auth.specs.Validation.{answer};
@@ -17,10 +18,12 @@ ghost use Rattle.stun_proto.specs.Examples.{binding_request, udp_steps, tcp_step
 ghost use Rattle.stun_proto.specs.CallValues.{value_of};
 ghost use Rattle.stun_proto.specs.Counters.{RunsCountSteps};
 ghost use Rattle.stun_proto.specs.EventValues.{event_value};
-ghost use Rattle.stun_proto.specs.Honest.{ShortNamesAreSigned, StrongestIsAgreed};
+ghost use Rattle.stun_proto.specs.Honest.{AgreesOn, ShortNamesAreSigned, StrongestIsAgreed};
+ghost use Rattle.stun_proto.specs.MeetingExample.{IsServed, a_meeting, a_server, a_user};
 ghost use Rattle.stun_proto.specs.MeetingLoop.{MeetingsAgree, MeetingsAreNegotiated};
+ghost use Rattle.stun_proto.specs.Negotiation.{negotiated};
 ghost use Rattle.stun_proto.specs.Renewal.{NonceIsRenewed};
-ghost use Rattle.stun_proto.specs.Headline.{IsAskedOnce, SendsByPlan, ValidatesOneCall};
+ghost use Rattle.stun_proto.specs.Headline.{IsAskedOnce, IsReadyClient, SendsByPlan, ValidatesOneCall};
 ghost use Rattle.stun_proto.specs.Run.{IsDriven};
 ghost use Rattle.stun_proto.specs.RunLaws.{EventsHaveRuns, IsDetermined, IsDeterminedThroughout, KeepPlans, requester};
 ghost use Rattle.stun_proto.specs.Schedule.{AreInOrder, plan};
@@ -36,6 +39,7 @@ use crate::replay::{
 };
 use std::alloc::{AllocError, Allocator};
 use stun_auth::laws as auth_laws;
+use stun_base::algorithm::IntegrityAlgorithm;
 
 /// Events have one run at most: its steps and the agent after it are determined, up to every moment, and from every moment on.
 pub fn runs_are_determined()
@@ -192,6 +196,27 @@ pub fn short_names_are_signed()
     auth_laws::built_messages_can_be_signed();
     auth_laws::sides_add_by_attribute();
     auth_laws::sides_sign_with_room();
+}
+
+/// One meeting: a client of one user that must hash the name (USERHASH, RFC 8489, section 14.4), and a
+/// server that has this user alone, both with HMAC-SHA1 and HMAC-SHA256. From whatever address it
+/// comes, and whatever random words are drawn, it meets the premise of the second sentence; the
+/// meeting ends `Validated` with HMAC-SHA256; and of the three calls that it makes its server make,
+/// `serve` challenges the first, signs the challenge, and validates the last.
+pub fn a_hashed_name_is_validated()
+    ensures ready { (from : Address) (words more : List ℕ)
+        → IsReadyClient initial (a_meeting from words more) a_user a_server }
+    ensures validated { (from : Address) (words more : List ℕ) → length words ≤ 16
+        → AgreesOn from a_user IntegrityAlgorithm.Sha256
+        (negotiated (a_meeting from words more) initial a_server) }
+    ensures served { (from : Address) (words more : List ℕ) → length words ≤ 16
+        → IsServed from words more }
+{
+    strongest_is_agreed();
+    short_names_are_signed();
+    auth_laws::built_messages_can_be_signed();
+    auth_laws::additions_are_read_back();
+    auth_laws::sides_add_by_attribute();
 }
 
 /// A request of an authenticated client whose nonce has ended is answered `StaleNonce`, unless the nonce that is current by

@@ -1,8 +1,8 @@
 -- A server with one user, whose hash no other has.
 use Rattle.std.proofs.Common.{◌≡◌, ℕ, zero, suc, ◌<◌, ◌≤◌, Bool, true, false, cond, List, [], ◌∷◌, length, Some, None, refl, sym, ◌∙◌, ap, arith}
-use Rattle.std.specs.Prelude.{◌&&◌, ◌||◌, codes, nat_lt, IsUtf8}
+use Rattle.std.specs.Prelude.{◌&&◌, codes, nat_lt}
 use Rattle.std.specs.Option.{is_some}
-use Rattle.std.specs.Str.{IsAscii, bytes_eq}
+use Rattle.std.specs.Str.{IsAscii}
 use Rattle.std.specs.Ordering.{eq_by_cmp}
 use Rattle.std.specs.Cmp.Lexicographic.{nat_list_cmp_total}
 use Rattle.std.specs.FinMap as map
@@ -34,21 +34,25 @@ module _ (none : Registered) (nobody : none.passwords ≡ map.empty) (who : Name
   present_at name =
       ap (λ passwords. map.get (map.insert passwords who.username who.password) name) nobody
       ∙ get-insert nat_list_cmp_total map.empty who.username who.password name
-      ∙ ap (cond (eq_by_cmp name_cmp name who.username) (Some who.password)) (map.get-empty name_cmp name)
+      ∙ ap (cond (eq_by_cmp name_cmp name who.username) (Some who.password))
+      (map.get-empty name_cmp name)
 
   one_present : map.get (with_user none who).passwords who.username ≡ Some who.password
   one_present =
       present_at who.username
       ∙ ap (λ b. cond b (Some who.password) None)
-      (is_eq-slice_cmp who.username who.username ∙ (bytes_eq-Decides who.username who.username).1 refl)
+      (is_eq-slice_cmp who.username who.username ∙ (bytes_eq-Decides who.username who.username).1
+      refl)
 
-  only_one : (name : List ℕ) → is_some (map.get (with_user none who).passwords name) ≡ true → name ≡ who.username
+  only_one : (name : List ℕ) → is_some (map.get (with_user none who).passwords name) ≡ true
+      → name ≡ who.username
   only_one name there =
       by (eq_by_cmp name_cmp name who.username) refl (sym (ap is_some (present_at name)) ∙ there)
     where
       by : (b : Bool) → eq_by_cmp name_cmp name who.username ≡ b
           → is_some (cond b (Some who.password) None) ≡ true → name ≡ who.username
-      by true is h = (bytes_eq-Decides name who.username).0 (sym (is_eq-slice_cmp name who.username) ∙ is)
+      by true is h = (bytes_eq-Decides name who.username).0
+          (sym (is_eq-slice_cmp name who.username) ∙ is)
       by false is h = cc
 
   own_hashes : HaveOwnHashes (with_user none who)
@@ -96,7 +100,8 @@ module _ (from : SocketAddr) (words more : List ℕ) where
   }
 
   pub is_ready_client : IsReadyClient initial (a_meeting from words more) a_user a_server
-  is_ready_client = record { new = refl; ready = is_ready; realm_fits = omega arith; name_fits = omega arith }
+  is_ready_client = record
+      { new = refl; ready = is_ready; realm_fits = omega arith; name_fits = omega arith }
 
   pub agrees : ShortNamesAreSigned → StrongestIsAgreed → length words ≤ 16
       → AgreesOn from a_user Sha256 (negotiated (a_meeting from words more) initial a_server)

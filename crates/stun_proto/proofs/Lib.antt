@@ -16,6 +16,7 @@ pub mod Heard
 pub mod IsolationLemmas
 pub mod Keeping
 pub mod LateLemmas
+pub mod MadeLemmas
 pub mod Matched
 pub mod Meeting
 pub mod MeetingLoopLemmas

@@ -1,11 +1,9 @@
 -- The three calls of a client, as the server of its meeting replies to them.
-use Rattle.std.proofs.Common.{◌≡◌, ℕ, ◌<◌, ◌≤◌, ◌^◌, Bool, true, List, [], ◌∷◌, length, Option, Some, None, refl, sym, subst, ap, ◌∙◌, arith, Result, Ok, Err}
+use Rattle.std.proofs.Common.{◌≡◌, ℕ, ◌<◌, ◌≤◌, ◌^◌, Bool, true, List, [], ◌∷◌, length, None, refl, sym, ap, ◌∙◌, arith, Ok, Err}
 use Rattle.std.specs.List.{AllByRecursion}
-use Rattle.std.specs.Global.{Vec}
 use Rattle.std.specs.declared.net.socket_addr.SocketAddr.{SocketAddr}
-use Rattle.stun_base.specs.MessageType.{class_in, class_of, is_response, type_number}
+use Rattle.stun_base.specs.MessageType.{class_of, type_number}
 use Rattle.stun_base.specs.declared.algorithm.IntegrityAlgorithm.TheVariants.{Sha256}
-use Rattle.stun_base.specs.declared.error.StunParseError.{StunParseError}
 use Rattle.stun_base.specs.declared.message_type.MessageClass.TheVariants as Class
 use Rattle.stun_types.specs.Grammar.{spelled}
 use Rattle.stun_types.specs.Message.{refusal}
@@ -21,52 +19,23 @@ use Rattle.stun_auth.specs.ClientSigning.{client_additions}
 use Rattle.stun_auth.specs.ClientStep.{UNAUTHORIZED}
 use Rattle.stun_auth.specs.Joined.{HasAdded, IsTyped}
 use Rattle.stun_auth.specs.Reading.{reading_of}
-use Rattle.stun_auth.specs.ServerSigning.{after_signing, server_signed}
+use Rattle.stun_auth.specs.ServerSigning.{after_signing}
 use Rattle.stun_auth.specs.Signed.{IsBuilt, added_by_client, additions_of}
-use Rattle.stun_auth.specs.Validation.{Answer, ServerSeen, after_message, answer, sight}
+use Rattle.stun_auth.specs.Validation.{after_message}
 use Rattle.stun_auth.proofs.SignedReading.{typed-additions}
 use Rattle.stun_proto.specs.Honest.{ShortNamesAreSigned, StrongestIsAgreed}
 use Rattle.stun_proto.specs.MeetingExample.{IsServed, a_meeting, a_server}
 use Rattle.stun_proto.specs.Negotiation.{asked, failure, request, responded}
-use Rattle.stun_proto.specs.ServerLoop.{AreMade, IfMessage, IsMade, Told, signed_or_refused, told}
-use Rattle.stun_proto.specs.Serving.{Reply, Refused, Signed, Validated, reply_of_answer}
+use Rattle.stun_proto.specs.ServerLoop.{AreMade}
+use Rattle.stun_proto.specs.Serving.{Reply, Refused, Signed, Validated}
 use Rattle.stun_proto.specs.Signing.{written_anew}
 use Rattle.stun_proto.specs.declared.replay.call.ServerCall.{ServerCall}
 use Rattle.stun_proto.specs.declared.replay.call.ServerCall.TheVariants as Call
 use Rattle.stun_proto.proofs.ExampleLemmas.{agrees}
+use Rattle.stun_proto.proofs.MadeLemmas.{made_sign, made_validate}
 use Rattle.stun_proto.proofs.PathLemmas.{Path, path}
 use Rattle.stun_proto.proofs.ServerLoopLemmas.{calls_are_served}
 use Rattle.stun_proto.proofs.Typed.{failure_responds}
-
--- ---- one call
-made_validate : (s : ServerSeen) (from : SocketAddr) (now : ℕ) (message : Vec ℕ) (words bytes : List ℕ) (given : Answer)
-    → message.items ≡ bytes → refusal bytes ≡ None → answer (sight s from) now words (reading_of bytes) ≡ given
-    → IsMade s (Call.Validate from now message words) (told (reply_of_answer given) (after_message s from now words (reading_of bytes)))
-made_validate s from now message words bytes given same is_message answered =
-    let after : Told = told (reply_of_answer given) (after_message s from now words (reading_of bytes)) in
-    let P : List ℕ → Type 0 = λ b. IfMessage s (refusal b) after
-    (after ≡ told (reply_of_answer (answer (sight s from) now words (reading_of b))) (after_message s from now words (reading_of b))) in
-    let Q : Option StunParseError → Type 0 = λ o. IfMessage s o after
-    (after ≡ told (reply_of_answer (answer (sight s from) now words (reading_of bytes))) (after_message s from now words (reading_of bytes))) in
-    subst P (sym same)
-    (subst Q (sym is_message) (ap (λ g. told (reply_of_answer g) (after_message s from now words (reading_of bytes))) (sym answered)))
-
-made_sign : (s : ServerSeen) (to : SocketAddr) (message : Vec ℕ) (bytes : List ℕ) (page : Page)
-    → message.items ≡ bytes → refusal bytes ≡ None → written_anew bytes ≡ Ok bytes → is_response (class_in bytes) ≡ true
-    → server_signed (sight s to) true (page_of bytes) ≡ Ok page
-    → IsMade s (Call.Sign to message) (told (Signed page.bytes) (after_signing s to true))
-made_sign s to message bytes page same is_message plain response signed =
-    let after : Told = told (Signed page.bytes) (after_signing s to true) in
-    let P : List ℕ → Type 0 = λ b. IfMessage s (refusal b) after
-    ((written_anew b ≡ Ok b)
-    × (after ≡ signed_or_refused s (after_signing s to (is_response (class_in b))) (server_signed (sight s to) (is_response (class_in b)) (page_of b)))) in
-    let Q : Option StunParseError → Type 0 = λ o. IfMessage s o after
-    ((written_anew bytes ≡ Ok bytes)
-    × (after ≡ signed_or_refused s (after_signing s to (is_response (class_in bytes))) (server_signed (sight s to) (is_response (class_in bytes)) (page_of bytes)))) in
-    let is : signed_or_refused s (after_signing s to (is_response (class_in bytes))) (server_signed (sight s to) (is_response (class_in bytes)) (page_of bytes)) ≡ after =
-    ap (λ r. signed_or_refused s (after_signing s to r) (server_signed (sight s to) r (page_of bytes))) response
-    ∙ ap (signed_or_refused s (after_signing s to true)) signed in
-    subst P (sym same) (subst Q (sym is_message) (plain, sym is))
 
 -- ---- the messages of the client
 request_is : refusal (request 7) ≡ None
@@ -86,22 +55,29 @@ unfolding asked
 bare page is = let same : page_of (request 7) ≡ page = cc in ap (λ (p : Page). p.bytes) (sym same)
 
 pub record MessageLaws : Type 0 where
-  pub bare : (message_type transaction_id : ℕ) → message_type < 2 ^ 14 → IsBuilt (spelled message_type transaction_id []) (class_of message_type) None
-  pub added : (list : List Addition) (message : List ℕ) (room : ℕ) (page : Page) → IsOpen message → AllByRecursion IsTyped list
-      → added_all list (record { bytes = message; room = room }) ≡ Ok page → HasAdded message list page.bytes
-  pub client : (is_request : Bool) (state : ClientState) → client_additions is_request state ≡ additions_of (added_by_client is_request state)
+  pub bare : (message_type transaction_id : ℕ) → message_type < 2 ^ 14
+      → IsBuilt (spelled message_type transaction_id []) (class_of message_type) None
+  pub added : (list : List Addition) (message : List ℕ) (room : ℕ) (page : Page) → IsOpen message
+      → AllByRecursion IsTyped list
+      → added_all list (record { bytes = message; room = room }) ≡ Ok page
+      → HasAdded message list page.bytes
+  pub client : (is_request : Bool) (state : ClientState)
+      → client_additions is_request state ≡ additions_of (added_by_client is_request state)
 
 module _ (laws : MessageLaws) where
-  asked_is : (id : ℕ) (state : ClientState) (page : Page) → asked id state ≡ Ok page → refusal page.bytes ≡ None
+  asked_is : (id : ℕ) (state : ClientState) (page : Page) → asked id state ≡ Ok page
+      → refusal page.bytes ≡ None
   unfolding asked request
   asked_is id state page is =
       let done = sym (ap (λ l. added_all l (page_of (request id))) (laws.client true state)) ∙ is in
       let built = laws.bare (type_number Class.Request 1) id (omega arith) in
       refusal-none page.bytes
-      (laws.added (additions_of (added_by_client true state)) (request id) _ page built.unsigned.is_open (typed-additions (added_by_client true state)) done).is_message
+      (laws.added (additions_of (added_by_client true state)) (request id) _ page
+      built.unsigned.is_open (typed-additions (added_by_client true state)) done).is_message
 
   -- ---- the run
-  module _ (from : SocketAddr) (words more : List ℕ) (went : Path (a_meeting from words more) initial a_server Sha256) where
+  module _ (from : SocketAddr) (words more : List ℕ)
+      (went : Path (a_meeting from words more) initial a_server Sha256) where
     served : IsServed from words more
     unfolding responded
     served =
@@ -115,20 +91,25 @@ module _ (laws : MessageLaws) where
           again = went.second;
           signed_again = went.second_is;
           replied = λ first error second first_holds error_holds second_holds.
-              let calls : List ServerCall = Call.Validate from 0 first words ∷ Call.Sign from error ∷ Call.Validate from 1_000_000_000 second more ∷ [] in
-              let given : List Reply = Refused Server.Unauthorized ∷ Signed went.told.bytes ∷ Validated Sha256 ∷ [] in
-              let made : AreMade s calls given v =
-              (
+              let calls : List ServerCall = Call.Validate from 0 first words ∷ Call.Sign from error
+              ∷ Call.Validate from 1_000_000_000 second more ∷ [] in
+              let given : List Reply = Refused Server.Unauthorized ∷ Signed went.told.bytes ∷
+              Validated Sha256 ∷ [] in
+              let made : AreMade s calls given v = (
                 t,
-                made_validate s from 0 first words went.first.bytes (Err Server.Unauthorized) (first_holds ∙ sym first_bytes)
-                (ap refusal first_bytes ∙ request_is) went.unauthorized,
+                made_validate s from 0 first words went.first.bytes (Err Server.Unauthorized)
+                    (first_holds ∙ sym first_bytes)
+                    (ap refusal first_bytes ∙ request_is) went.unauthorized,
                 (
                   u,
-                  made_sign t from error (failure UNAUTHORIZED 7) went.told error_holds error_is error_plain (failure_responds UNAUTHORIZED 7 (failure UNAUTHORIZED 7) refl) went.told_is,
+                  made_sign t from error (failure UNAUTHORIZED 7) true (Ok went.told) error_holds
+                      error_is error_plain
+                      (failure_responds UNAUTHORIZED 7 (failure UNAUTHORIZED 7) refl) went.told_is,
                   (
                     v,
-                    made_validate u from 1_000_000_000 second more went.second.bytes (Ok (Served.Validated Sha256)) second_holds
-                    (asked_is 8 _ went.second went.second_is) went.validated,
+                    made_validate u from 1_000_000_000 second more went.second.bytes
+                        (Ok (Served.Validated Sha256)) second_holds
+                        (asked_is 8 _ went.second went.second_is) went.validated,
                     refl,
                   ),
                 ),
@@ -136,6 +117,9 @@ module _ (laws : MessageLaws) where
               sym (calls_are_served s v calls given made).0;
         }
 
-  pub is_served : ShortNamesAreSigned → StrongestIsAgreed → (from : SocketAddr) (words more : List ℕ) → length words ≤ 16 → IsServed from words more
+  pub is_served : ShortNamesAreSigned → StrongestIsAgreed
+      → (from : SocketAddr) (words more : List ℕ) → length words ≤ 16 → IsServed from words more
   is_served signed agreed from words more few =
-      served from words more (path (a_meeting from words more) initial a_server Sha256 (agrees from words more signed agreed few).ending)
+      served from words more
+      (path (a_meeting from words more) initial a_server Sha256
+      (agrees from words more signed agreed few).ending)

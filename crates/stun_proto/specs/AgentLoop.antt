@@ -28,11 +28,11 @@ abbrev pub wait_of : ℕ → Agent → ℕ
 wait_of now agent = wake_up agent.transport now agent.transactions
 
 -- A loop over an agent. At each of its moments an event is handed over and a turn is taken
--- (`poll_transmit` until it answers `None`, then `poll` until it answers `WaitUntil`), or a turn alone
--- is taken. What comes at one moment is handed over before a turn alone; moments do not go back, and
--- none is the last there is, 584 years on. Each is at most `late` nanoseconds after the one that the
--- last `poll` said to wait until. A loop goes from a moment that nothing comes before, one to wait
--- until, and an agent, to such a moment to wait until and an agent
+-- (`poll_transmit` until it answers `None`, then `poll` until it answers `WaitUntil`), or a turn
+-- alone is taken. What comes at one moment is handed over before a turn alone; moments do not go
+-- back, and none is the last there is, 584 years on. Each is at most `late` nanoseconds after the
+-- one that the last `poll` said to wait until. A loop goes from a moment that nothing comes before,
+-- one to wait until, and an agent, to such a moment to wait until and an agent
 pub data Loop (late : ℕ) : ℕ → ℕ → Agent → Comings → List Step → ℕ → Agent → Type 0 where
   rest : {a : Agent} {from wait : ℕ} → Loop late from wait a [] [] wait a
   handed : {a b c : Agent} {from wait last : ℕ} {comings : Comings} {turned more : List Step}
@@ -61,8 +61,8 @@ pub record RunsUntil (until : ℕ) (comings : Comings) (last : ℕ) : Type 0 whe
   pub within : AllByRecursion (λ c. c.0 ≤ until) comings
   pub no_more : until < last
 
--- an agent with no request outstanding, in a loop that is never late, makes the steps of `drive` with
--- the same events, and is then the same
+-- an agent with no request outstanding, in a loop that is never late, makes the steps of `drive`
+-- with the same events, and is then the same
 abbrev pub LoopsAreDriven : Type 0
 LoopsAreDriven =
     (until from wait last : ℕ) (a b : Agent) (comings : Comings) (steps : List Step)
@@ -83,8 +83,8 @@ LoopsSendByPlan =
 abbrev pub first_from : ℕ → List ℕ → Option ℕ
 first_from due turns = find (λ now. nat_le due now) turns
 
--- transmission k of a request that is first sent at `start`, counted from 0, where turns are taken at
--- these moments: at the first of them at which the timeout since the transmission before has passed
+-- transmission k of a request that is first sent at `start`, counted from 0, where turns are taken
+-- at these moments: at the first of them at which the timeout since transmission k - 1 has passed
 unfoldable pub sent_at : Settings → ℕ → List ℕ → ℕ → Option ℕ
 sent_at settings start turns zero = Some start
 sent_at settings start turns (suc k) =
@@ -94,30 +94,33 @@ sent_at settings start turns (suc k) =
 -- its time-out: at the first of them at which the final wait since the last transmission has passed
 abbrev pub ended_at : TransportType → Settings → ℕ → List ℕ → Option ℕ
 ended_at transport settings start turns =
-    option_and_then (λ before. first_from (moment_after before (final_wait transport settings)) turns)
+    option_and_then
+    (λ before. first_from (moment_after before (final_wait transport settings)) turns)
     (sent_at settings start turns (slots transport settings))
 
 -- its transmissions, at most as many as `plan` has, and its time-out, as far as the turns go
 abbrev pub plan_by_turns :
     TransportType → ℕ → Settings → ℕ → SocketAddr → List ℕ → List ℕ → List Step
 plan_by_turns transport start settings id to bytes turns =
-    filter_map (λ k. option_map (λ now. Transmitted now id to bytes) (sent_at settings start turns k))
+    filter_map
+    (λ k. option_map (λ now. Transmitted now id to bytes) (sent_at settings start turns k))
     (range_with_len 0 (slots transport settings + 1))
     ++ option_map_or (λ now. TimedOut now id ∷ []) (ended_at transport settings start turns) []
 
 -- a request that is handed to an agent which accepts it, and at which no later event is aimed
-pub record IsRequested (a : Agent) (bytes : List ℕ) (to : SocketAddr) (later : Comings) : Type 0 where
-  pub ascends : IsAscending a.transactions
-  pub accepted : request_refusal a bytes to ≡ None
-  pub left_alone :
-      AllByRecursion (λ e. IsAimedAt (transaction_id_field bytes) to e.1 → ⊥) (events_in later)
+pub record IsRequested (a : Agent) (bytes : List ℕ) (to : SocketAddr) (later : Comings) : Type 0
+  where
+    pub ascends : IsAscending a.transactions
+    pub accepted : request_refusal a bytes to ≡ None
+    pub left_alone :
+        AllByRecursion (λ e. IsAimedAt (transaction_id_field bytes) to e.1 → ⊥) (events_in later)
 
 -- However late: from there on, up to its end (`own`), the request is sent, and times out, at these
 -- turns and at no others, and each timeout counts from the turn before
 abbrev pub LoopsSendByTurns : Type 0
 LoopsSendByTurns =
-    (late from wait last start : ℕ) (a b : Agent) (bytes : Vec ℕ) (to : SocketAddr) (later : Comings)
-    (steps : List Step) → IsRequested a bytes.items to later
+    (late from wait last start : ℕ) (a b : Agent) (bytes : Vec ℕ) (to : SocketAddr)
+    (later : Comings) (steps : List Step) → IsRequested a bytes.items to later
     → Loop late from wait a ((start, Some (SendRequest bytes to)) ∷ later) steps last b
     → let id = transaction_id_field bytes.items in
     own id steps
@@ -128,16 +131,17 @@ abbrev pub TurnsAreNeverEarly : Type 0
 TurnsAreNeverEarly =
     (transport : TransportType) (settings : Settings) (start : ℕ) (turns : List ℕ)
     → start ≤ last_moment
-    → ((k now : ℕ) → sent_at settings start turns k ≡ Some now → transmission start settings k ≤ now)
+    → ((k now : ℕ) → sent_at settings start turns k ≡ Some now
+    → transmission start settings k ≤ now)
     × ((now : ℕ) → ended_at transport settings start turns ≡ Some now
     → planned_end transport settings start ≤ now)
 
--- and where each turn is at most so late, transmission k is at most k times as late, and the time-out
--- once more than the last transmission may be
+-- and where each turn is at most so late, transmission k is at most k times as late, and the
+-- time-out once more than the last transmission may be
 abbrev pub LateLoopsAreBounded : Type 0
 LateLoopsAreBounded =
-    (late from wait last start : ℕ) (a b : Agent) (bytes : Vec ℕ) (to : SocketAddr) (later : Comings)
-    (steps : List Step) → IsRequested a bytes.items to later
+    (late from wait last start : ℕ) (a b : Agent) (bytes : Vec ℕ) (to : SocketAddr)
+    (later : Comings) (steps : List Step) → IsRequested a bytes.items to later
     → Loop late from wait a ((start, Some (SendRequest bytes to)) ∷ later) steps last b
     → let turns = start ∷ moments_in later in
     ((k now : ℕ) → k ≤ slots a.transport a.settings → sent_at a.settings start turns k ≡ Some now

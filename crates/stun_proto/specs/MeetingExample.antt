@@ -46,9 +46,9 @@ a_meeting from words more = record {
   second = record { id = 8; now = 1_000_000_000; words = more; before = [] };
 }
 
--- what the server replies to the three calls that this client makes it make, whatever vectors hold
--- their messages: its first request is challenged, the challenge is signed, and the request that the
--- client signs once it has read the challenge is validated
+-- what the server replies to the three calls that its client gives rise to, whatever vectors hold
+-- their messages: the first request is challenged, the challenge is signed, and the request that
+-- the client signs once it has read the challenge is validated
 pub record IsServed (from : SocketAddr) (words more : List ℕ) : Type 0 where
   pub challenge : Page
   pub again : Page

@@ -1,11 +1,15 @@
 -- A server whose calls its user makes one by one, in a loop of their own: what the clauses of these
 -- calls say, and that they are a run of `serve`.
-use Rattle.std.specs.Prelude.{◌≡◌, ℕ, List, [], ◌∷◌, Option, Some, None, Result, Ok, Err, string_bytes, if◌then◌else◌}
+use Rattle.std.specs.Prelude.{◌≡◌, ◌<◌, ℕ, List, [], ◌∷◌, length, Option, Some, None, Result, Ok, Err, string_bytes, if◌then◌else◌}
 use Rattle.std.specs.Duration.{as_nanos}
+use Rattle.stun_base.specs.Credentials.{NameAndPassword}
 use Rattle.stun_base.specs.declared.error.StunParseError.{StunParseError}
 use Rattle.stun_base.specs.declared.error.StunWriteError.{StunWriteError}
 use Rattle.stun_base.specs.MessageType.{class_in, is_response}
+use Rattle.stun_types.specs.Attribute.{TypedValue}
 use Rattle.stun_types.specs.Message.{refusal}
+use Rattle.stun_types.specs.Walk.{attributes_of, walk}
+use Rattle.stun_types.specs.Writing.{IsOpen}
 use Rattle.stun_auth.specs.Additions.{Page, page_of}
 use Rattle.stun_auth.specs.Algorithms.{only, with_algorithm}
 use Rattle.stun_auth.specs.Forgetting.{after_forgetting, without_place}
@@ -19,7 +23,7 @@ use Rattle.stun_proto.specs.declared.replay.call.ServerCall.TheVariants as Call
 use Rattle.stun_proto.specs.Headline.{ValidatesEachCall}
 use Rattle.stun_proto.specs.Replies.{message_read}
 use Rattle.stun_proto.specs.Serving.{Reply, NotAMessage, SignRefused, Signed, Done, TooShort, after_calls, is_too_short, replies, reply_of_answer}
-use Rattle.stun_proto.specs.Signing.{written_anew}
+use Rattle.stun_proto.specs.Signing.{refusal_at, spelled_anew, written_anew}
 
 -- ---- one call
 
@@ -60,7 +64,8 @@ IsMade s (Call.Sign to message) after =
     (server_signed (sight s to) response (page_of message.items))))
 -- each of the others: its one clause, or `ok`, or `state`
 IsMade s (Call.AddUser name password) after =
-    let user = record { username = string_bytes name; password = string_bytes password } in
+    let user : NameAndPassword =
+    record { username = string_bytes name; password = string_bytes password } in
     after ≡ told Done (record s { registered = with_user s.registered user })
 IsMade s (Call.RemoveUser name) after =
     after ≡ told Done (record s { registered = without_user s.registered (string_bytes name) })
@@ -68,7 +73,8 @@ IsMade s (Call.AddIntegrity algorithm) after =
     let all = with_algorithm algorithm s.registered.algorithms in
     after ≡ told Done (record s { registered = record s.registered { algorithms = all } })
 IsMade s (Call.SetIntegrity algorithm) after =
-    after ≡ told Done (record s { registered = record s.registered { algorithms = only algorithm } })
+    after
+    ≡ told Done (record s { registered = record s.registered { algorithms = only algorithm } })
 IsMade s (Call.SetAnonymous feature) after = after ≡ told Done (record s { feature = feature })
 IsMade s (Call.RemoveClient address) after =
     after ≡ told Done (record s { places = with_change s.places address (with_client None) })
@@ -81,8 +87,8 @@ IsMade s (Call.Forget address) after = after ≡ told Done (without_place s addr
 
 -- ---- a loop
 
--- calls that are made one after the other, and the replies to them: each begins with the server that
--- the one before left
+-- calls that are made one after the other, and the replies to them: each begins with the server
+-- that the one before left
 abbrev pub AreMade : ServerSeen → List ServerCall → List Reply → ServerSeen → Type 0
 AreMade s [] [] last = last ≡ s
 AreMade s [] (r ∷ given) last = ⊥
@@ -97,7 +103,21 @@ CallsAreServed =
     → AreMade start calls given last
     → (given ≡ replies start calls) × (last ≡ after_calls start calls)
 
--- so the first sentence holds of them
+-- a message that was built by `add_attribute` alone: it is spelled with its attributes, none of
+-- which was refused after those before it
+pub record IsBuiltUp (message : List ℕ) (attributes : List TypedValue) : Type 0 where
+  pub is_open : IsOpen message
+  pub spelled_so : message ≡ spelled_anew message attributes
+  pub found : attributes_of (walk message) ≡ attributes
+  pub allowed : (k : ℕ) → k < length attributes → refusal_at message attributes k ≡ None
+
+-- `serve` writes it anew as it is
+abbrev pub BuiltAreWrittenSo : Type 0
+BuiltAreWrittenSo =
+    (message : List ℕ) (attributes : List TypedValue) → IsBuiltUp message attributes
+    → written_anew message ≡ Ok message
+
+-- so the first sentence holds of such calls
 abbrev pub CallsAreValidated : Type 0
 CallsAreValidated =
     (start last : ServerSeen) (calls : List ServerCall) (given : List Reply)

@@ -1,14 +1,20 @@
 //! Laws of runs: what holds of the definitions alone, and what equalities are.
-ghost use Rattle.std.specs.Prelude.{◌≡◌, ◌≤◌, ◌↔◌, IsTrue, List, [], Ok, length, ℕ};
+ghost use Rattle.std.specs.Prelude.{◌≡◌, ◌≤◌, ◌-◌, ◌↔◌, IsTrue, List, [], Ok, length, ℕ};
 ghost use Rattle.std.specs.declared.net.socket_addr.SocketAddr.{SocketAddr as Address};
+ghost use Rattle.std.specs.Global.{Vec as TheVec};
 ghost use Rattle.stun_base.specs.Moments.{last_moment};
+ghost use Rattle.stun_base.specs.Words.{next_words};
 ghost use Rattle.stun_base.specs.declared.transport.TransportType.{TransportType as Transport};
 ghost use Rattle.stun_base.specs.declared.transport.TransportType.TheVariants.{Udp, Tcp};
+ghost use Rattle.stun_types.specs.Message.{IsMessage, LENGTH_LIMIT};
+ghost use Rattle.stun_types.specs.WriteVec.{Written};
 ghost use Rattle.stun_agent.specs.Agent.{Agent, new_agent};
 ghost use Rattle.stun_agent.specs.Timing.{default_settings};
 ghost use Rattle.stun_agent.specs.Transactions.{IsAscending};
+ghost use Rattle.stun_auth.specs.Additions.{UnlessMemory, written};
 ghost use Rattle.stun_auth.specs.Client.{initial};
 ghost use Rattle.stun_auth.specs.Reading.{Reading};
+ghost use Rattle.stun_auth.specs.Reasons.{OrMemory};
 ghost use Rattle.stun_auth.specs.Server.{Sight};
 ghost use Rattle.stun_auth.specs.Validation.{answer};
 ghost use Rattle.stun_proto.specs.AgentLoop.{LateLoopsAreBounded, LoopsAreDriven, LoopsSendByPlan, LoopsSendByTurns, TurnsAreNeverEarly};
@@ -27,9 +33,10 @@ ghost use Rattle.stun_proto.specs.Headline.{IsAskedOnce, IsReadyClient, SendsByP
 ghost use Rattle.stun_proto.specs.Run.{IsDriven};
 ghost use Rattle.stun_proto.specs.RunLaws.{EventsHaveRuns, IsDetermined, IsDeterminedThroughout, KeepPlans, requester};
 ghost use Rattle.stun_proto.specs.Schedule.{AreInOrder, plan};
-ghost use Rattle.stun_proto.specs.ServerLoop.{CallsAreServed, CallsAreValidated};
-ghost use Rattle.stun_proto.specs.Serving.{reply_of};
+ghost use Rattle.stun_proto.specs.ServerLoop.{BuiltAreWrittenSo, CallsAreServed, CallsAreValidated, IsMade, told};
+ghost use Rattle.stun_proto.specs.Serving.{reply_of, reply_of_answer, reply_of_signing};
 ghost use Rattle.stun_proto.specs.Shards.{ShardsServeAsOne};
+ghost use Rattle.stun_proto.specs.Signing.{written_anew};
 ghost use Rattle.stun_proto.specs.Steps.{Step, step_of};
 ghost use Rattle.stun_proto.specs.Stopped.{StoppedRunsEnd, StoppedRunsGoOn, StoppedRunsHaveTheRest, StoppedRunsStopAgain};
 ghost use Rattle.stun_proto.specs.declared.replay.event.AgentEvent.{AgentEvent as TheEvent};
@@ -37,9 +44,15 @@ ghost use Rattle.stun_proto.specs.declared.replay.event.AgentEvent.{AgentEvent a
 use crate::replay::{
     AgentEvent, AgentStep, NegotiateError, Outcome, ServerCall, ServerReply, Stopped,
 };
+use rand_core::Rng;
 use std::alloc::{AllocError, Allocator};
+use std::net::SocketAddr;
+use stun_auth::auth::{LongTermServerAuth, LongTermServerAuthError, LongTermServerValidation};
 use stun_auth::laws as auth_laws;
 use stun_base::algorithm::IntegrityAlgorithm;
+use stun_base::error::StunWriteError;
+use stun_base::instant::Instant;
+use stun_types::message::{Message, MessageWriteVec};
 
 /// Events have one run at most: its steps and the agent after it are determined, up to every moment, and from every moment on.
 pub fn runs_are_determined()
@@ -132,8 +145,49 @@ pub fn one_call_validates()
 pub fn calls_are_a_run()
     ensures served { CallsAreServed }
     ensures validated { CallsAreValidated }
+    ensures plain { BuiltAreWrittenSo }
 {
     auth_laws::accepted_messages_are_validated();
+}
+
+/// One call of `validate_incoming_message` is the call `Validate` of a run (`IsMade`), with the
+/// sixteen words that its source has next. Where an allocation failed it is no call of the run, and
+/// the server is as before.
+pub fn a_validation_is_made<A: Allocator + Copy, R: Rng>(
+    server: &mut LongTermServerAuth<A>,
+    message: &Message<'_>,
+    from: SocketAddr,
+    now: Instant,
+    rng: &mut R,
+) -> Result<LongTermServerValidation, LongTermServerAuthError>
+    ensures { OrMemory result
+        ((bytes : TheVec ℕ) → bytes.items ≡ message.now → IsMade server.old
+        (ServerCall.Validate from now bytes (next_words 16 (R.stream rng.old)))
+        (told (reply_of_answer result) server.new))
+        (server.new ≡ server.old) }
+{
+    // For the proof: it tells that the bytes are a message.
+    let _bytes = message.as_bytes();
+    server.validate_incoming_message(message, from, now, rng)
+}
+
+/// One call of `sign_outgoing_message`, on a message in a vector that `serve` writes anew as it is
+/// (clause `plain` of `calls_are_a_run`), is the call `Sign` of a run (`IsMade`). Where an allocation
+/// failed it is no call of the run, and the server is as before.
+pub fn a_signing_is_made<A: Allocator + Copy>(
+    server: &mut LongTermServerAuth<A>,
+    writer: MessageWriteVec<A>,
+    to: SocketAddr,
+) -> Result<MessageWriteVec<A>, StunWriteError>
+    requires { IsMessage writer.bytes }
+    ensures { UnlessMemory result
+        ((bytes : TheVec ℕ) → bytes.items ≡ writer.bytes
+        → written_anew writer.bytes ≡ Ok writer.bytes → IsMade server.old
+        (ServerCall.Sign to bytes) (told (reply_of_signing (written (λ (w : Written). w.bytes)
+        (λ (w : Written). LENGTH_LIMIT - length w.bytes) result)) server.new))
+        (server.new ≡ server.old) }
+{
+    server.sign_outgoing_message(writer, to)
 }
 
 /// What a client and a server can agree on is the strongest algorithm that both support. There is none exactly where they share

@@ -19,10 +19,11 @@ use Rattle.stun_agent.specs.Transactions.{IsAscending, Transaction, Transactions
 use Rattle.stun_agent.proofs.Ascending.{lookup_among}
 use Rattle.stun_agent.proofs.EntryLemmas.{own_key, later_key}
 use Rattle.stun_proto.specs.declared.replay.event.AgentEvent.{AgentEvent}
-use Rattle.stun_proto.specs.AgentLoop.{Comings, Loop, LoopsAreDriven, LoopsSendByPlan, events_in, handed, polled, rest, wait_of}
-use Rattle.stun_proto.specs.Run.{IsAwaited, IsDriven, IsNext, Phase, Run, Turn, again, done, ends, event, none, rests, sending, sends, stops, turn, steps_of_event}
+use Rattle.stun_proto.specs.AgentLoop.{AreInTurn, Comings, Loop, LoopsAreDriven, LoopsExist, LoopsSendByPlan, events_in, handed, polled, rest, wait_of}
+use Rattle.stun_proto.specs.Run.{IsAwaited, IsDriven, IsNext, Phase, Run, Turn, again, done, ends, event, none, rests, sending, sends, stops, turn, after_event, steps_of_event}
 use Rattle.stun_proto.specs.Schedule.{AreInOrder}
 use Rattle.stun_proto.specs.Steps.{Step}
+use Rattle.stun_proto.proofs.Existence.{has_turn}
 use Rattle.stun_proto.proofs.Once.{driven_by_plan}
 use Rattle.stun_proto.proofs.RunLemmas.{event_ascends, turn_ascends}
 
@@ -291,6 +292,58 @@ loop_runs until {wait = wait} {a = a}
         subst (λ ss. Run (until + 1) g a (events_in comings) (ss ++ more) c) (sym r.0)
         (subst (λ x. Run (until + 1) g x (events_in comings) more c) r.1
         (go g (λ moment awaits. later moment (subst (λ x. IsAwaited x moment) r.1 awaits))))
+
+-- ---- there is a loop
+-- one that is later than it needs to be
+later_loop : {late from wait last : ℕ} {a b : Agent} {comings : Comings} {steps : List Step}
+    → Loop late from wait a comings steps last b → (more : ℕ) → late ≤ more
+    → Loop more from wait a comings steps last b
+later_loop rest more le = rest
+later_loop (handed now e low early less t loop) more le =
+    handed now e low (omega (arith, early, le)) less t (later_loop loop more le)
+later_loop (polled now low early less t loop) more le =
+    polled now low (omega (arith, early, le)) less t (later_loop loop more le)
+
+record HasLoop (from wait : ℕ) (a : Agent) (comings : Comings) : Type 0 where
+  pub late : ℕ
+  pub last : ℕ
+  pub steps : List Step
+  pub after : Agent
+  pub loop : Loop late from wait a comings steps last after
+
+has_loop : (from wait : ℕ) (a : Agent) (comings : Comings) → AreInTurn from comings
+    → HasLoop from wait a comings
+has_loop from wait a [] order =
+    record { late = 0; last = wait; steps = []; after = a; loop = rest }
+has_loop from wait a ((now, Some e) ∷ comings) (low, less, order) =
+    let t = has_turn now (omega (arith, less)) (after_event now e a) in
+    let r = has_loop now (wait_of now t.after) t.after comings order in
+    record {
+      late = now + r.late;
+      last = r.last;
+      steps = steps_of_event now e a ++ (t.steps ++ r.steps);
+      after = r.after;
+      loop =
+          handed now e low (omega arith) less t.turned
+          (later_loop r.loop (now + r.late) (omega arith));
+    }
+has_loop from wait a ((now, None) ∷ comings) (low, less, order) =
+    let t = has_turn now (omega (arith, less)) a in
+    let r = has_loop (now + 1) (wait_of now t.after) t.after comings order in
+    record {
+      late = now + r.late;
+      last = r.last;
+      steps = t.steps ++ r.steps;
+      after = r.after;
+      loop =
+          polled now low (omega arith) less t.turned
+          (later_loop r.loop (now + r.late) (omega arith));
+    }
+
+pub loops_exist : LoopsExist
+loops_exist from wait a comings order =
+    let r = has_loop from wait a comings order in
+    (r.late, r.last, r.steps, r.after, r.loop)
 
 -- ---- the law
 none_waits : (a : Agent) → a.transactions ≡ [] → (moment : ℕ) → IsAwaited a moment → ⊥

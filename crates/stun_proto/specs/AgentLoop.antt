@@ -54,6 +54,22 @@ events_in comings = filter_map (λ c. option_map (λ e. (c.0, e)) c.1) comings
 abbrev pub moments_in : Comings → List ℕ
 moments_in comings = map (λ c. c.0) comings
 
+-- moments that do not go back, from one on, as a loop has them
+abbrev pub next_from : ℕ → Option AgentEvent → ℕ
+next_from now None = now + 1
+next_from now (Some e) = now
+
+abbrev pub AreInTurn : ℕ → Comings → Type 0
+AreInTurn from [] = Unit {0}
+AreInTurn from (c ∷ comings) =
+    (from ≤ c.0) × (c.0 < last_moment) × AreInTurn (next_from c.0 c.1) comings
+
+-- whatever comes at such moments, there is a loop in which it does, so late as it is
+abbrev pub LoopsExist : Type 0
+LoopsExist =
+    (from wait : ℕ) (a : Agent) (comings : Comings) → AreInTurn from comings
+    → (late last : ℕ) × (steps : List Step) × (b : Agent) × Loop late from wait a comings steps last b
+
 -- ---- on time
 -- no moment of the loop is past `until`, and the next one that `poll` has told is
 pub record RunsUntil (until : ℕ) (comings : Comings) (last : ℕ) : Type 0 where

@@ -17,7 +17,7 @@ ghost use Rattle.stun_auth.specs.Reading.{Reading};
 ghost use Rattle.stun_auth.specs.Reasons.{OrMemory};
 ghost use Rattle.stun_auth.specs.Server.{Sight};
 ghost use Rattle.stun_auth.specs.Validation.{answer};
-ghost use Rattle.stun_proto.specs.AgentLoop.{LateLoopsAreBounded, LoopsAreDriven, LoopsSendByPlan, LoopsSendByTurns, TurnsAreNeverEarly};
+ghost use Rattle.stun_proto.specs.AgentLoop.{LateLoopsAreBounded, LoopsAreDriven, LoopsExist, LoopsSendByPlan, LoopsSendByTurns, TurnsAreNeverEarly};
 ghost use Rattle.stun_proto.specs.Appending.{AgreeingAreAnsweredAlike, ContinuedAreAnsweredAlike};
 ghost use Rattle.stun_proto.specs.Best.{BestIsStrongest};
 ghost use Rattle.stun_proto.specs.Examples.{binding_request, udp_steps, tcp_steps};
@@ -101,10 +101,12 @@ pub fn runs_keep_plans()
 
 /// An agent that began with no request outstanding, and that a user polls in a loop of their own, on
 /// time (`Loop`): each turn comes no later than `poll` said to wait until. It makes the steps of
-/// `drive` with the same events. So the third sentence holds of it (RFC 8489, section 6.2.1).
+/// `drive` with the same events. So the third sentence holds of it (RFC 8489, section 6.2.1). And
+/// whatever comes at moments that do not go back, there is a loop in which it does, on time or late.
 pub fn loops_are_driven()
     ensures driven { LoopsAreDriven }
     ensures plans { LoopsSendByPlan }
+    ensures exist { LoopsExist }
 {}
 
 /// The same agent polled late, by however much. Up to its end a request at which no event is aimed is

@@ -21,4 +21,5 @@ messages c = record {
 pub returns-clause-served : goal.returns-clause-served
 returns-clause-served c =
     λ from words more few.
-    is_served (messages c) c.short_names_are_signed.ensures c.strongest_is_agreed.ensures from words more few
+    is_served (messages c) c.short_names_are_signed.ensures c.strongest_is_agreed.ensures from words
+    more few

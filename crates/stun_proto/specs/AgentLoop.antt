@@ -68,7 +68,8 @@ AreInTurn from (c ∷ comings) =
 abbrev pub LoopsExist : Type 0
 LoopsExist =
     (from wait : ℕ) (a : Agent) (comings : Comings) → AreInTurn from comings
-    → (late last : ℕ) × (steps : List Step) × (b : Agent) × Loop late from wait a comings steps last b
+    → (late last : ℕ) × (steps : List Step) × (b : Agent)
+    × Loop late from wait a comings steps last b
 
 -- ---- on time
 -- no moment of the loop is past `until`, and the next one that `poll` has told is

@@ -109,12 +109,12 @@ pub fn loops_are_driven()
     ensures exist { LoopsExist }
 {}
 
-/// The same agent polled late, by however much. Up to its end a request at which no event is aimed is
-/// sent at the first turn at which its timeout has passed since it was sent before, and at no other,
-/// as often as its plan says at most; and it times out at the first turn at which the final wait has
-/// passed since then. No step comes before its moment in the plan. Where each turn is at most so
-/// late, transmission k, counted from 0, is at most k times as late, and the time-out once more than
-/// the last transmission.
+/// An agent in such a loop that is late, by however much. Up to its end a request at which no event is
+/// aimed is sent at the first turn at which its timeout has passed since it was sent before, and at no
+/// other, at most as often as its plan says; and it times out at the first turn at which the final
+/// wait has passed since then. No step comes before its moment in the plan. Where each turn is at most
+/// so late, transmission k, counted from 0, is at most k times as late, and the time-out once more
+/// than the last transmission.
 pub fn late_loops_send_by_turns()
     ensures turns { LoopsSendByTurns }
     ensures never_early { TurnsAreNeverEarly }

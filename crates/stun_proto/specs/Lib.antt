@@ -16,6 +16,8 @@ pub mod Appending
 pub mod Shards
 -- what a server answers to a list of calls (RFC 8489, section 9.2.4)
 pub mod Serving
+-- sentence 1: a server whose calls its user makes one by one
+pub mod ServerLoop
 -- what signing a message for an address comes to
 pub mod Signing
 -- sentence 2: what a client and a server can agree on (section 9.2)
@@ -30,6 +32,10 @@ pub mod Negotiating
 pub mod Sides
 -- when both sides have come to the same challenge
 pub mod Matching
+-- sentence 2: a client and a server whose users make their calls one by one
+pub mod MeetingLoop
+-- a client that must hash its user's name, and its server
+pub mod MeetingExample
 -- a nonce that has expired, and the one that takes its place (sections 9.2.4 and 9.2.5)
 pub mod Renewal
 -- sentence 3: the plan of a request, and what disturbs it (sections 6.2.1 and 6.2.2)
@@ -42,6 +48,8 @@ pub mod Run
 pub mod Examples
 -- what holds of all runs: each list of events has one and no other, and each request keeps its plan
 pub mod RunLaws
+-- sentence 3: an agent that its user polls in a loop of their own, on time or late
+pub mod AgentLoop
 -- what the steps of a run add to the counters of its agent
 pub mod Counters
 -- a run that stops because an allocation failed, and how it goes on

@@ -1,29 +1,42 @@
 //! Laws of runs: what holds of the definitions alone, and what equalities are.
-ghost use Rattle.std.specs.Prelude.{◌≡◌, ◌≤◌, ◌↔◌, IsTrue, List, [], Ok, ℕ};
+ghost use Rattle.std.specs.Prelude.{◌≡◌, ◌≤◌, ◌-◌, ◌↔◌, IsTrue, List, [], Ok, length, ℕ};
 ghost use Rattle.std.specs.declared.net.socket_addr.SocketAddr.{SocketAddr as Address};
+ghost use Rattle.std.specs.Global.{Vec as TheVec};
 ghost use Rattle.stun_base.specs.Moments.{last_moment};
+ghost use Rattle.stun_base.specs.Words.{next_words};
 ghost use Rattle.stun_base.specs.declared.transport.TransportType.{TransportType as Transport};
 ghost use Rattle.stun_base.specs.declared.transport.TransportType.TheVariants.{Udp, Tcp};
+ghost use Rattle.stun_types.specs.Message.{IsMessage, LENGTH_LIMIT};
+ghost use Rattle.stun_types.specs.WriteVec.{Written};
 ghost use Rattle.stun_agent.specs.Agent.{Agent, new_agent};
 ghost use Rattle.stun_agent.specs.Timing.{default_settings};
 ghost use Rattle.stun_agent.specs.Transactions.{IsAscending};
+ghost use Rattle.stun_auth.specs.Additions.{UnlessMemory, written};
+ghost use Rattle.stun_auth.specs.Client.{initial};
 ghost use Rattle.stun_auth.specs.Reading.{Reading};
+ghost use Rattle.stun_auth.specs.Reasons.{OrMemory};
 ghost use Rattle.stun_auth.specs.Server.{Sight};
 ghost use Rattle.stun_auth.specs.Validation.{answer};
+ghost use Rattle.stun_proto.specs.AgentLoop.{LateLoopsAreBounded, LoopsAreDriven, LoopsExist, LoopsSendByPlan, LoopsSendByTurns, TurnsAreNeverEarly};
 ghost use Rattle.stun_proto.specs.Appending.{AgreeingAreAnsweredAlike, ContinuedAreAnsweredAlike};
 ghost use Rattle.stun_proto.specs.Best.{BestIsStrongest};
 ghost use Rattle.stun_proto.specs.Examples.{binding_request, udp_steps, tcp_steps};
 ghost use Rattle.stun_proto.specs.CallValues.{value_of};
 ghost use Rattle.stun_proto.specs.Counters.{RunsCountSteps};
 ghost use Rattle.stun_proto.specs.EventValues.{event_value};
-ghost use Rattle.stun_proto.specs.Honest.{ShortNamesAreSigned, StrongestIsAgreed};
+ghost use Rattle.stun_proto.specs.Honest.{AgreesOn, ShortNamesAreSigned, StrongestIsAgreed};
+ghost use Rattle.stun_proto.specs.MeetingExample.{IsServed, a_meeting, a_server, a_user};
+ghost use Rattle.stun_proto.specs.MeetingLoop.{MeetingsAgree, MeetingsAreNegotiated};
+ghost use Rattle.stun_proto.specs.Negotiation.{negotiated};
 ghost use Rattle.stun_proto.specs.Renewal.{NonceIsRenewed};
-ghost use Rattle.stun_proto.specs.Headline.{IsAskedOnce, SendsByPlan, ValidatesOneCall};
+ghost use Rattle.stun_proto.specs.Headline.{IsAskedOnce, IsReadyClient, SendsByPlan, ValidatesOneCall};
 ghost use Rattle.stun_proto.specs.Run.{IsDriven};
 ghost use Rattle.stun_proto.specs.RunLaws.{EventsHaveRuns, IsDetermined, IsDeterminedThroughout, KeepPlans, requester};
 ghost use Rattle.stun_proto.specs.Schedule.{AreInOrder, plan};
-ghost use Rattle.stun_proto.specs.Serving.{reply_of};
+ghost use Rattle.stun_proto.specs.ServerLoop.{BuiltAreWrittenSo, CallsAreServed, CallsAreValidated, IsMade, told};
+ghost use Rattle.stun_proto.specs.Serving.{reply_of, reply_of_answer, reply_of_signing};
 ghost use Rattle.stun_proto.specs.Shards.{ShardsServeAsOne};
+ghost use Rattle.stun_proto.specs.Signing.{written_anew};
 ghost use Rattle.stun_proto.specs.Steps.{Step, step_of};
 ghost use Rattle.stun_proto.specs.Stopped.{StoppedRunsEnd, StoppedRunsGoOn, StoppedRunsHaveTheRest, StoppedRunsStopAgain};
 ghost use Rattle.stun_proto.specs.declared.replay.event.AgentEvent.{AgentEvent as TheEvent};
@@ -31,8 +44,15 @@ ghost use Rattle.stun_proto.specs.declared.replay.event.AgentEvent.{AgentEvent a
 use crate::replay::{
     AgentEvent, AgentStep, NegotiateError, Outcome, ServerCall, ServerReply, Stopped,
 };
+use rand_core::Rng;
 use std::alloc::{AllocError, Allocator};
+use std::net::SocketAddr;
+use stun_auth::auth::{LongTermServerAuth, LongTermServerAuthError, LongTermServerValidation};
 use stun_auth::laws as auth_laws;
+use stun_base::algorithm::IntegrityAlgorithm;
+use stun_base::error::StunWriteError;
+use stun_base::instant::Instant;
+use stun_types::message::{Message, MessageWriteVec};
 
 /// Events have one run at most: its steps and the agent after it are determined, up to every moment, and from every moment on.
 pub fn runs_are_determined()
@@ -79,6 +99,28 @@ pub fn runs_keep_plans()
         → IsDriven until a events steps b → KeepPlans until a events steps }
 {}
 
+/// An agent that began with no request outstanding, and that a user polls in a loop of their own, on
+/// time (`Loop`): each turn comes no later than `poll` said to wait until. It makes the steps of
+/// `drive` with the same events. So the third sentence holds of it (RFC 8489, section 6.2.1). And
+/// whatever comes at moments that do not go back, there is a loop in which it does, on time or late.
+pub fn loops_are_driven()
+    ensures driven { LoopsAreDriven }
+    ensures plans { LoopsSendByPlan }
+    ensures exist { LoopsExist }
+{}
+
+/// An agent in such a loop that is late, by however much. Up to its end a request at which no event is
+/// aimed is sent at the first turn at which its timeout has passed since it was sent before, and at no
+/// other, at most as often as its plan says; and it times out at the first turn at which the final
+/// wait has passed since then. No step comes before its moment in the plan. Where each turn is at most
+/// so late, transmission k, counted from 0, is at most k times as late, and the time-out once more
+/// than the last transmission.
+pub fn late_loops_send_by_turns()
+    ensures turns { LoopsSendByTurns }
+    ensures never_early { TurnsAreNeverEarly }
+    ensures bounded { LateLoopsAreBounded }
+{}
+
 /// The plan of one request, spelled out. With the default settings, over UDP: a transmission at 0, 500, 1500, 3500, 7500,
 /// 15500 and 31500 ms, and its time-out at 39500 ms. Over TCP: one transmission, and the time-out at the same moment (RFC
 /// 8489, sections 6.2.1 and 6.2.2). A new agent that is asked this request and nothing else meets the premise of
@@ -96,6 +138,58 @@ pub fn one_call_validates()
         → ValidatesOneCall s now words r (answer s now words r) }
 {
     stun_auth::laws::accepted_messages_are_validated();
+}
+
+/// Calls that a user makes on one server, one by one, are a run of `serve`: each as the clauses of the
+/// server's own call say (`IsMade`), and from the server that the one before left, they have the
+/// replies of the run, and leave its server. So the first sentence holds of them
+/// (RFC 8489, section 9.2.4).
+pub fn calls_are_a_run()
+    ensures served { CallsAreServed }
+    ensures validated { CallsAreValidated }
+    ensures plain { BuiltAreWrittenSo }
+{
+    auth_laws::accepted_messages_are_validated();
+}
+
+/// One call of `validate_incoming_message` is the call `Validate` of a run (`IsMade`), with the
+/// sixteen words that its source has next. Where an allocation failed it is no call of the run, and
+/// the server is as before.
+pub fn a_validation_is_made<A: Allocator + Copy, R: Rng>(
+    server: &mut LongTermServerAuth<A>,
+    message: &Message<'_>,
+    from: SocketAddr,
+    now: Instant,
+    rng: &mut R,
+) -> Result<LongTermServerValidation, LongTermServerAuthError>
+    ensures { OrMemory result
+        ((bytes : TheVec ℕ) → bytes.items ≡ message.now → IsMade server.old
+        (ServerCall.Validate from now bytes (next_words 16 (R.stream rng.old)))
+        (told (reply_of_answer result) server.new))
+        (server.new ≡ server.old) }
+{
+    // For the proof: it tells that the bytes are a message.
+    let _bytes = message.as_bytes();
+    server.validate_incoming_message(message, from, now, rng)
+}
+
+/// One call of `sign_outgoing_message`, on a message in a vector that `serve` writes anew as it is
+/// (clause `plain` of `calls_are_a_run`), is the call `Sign` of a run (`IsMade`). Where an allocation
+/// failed it is no call of the run, and the server is as before.
+pub fn a_signing_is_made<A: Allocator + Copy>(
+    server: &mut LongTermServerAuth<A>,
+    writer: MessageWriteVec<A>,
+    to: SocketAddr,
+) -> Result<MessageWriteVec<A>, StunWriteError>
+    requires { IsMessage writer.bytes }
+    ensures { UnlessMemory result
+        ((bytes : TheVec ℕ) → bytes.items ≡ writer.bytes
+        → written_anew writer.bytes ≡ Ok writer.bytes → IsMade server.old
+        (ServerCall.Sign to bytes) (told (reply_of_signing (written (λ (w : Written). w.bytes)
+        (λ (w : Written). LENGTH_LIMIT - length w.bytes) result)) server.new))
+        (server.new ≡ server.old) }
+{
+    server.sign_outgoing_message(writer, to)
 }
 
 /// What a client and a server can agree on is the strongest algorithm that both support. There is none exactly where they share
@@ -137,6 +231,17 @@ pub fn strongest_is_agreed()
     auth_laws::sides_add_by_attribute();
 }
 
+/// A client and a server whose users make their calls one by one, each on what the other side has
+/// sent, in order (`HaveMet`), are in a meeting as `negotiate` has it: they come to the same outcome,
+/// and both sides are left the same. So an honest client is accepted with its second request and the
+/// strongest algorithm of both (RFC 8489, section 9.2).
+pub fn calls_are_a_meeting()
+    ensures negotiated { MeetingsAreNegotiated }
+    ensures strongest { MeetingsAgree }
+{
+    strongest_is_agreed();
+}
+
 /// No signing of the meeting of a ready client (`IsReady`) is refused where realm and user name fit
 /// their attributes, 763 and 513 bytes (RFC 8489, sections 14.3 and 14.9).
 pub fn short_names_are_signed()
@@ -147,6 +252,27 @@ pub fn short_names_are_signed()
     auth_laws::built_messages_can_be_signed();
     auth_laws::sides_add_by_attribute();
     auth_laws::sides_sign_with_room();
+}
+
+/// One meeting: a client of one user that must hash the name (USERHASH, RFC 8489, section 14.4), and a
+/// server that has this user alone, both with HMAC-SHA1 and HMAC-SHA256. From whatever address it
+/// comes, and whatever random words are drawn, it meets the premise of the second sentence; the
+/// meeting ends `Validated` with HMAC-SHA256; and of the three calls that it makes its server make,
+/// `serve` challenges the first, signs the challenge, and validates the last.
+pub fn a_hashed_name_is_validated()
+    ensures ready { (from : Address) (words more : List ℕ)
+        → IsReadyClient initial (a_meeting from words more) a_user a_server }
+    ensures validated { (from : Address) (words more : List ℕ) → length words ≤ 16
+        → AgreesOn from a_user IntegrityAlgorithm.Sha256
+        (negotiated (a_meeting from words more) initial a_server) }
+    ensures served { (from : Address) (words more : List ℕ) → length words ≤ 16
+        → IsServed from words more }
+{
+    strongest_is_agreed();
+    short_names_are_signed();
+    auth_laws::built_messages_can_be_signed();
+    auth_laws::additions_are_read_back();
+    auth_laws::sides_add_by_attribute();
 }
 
 /// A request of an authenticated client whose nonce has ended is answered `StaleNonce`, unless the nonce that is current by

@@ -1,0 +1,9 @@
+-- The clauses of the call, in one.
+use Rattle.stun_proto.proofs.MadeLemmas.{is_signed}
+use Rattle.stun_proto.proofs.laws.a_signing_is_made.Goals as goal
+
+pub returns : goal.returns
+returns g c =
+    is_signed c.args.server.now c.sign_outgoing_message.new.self c.args.to c.args.writer.bytes
+    c.sign_outgoing_message.result _ c.requires c.sign_outgoing_message.ensures.answer
+    c.sign_outgoing_message.ensures.signed c.sign_outgoing_message.ensures.refused

@@ -48,7 +48,7 @@
 //! | `auth` | who signed: short-term, long-term client, long-term server |
 //! | `stats` | what an agent has counted |
 //! | `replay` | whole runs: `serve`, `negotiate`, `drive` |
-//! | `laws` | what holds of all runs, as calls that do nothing and promise it |
+//! | `laws` | what holds of all runs, as calls that do nothing, or make one call, and promise it |
 //! | `Instant` | a moment, in nanoseconds since a start of the caller's |
 #![tactic(auto)]
 

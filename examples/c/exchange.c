@@ -10,7 +10,8 @@ enum { MOST_AT_ONCE = 16 };
 
 /* ---- Messages */
 
-stunp_writer write_new(uint32_t message_class, uint32_t method, uint8_t *bytes, size_t room) {
+stunp_writer write_new(stunp_message_class message_class, uint32_t method, uint8_t *bytes,
+                       size_t room) {
     uint8_t id[STUNP_ID_LENGTH];
     fill_randomly(id, sizeof id);
     return stunp_write(message_class, method, id, bytes, room);
@@ -22,32 +23,24 @@ bool is_message(const struct datagram *got, stunp_header *header) {
            && stunp_read_header(got->bytes, got->length, header) == 0;
 }
 
-/* Where the first visible attribute of a type is, or 0, at which no attribute can be. */
-static size_t place_of(const struct datagram *got, uint32_t type, size_t *length) {
-    int64_t place = stunp_find(got->bytes, got->length, type, length);
-    return place > 0 ? (size_t)place : 0;
-}
-
 bool has(const struct datagram *got, uint32_t type) {
     size_t length;
-    return place_of(got, type, &length) > 0;
+    return stunp_find(got->bytes, got->length, type, &length) > 0;
 }
 
 bool has_text(const struct datagram *got, uint32_t type, const char *text) {
-    size_t length, place = place_of(got, type, &length);
-    const uint8_t *value = got->bytes + place + STUNP_ATTRIBUTE_HEADER_LENGTH;
-    return place > 0 && length == strlen(text) && memcmp(value, text, length) == 0;
+    size_t length;
+    int64_t at = stunp_find_text(got->bytes, got->length, type, &length);
+    return at > 0 && length == strlen(text) && memcmp(got->bytes + at, text, length) == 0;
 }
 
 bool get_number(const struct datagram *got, uint32_t type, int size, uint64_t *number) {
-    size_t length, place = place_of(got, type, &length);
-    return stunp_read_number(got->bytes, got->length, place, number) == size;
+    return stunp_find_number(got->bytes, got->length, type, number) == size;
 }
 
 bool get_address(const struct datagram *got, uint32_t type, stunp_address *address) {
     stunp_address read = {{0}, 0, 0};
-    size_t length, place = place_of(got, type, &length);
-    int64_t octets = stunp_read_xor_address(got->bytes, got->length, place, read.octets,
+    int64_t octets = stunp_find_xor_address(got->bytes, got->length, type, read.octets,
                                             sizeof read.octets, &read.port);
     if (octets < 0) return false;
     read.length = octets == 4 ? 4 : 16;
@@ -100,7 +93,7 @@ int64_t ask(struct exchange *exchange, const stunp_writer *request, const struct
     return kept < 0 ? kept : tell(exchange, request, &of->peer);
 }
 
-bool is_answer(const struct exchange *exchange, const struct datagram *got,
+bool is_answer(struct exchange *exchange, const struct datagram *got,
                const stunp_header *header) {
     stunp_address asked;
     bool is_response =
@@ -123,14 +116,13 @@ static const struct peer *peer_of(const struct exchange *exchange, const stunp_a
 
 void send_again(struct exchange *exchange, uint64_t now) {
     uint8_t bytes[MOST_BYTES];
-    stunp_header header;
     stunp_address to;
     for (int sent = 0; sent < MOST_AT_ONCE; sent++) {
         int64_t due =
             stunp_agent_poll_transmit(&exchange->agent, now, bytes, sizeof bytes, &to);
         if (due <= 0) return;
-        stunp_read_header(bytes, sizeof bytes, &header); /* it tells how long the request is */
-        send_to(exchange->socket, bytes, header.length, peer_of(exchange, &to));
+        stunp_writer again = stunp_write_on(due, bytes, sizeof bytes);
+        tell(exchange, &again, peer_of(exchange, &to));
         exchange->repeated++;
     }
 }

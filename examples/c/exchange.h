@@ -8,7 +8,8 @@
 /* ---- Messages */
 
 /* Begins a request or an indication of a new id. */
-stunp_writer write_new(uint32_t message_class, uint32_t method, uint8_t *bytes, size_t room);
+stunp_writer write_new(stunp_message_class message_class, uint32_t method, uint8_t *bytes,
+                       size_t room);
 
 /* Whether it is one whole message, with a right FINGERPRINT or with none; and its header. */
 bool is_message(const struct datagram *got, stunp_header *header);
@@ -50,7 +51,7 @@ int64_t tell(const struct exchange *exchange, const stunp_writer *message, const
 int64_t ask(struct exchange *exchange, const stunp_writer *request, const struct remote *of);
 
 /* Whether a message is a response to an outstanding request, from whom was asked. */
-bool is_answer(const struct exchange *exchange, const struct datagram *got,
+bool is_answer(struct exchange *exchange, const struct datagram *got,
                const stunp_header *header);
 
 /* Ends the request that it answers. Answers below 0 where there is no memory. */

@@ -1,4 +1,5 @@
 /* ice.h: a check of ICE is written and read in few lines. */
+#define _GNU_SOURCE
 #include "ice.h"
 #include <string.h>
 
@@ -12,7 +13,7 @@ enum { KNOWN_TYPES = sizeof known / sizeof *known };
 
 /* What the priority of our first candidate would be if they met it in our check (section 5.1.2.1).
  * Each later one has less local preference. */
-enum { PEER_REFLEXIVE = (110 << 24) + (65535 << 8) + 255, LOCAL_PREFERENCE = 1 << 8 };
+static const uint32_t PEER_REFLEXIVE = (110 << 24) + (65535 << 8) + 255, LOCAL_PREFERENCE = 1 << 8;
 
 static uint32_t role_of(bool is_controlling) {
     return is_controlling ? STUNP_ICE_CONTROLLING : STUNP_ICE_CONTROLLED;
@@ -20,7 +21,7 @@ static uint32_t role_of(bool is_controlling) {
 
 /* ---- A check of ours (section 7.2) */
 
-stunp_writer write_check(const struct session *session, int candidate, bool is_nominating,
+stunp_writer write_check(const struct session *session, unsigned candidate, bool is_nominating,
                          uint8_t *bytes, size_t room) {
     stunp_writer check = write_new(STUNP_REQUEST, STUNP_BINDING, bytes, room);
     uint32_t role = role_of(session->is_controlling);
@@ -35,8 +36,7 @@ stunp_writer write_check(const struct session *session, int candidate, bool is_n
 }
 
 static bool is_signed(const struct datagram *got, const char *password) {
-    const uint8_t *key = (const uint8_t *)password;
-    return stunp_verify(got->bytes, got->length, key, strlen(password)) == STUNP_SHA1;
+    return stunp_verify(got->bytes, got->length, password, strlen(password)) == STUNP_SHA1;
 }
 
 bool is_theirs(const struct session *session, const struct datagram *response) {
@@ -65,12 +65,9 @@ uint32_t judge_check(struct session *session, const struct datagram *check) {
 
 /* The 420 is written by a call of its own. */
 static stunp_writer refuse_unknown(const struct datagram *check, uint8_t *bytes, size_t room) {
-    stunp_header header;
-    int64_t answer =
-        stunp_refuse_unknown(check->bytes, check->length, known, KNOWN_TYPES, bytes, room);
-    stunp_writer writer = {bytes, room, 0, answer < 0 ? answer : 0};
-    if (answer > 0 && stunp_read_header(bytes, room, &header) == 0) writer.length = header.length;
-    return writer;
+    return stunp_write_on(
+        stunp_refuse_unknown(check->bytes, check->length, known, KNOWN_TYPES, bytes, room), bytes,
+        room);
 }
 
 static stunp_writer write_success(const stunp_header *of, const stunp_address *from,

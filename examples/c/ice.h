@@ -13,7 +13,7 @@ struct session {
 };
 
 /* Writes a check of ours, from the candidate of this number. */
-stunp_writer write_check(const struct session *session, int candidate, bool is_nominating,
+stunp_writer write_check(const struct session *session, unsigned candidate, bool is_nominating,
                          uint8_t *bytes, size_t room);
 
 /* The code that a check of theirs draws: 200 for a success. It may change our role. */

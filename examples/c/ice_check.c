@@ -134,7 +134,7 @@ static int64_t send_check(struct pair *pair) {
     pair->was_nominating = session.is_controlling && pair->state == VALID;
     set_state(pair, CHECKING);
     stunp_writer check =
-        write_check(&session, our, pair->was_nominating, bytes, sizeof bytes);
+        write_check(&session, (unsigned)our, pair->was_nominating, bytes, sizeof bytes);
     stunp_id(bytes, check.length, pair->id, sizeof pair->id);
     return ask(&ours[our], &check, &theirs[their]);
 }
@@ -220,6 +220,23 @@ static uint64_t go_on(uint64_t now, uint64_t until) {
     return until;
 }
 
+static const struct remote *remote_of(const struct pair *pair) {
+    return &theirs[(pair - pairs) % theirs_number];
+}
+
+/* The controlled side follows a USE-CANDIDATE, once its own check of the pair succeeded (section
+ * 7.3.1.5). */
+static void follow(void) {
+    static bool is_printed;
+    bool is_to_follow = nominated == NULL && told != NULL && !session.is_controlling;
+    if (is_to_follow && told->state == VALID) nominated = told;
+    if (nominated == NULL || is_printed) return;
+    is_printed = true;
+    printf("nominated %s as %s", text_of(&remote_of(nominated)->at),
+           session.is_controlling ? "controlling" : "controlled");
+    printf(", seen as %s\n", text_of(&nominated->seen));
+}
+
 /* Waits for datagrams, until a moment, and takes some of each socket. */
 static void receive_some(uint64_t now, uint64_t until) {
     struct pollfd sockets[MOST_CANDIDATES];
@@ -233,14 +250,11 @@ static void receive_some(uint64_t now, uint64_t until) {
         for (int taken = 0; sockets[our].revents != 0 && taken < AT_ONCE; taken++) {
             if (!receive(sockets[our].fd, &got)) break;
             take(our, &got);
+            follow();
         }
 }
 
 /* ---- The session */
-
-static const struct remote *remote_of(const struct pair *pair) {
-    return &theirs[(pair - pairs) % theirs_number];
-}
 
 static void send_data(const struct pair *pair) {
     uint8_t data[MOST_BYTES] = "from ";
@@ -248,12 +262,6 @@ static void send_data(const struct pair *pair) {
     memcpy(data + 5, session.name_to_us, length);
     const struct exchange *by = &ours[(pair - pairs) / theirs_number];
     send_to(by->socket, data, 5 + length, &remote_of(pair)->peer);
-}
-
-static void print_nominated(void) {
-    printf("nominated %s as %s", text_of(&remote_of(nominated)->at),
-           session.is_controlling ? "controlling" : "controlled");
-    printf(", seen as %s\n", text_of(&nominated->seen));
 }
 
 static void print_checked(uint64_t nanoseconds) {
@@ -264,8 +272,8 @@ static void print_checked(uint64_t nanoseconds) {
            pairs_number - valid_pairs - open_pairs, repeated);
 }
 
-/* Checks a pair, where one is to be checked and it is time, and nominates. Answers false after it
- * told that no pair can be valid. */
+/* Checks a pair, where one is to be checked and it is time. Answers false after it told that no
+ * pair can be valid. */
 static bool check_some(uint64_t now, uint64_t pace, uint64_t *next) {
     struct pair *pair = now >= *next ? to_check() : NULL;
     if (pair != NULL) {
@@ -273,8 +281,6 @@ static bool check_some(uint64_t now, uint64_t pace, uint64_t *next) {
         if (asked < 0) fail_pair(pair, stunp_strerror(asked));
         *next = now + pace;
     }
-    bool is_to_follow = nominated == NULL && told != NULL && !session.is_controlling;
-    if (is_to_follow && told->state == VALID) nominated = told;
     return open_pairs > 0 || valid_pairs > 0 || fails(why);
 }
 
@@ -282,19 +288,16 @@ static bool check_some(uint64_t now, uint64_t pace, uint64_t *next) {
  * for a while. */
 static bool run(uint64_t pace, uint64_t give_up) {
     uint64_t end = give_up, now, begun = moment(), checked = 0, next_check = 0, next_data = 0;
-    bool was_nominated = false;
     while ((now = moment()) < end) {
         if (!check_some(now, pace, &next_check)) return false;
-        if (nominated != NULL && !was_nominated) print_nominated();
-        was_nominated = nominated != NULL;
-        if (was_nominated && now >= next_data) {
+        if (nominated != NULL && now >= next_data) {
             send_data(nominated);
             next_data = now + REPEAT;
         }
-        if (open_pairs == 0 && checked == 0) checked = now - begun;
-        if (was_nominated && has_data && open_pairs == 0 && end == give_up) end = now + AFTERWARDS;
-        uint64_t wake = next_check > now ? next_check : now + TICK;
-        receive_some(now, go_on(now, wake));
+        bool is_done = open_pairs == 0;
+        if (is_done && checked == 0) checked = now - begun;
+        if (is_done && nominated != NULL && has_data && end == give_up) end = now + AFTERWARDS;
+        receive_some(now, go_on(now, next_check > now ? next_check : now + TICK));
     }
     if (nominated != NULL && has_data) print_checked(checked);
     return (nominated != NULL && has_data) || fails("no time left");

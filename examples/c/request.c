@@ -1,4 +1,5 @@
 /* request.h: what a message has is asked of the library, call by call. */
+#define _GNU_SOURCE
 #include "request.h"
 
 /* The types that these programs understand, of those that must be. */
@@ -45,12 +46,8 @@ static const char *reason_of(uint32_t code) {
 
 /* The 420 is written by a call of its own. */
 static stunp_writer refuse_unknown(const struct datagram *got, uint8_t *out, size_t room) {
-    stunp_header header;
-    int64_t answer =
-        stunp_refuse_unknown(got->bytes, got->length, known, KNOWN_TYPES, out, room);
-    stunp_writer writer = {out, room, 0, answer < 0 ? answer : 0};
-    if (answer > 0 && stunp_read_header(out, room, &header) == 0) writer.length = header.length;
-    return writer;
+    return stunp_write_on(
+        stunp_refuse_unknown(got->bytes, got->length, known, KNOWN_TYPES, out, room), out, room);
 }
 
 stunp_writer begin_answer(const struct message *request, uint32_t code, uint8_t *out, size_t room) {

@@ -121,13 +121,12 @@ static enum end judge(struct asker *asker, const struct datagram *got) {
  * The agent tells the server's address too, but only the peer has the scope of a link-local one. */
 static int64_t send_again(struct asker *asker, uint64_t now) {
     uint8_t bytes[MOST_BYTES];
-    stunp_header header;
     stunp_address to;
     for (int sent = 0; sent < MOST_AT_ONCE; sent++) {
         int64_t due = stunp_agent_poll_transmit(&asker->agent, now, bytes, sizeof bytes, &to);
         if (due <= 0) return due;
-        stunp_read_header(bytes, sizeof bytes, &header); /* it tells how long the request is */
-        send_to(asker->socket, bytes, header.length, &asker->server);
+        stunp_writer again = stunp_write_on(due, bytes, sizeof bytes);
+        send_to(asker->socket, bytes, again.length, &asker->server);
     }
     return 0;
 }

@@ -50,7 +50,7 @@ static stunp_address address_of(uint32_t number) {
 
 static uint64_t moment(uint32_t number) { return number * (uint64_t)1000; }
 
-static struct message message_of(uint32_t class, uint32_t number) {
+static struct message message_of(stunp_message_class class, uint32_t number) {
     struct message message = {{0}, STUNP_HEADER_LENGTH};
     uint8_t id[ID];
     write_id(number, id);
@@ -84,9 +84,9 @@ void rattle_dealloc(void *at) { free(at); }
 static stunp_agent agent;
 static struct message messages[MOST_TIMES];
 
-static void prepare_agent(uint32_t size, uint32_t transmissions, uint32_t class, uint32_t first) {
+static void prepare_agent(uint32_t size, uint32_t transmissions, stunp_message_class class, uint32_t first) {
     stunp_address local = address_of(1), none = {{0}, 0, 0}, to = address_of(0);
-    stunp_timeouts timeouts = {SECOND / 2, UINT64_MAX, 8 * SECOND, transmissions};
+    stunp_timeouts timeouts = {sizeof timeouts, SECOND / 2, UINT64_MAX, 8 * SECOND, transmissions};
     if (stunp_agent_new_with(&agent, STUNP_UDP, &local, &none, &timeouts) < 0) fail("no agent");
     for (uint32_t number = 0; number < size; number++) {
         struct message request = message_of(STUNP_REQUEST, number);
@@ -123,10 +123,11 @@ static void challenge(uint32_t number, struct message *error) {
     struct message unsigned_request = message_of(STUNP_REQUEST, 1);
     stunp_server_validate(&server, unsigned_request.bytes, unsigned_request.length, &from, 0, words);
     *error = message_of(STUNP_ERROR, 1);
-    int64_t length = stunp_add_error(error->bytes, sizeof error->bytes, error->length, 401, (const uint8_t *)"Unauthorized", 12);
-    if (length > 0) length = stunp_server_sign(&server, error->bytes, sizeof error->bytes, (size_t)length, &from);
-    if (length < 0) fail("no challenge");
-    error->length = (size_t)length;
+    stunp_writer writer = stunp_write_on(STUNP_HEADER_LENGTH, error->bytes, sizeof error->bytes);
+    stunp_write_error(&writer, 401, "Unauthorized");
+    stunp_write_server_sign(&writer, &server, &from);
+    if (stunp_written(&writer) < 0) fail("no challenge");
+    error->length = writer.length;
 }
 
 static bool is_validated(uint32_t number) {
@@ -135,25 +136,25 @@ static bool is_validated(uint32_t number) {
 }
 
 static void prepare_server(uint32_t size, bool is_strong) {
-    const uint8_t *password = (const uint8_t *)"pass";
     uint32_t algorithms = is_strong ? STUNP_SHA1 | STUNP_SHA256 : STUNP_SHA1;
-    stunp_server_new(&server, (const uint8_t *)"realm", 5);
+    stunp_server_new(&server, "realm", 5);
     stunp_server_set_algorithms(&server, algorithms);
     for (uint32_t number = 0; number < size; number++) {
         char name[16];
-        int length = sprintf(name, "user%u", number);
-        stunp_server_add_user(&server, (const uint8_t *)name, (size_t)length, password, 4);
+        snprintf(name, sizeof name, "user%u", number);
+        stunp_server_add_user(&server, name, strlen(name), "pass", 4);
     }
     stunp_client_new(&client);
     stunp_client_set_algorithms(&client, algorithms);
-    stunp_client_set_credentials(&client, (const uint8_t *)"user0", 5, password, 4);
+    stunp_client_set_credentials(&client, "user0", 5, "pass", 4);
     struct message error;
     challenge(0, &error);
     if (!stunp_is_resend(stunp_client_validate(&client, error.bytes, error.length))) fail("no request");
     signed_request = message_of(STUNP_REQUEST, 2);
-    int64_t length = stunp_client_sign(&client, signed_request.bytes, sizeof signed_request.bytes, signed_request.length);
-    if (length < 0) fail("not signed");
-    signed_request.length = (size_t)length;
+    stunp_writer writer = stunp_write_on(STUNP_HEADER_LENGTH, signed_request.bytes, sizeof signed_request.bytes);
+    stunp_write_client_sign(&writer, &client);
+    if (stunp_written(&writer) < 0) fail("not signed");
+    signed_request.length = writer.length;
     for (uint32_t number = 0; number < size; number++) {
         challenge(number, &error);
         if (!is_validated(number)) fail("not validated");
@@ -175,7 +176,7 @@ static bool asks(void) {
 /* ---- A message of 44 bytes under a key of four. */
 
 static bool verifies(void) {
-    return stunp_verify(signed_request.bytes, signed_request.length, (const uint8_t *)"pass", 4) == STUNP_SHA1;
+    return stunp_verify(signed_request.bytes, signed_request.length, "pass", 4) == STUNP_SHA1;
 }
 
 static bool parses(void) { return stunp_parse(signed_request.bytes, signed_request.length) == 0; }
@@ -226,7 +227,7 @@ static double least_pause(uint32_t size, uint64_t now, size_t at_once) {
 }
 
 static void print_pauses(uint32_t size, size_t at_once) {
-    stunp_server_new(&server, (const uint8_t *)"realm", 5);
+    stunp_server_new(&server, "realm", 5);
     const uint64_t moments[] = {0, FOREVER}; /* all are kept, all are forgotten */
     for (int i = 0; i < 2; i++)
         printf("%.0f %.0f\n", least_pause(size, moments[i], 0), least_pause(size, moments[i], at_once));
@@ -246,7 +247,7 @@ static void prepare(enum call call, uint32_t size) {
     case VALIDATES_SHA256: case PARSES_SHA256: case ANSWERS_SHA256: case ASKS_SHA256: prepare_server(size, true); break;
     case VERIFIES:
         signed_request = message_of(STUNP_REQUEST, 2);
-        signed_request.length = (size_t)stunp_sign(signed_request.bytes, 512, 20, STUNP_SHA1, (const uint8_t *)"pass", 4);
+        signed_request.length = (size_t)stunp_sign(signed_request.bytes, 512, 20, STUNP_SHA1, "pass", 4);
         break;
     default:
         prepare_agent(size, call == ENDS_ONE ? 1 : 7, call == RESPONDS ? STUNP_SUCCESS : STUNP_REQUEST, call == SENDS_LAST ? size : 0);

@@ -426,7 +426,7 @@ class Stage:
         # C always counts, and does not tell how many requests are outstanding.
         if not self.counts or self.is_untimed:
             self.left()
-        counts = struct.unpack("=14Q", self.ask("agent-statistics")[1][0])
+        counts = struct.unpack("@N14Q", self.ask("agent-statistics")[1][0])[1:]
         pairs = zip(("requests", "responses", "indications", "bytes"), (*counts[0:6:2], counts[8]), (*counts[1:6:2], counts[9]))
         parts = [f"{name}={sent}/{received}" for name, sent, received in pairs if sent or received]
         parts += [f"{name}={count}" for name, count in zip(("timed-out", "cancelled"), counts[6:8]) if count]

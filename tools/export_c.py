@@ -18,8 +18,8 @@ SLICES = {"&[u8]": ("*const u8", "slice::from_raw_parts"),
           "&mut [u16]": ("*mut u16", "slice::from_raw_parts_mut")}
 
 
-def border_of(text, crate):
-    """The functions that C calls, each of which hands on."""
+def border_of(text, module):
+    """The functions of a module that C calls, each of which hands on."""
     calls = ""
     for words, name, listed, answer in CALL.findall(text):
         declared, handed = [], []
@@ -38,7 +38,7 @@ def border_of(text, crate):
                   f'#[unsafe(no_mangle)]\npub unsafe extern "C" fn {name}({", ".join(declared)})'
                   f'{" -> " + answer if answer else ""} {{\n'
                   f"    // SAFETY: the caller passes a pointer and a length of what it owns.\n"
-                  f"    {crate}::{name}({', '.join(handed)})\n}}\n\n")
+                  f"    {module}::{name}({', '.join(handed)})\n}}\n\n")
     return calls
 
 
@@ -60,12 +60,12 @@ def write(out, exported, places, root):
             if name.parts[0] in ("laws.rs", "handle.rs", "handle"):
                 continue
             text = exported(path.read_text(), crate, {**places, **PLACES})
+            border += border_of(text, "::".join([crate, *name.with_suffix("").parts]).removesuffix("::lib"))
+            text = CALL.sub(lambda found: found.group(1) + f"pub fn {found.group(2)}({found.group(3)})"
+                            + (f" -> {found.group(4)}" if found.group(4) else ""), text)
+            text = re.sub(r"^mod handle;\n", "use crate::handle;\n", text, flags=re.M)
+            text = re.sub(r"^mod (\w+);\n", r"pub mod \1;\n", text, flags=re.M)
             if str(name) == "lib.rs":
-                border += border_of(text, crate)
-                text = CALL.sub(lambda found: found.group(1) + f"pub fn {found.group(2)}({found.group(3)})"
-                                + (f" -> {found.group(4)}" if found.group(4) else ""), text)
-                text = re.sub(r"^mod handle;\n", "use crate::handle;\n", text, flags=re.M)
-                text = re.sub(r"^mod (address|agent|header|walk);\n", r"pub mod \1;\n", text, flags=re.M)
                 name = Path("mod.rs")
             target = calls / crate / name
             target.parent.mkdir(parents=True, exist_ok=True)

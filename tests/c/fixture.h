@@ -43,7 +43,7 @@ static inline stunp_address address_of(uint32_t number) {
 }
 
 /* A Binding message whose id is made of a number. */
-static inline struct message message_of(uint32_t class, uint32_t number) {
+static inline struct message message_of(stunp_message_class class, uint32_t number) {
     struct message message = {{0}, 0};
     uint8_t id[STUNP_ID_LENGTH] = {0};
     for (int i = 0; i < 4; i++) id[i] = (uint8_t)(number >> (24 - 8 * i));

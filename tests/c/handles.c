@@ -3,10 +3,11 @@
  * messages, and with each allocation refused, the transcripts play (tests/play.py). */
 #include "fixture.h"
 
-enum { CUT = 19, ID = STUNP_ID_LENGTH, ID_AT = 8 };
+enum { CUT = 19, ID = STUNP_ID_LENGTH, ID_AT = 8, SIZE = sizeof(stunp_timeouts) };
 
 static const stunp_address nowhere = {{1, 2, 3, 4}, 5, 6}; /* of no length that an address has */
 static const stunp_address none = {{0}, 0, 0};
+static const stunp_transport OTHER = (stunp_transport)2;
 
 /* The refusals of a message in their order: cut, no STUN, and with bytes after its end. */
 #define REFUSES_MESSAGES(what, call)                                                                             \
@@ -29,7 +30,7 @@ static void empty_agents(void) {
     stunp_agent agent = {0};
     stunp_address peer = nowhere;
     stunp_statistics counts = {.requests_sent = 7};
-    stunp_timeouts timeouts = {1, 1, 1, 1};
+    stunp_timeouts timeouts = {0, 1, 1, 1, 1};
     uint64_t until = 9;
     uint8_t id[ID] = {9};
     want("send_request", stunp_agent_send_request(&agent, id, 1, &nowhere, 0), STUNP_EMPTY_HANDLE);
@@ -39,6 +40,8 @@ static void empty_agents(void) {
     want("handle", stunp_agent_handle(&agent, id, 1, &nowhere, 0), STUNP_EMPTY_HANDLE);
     want("validated_peer", stunp_agent_validated_peer(&agent, &nowhere), STUNP_EMPTY_HANDLE);
     want("is_validated_peer", stunp_agent_is_validated_peer(&agent, &nowhere), STUNP_EMPTY_HANDLE);
+    want("peer_count", stunp_agent_peer_count(&agent), STUNP_EMPTY_HANDLE);
+    want("forget_peer", stunp_agent_forget_peer(&agent, &nowhere), STUNP_EMPTY_HANDLE);
     want("is_outstanding", stunp_agent_is_outstanding(&agent, id, 1, &peer), STUNP_EMPTY_HANDLE);
     want("cancel", stunp_agent_cancel(&agent, id, 1), STUNP_EMPTY_HANDLE);
     want("cancel_retransmissions", stunp_agent_cancel_retransmissions(&agent, id, 1), STUNP_EMPTY_HANDLE);
@@ -54,18 +57,18 @@ static void empty_agents(void) {
 static void make_agents(void) {
     stunp_agent agent = {0};
     stunp_address local = address_of(1), remote = address_of(2);
-    stunp_timeouts timeouts = {SECOND, 2 * SECOND, 10 * SECOND, 4};
-    want("another transport", stunp_agent_new(&agent, 2, &local), STUNP_BAD_ARGUMENT);
+    stunp_timeouts timeouts = {SIZE, SECOND, 2 * SECOND, 10 * SECOND, 4};
+    want("another transport", stunp_agent_new(&agent, OTHER, &local), STUNP_BAD_ARGUMENT);
     want("another length", stunp_agent_new(&agent, STUNP_UDP, &nowhere), STUNP_BAD_ARGUMENT);
     want("no local address", stunp_agent_new(&agent, STUNP_UDP, &none), STUNP_BAD_ARGUMENT);
-    want("new_with, no transport", stunp_agent_new_with(&agent, 2, &local, &remote, &timeouts), STUNP_BAD_ARGUMENT);
+    want("new_with, no transport", stunp_agent_new_with(&agent, OTHER, &local, &remote, &timeouts), STUNP_BAD_ARGUMENT);
     want("new_with, local", stunp_agent_new_with(&agent, STUNP_TCP, &nowhere, &remote, &timeouts), STUNP_BAD_ARGUMENT);
     want("new_with, remote", stunp_agent_new_with(&agent, STUNP_TCP, &local, &nowhere, &timeouts), STUNP_BAD_ARGUMENT);
     want("still empty", agent.is_full, 0);
     want_no_blocks("refused agents");
     want("new", stunp_agent_new(&agent, STUNP_UDP, &local), 0);
-    want("new again", stunp_agent_new(&agent, 2, &nowhere), STUNP_FULL_HANDLE);
-    want("new_with again", stunp_agent_new_with(&agent, 2, &nowhere, &nowhere, &timeouts), STUNP_FULL_HANDLE);
+    want("new again", stunp_agent_new(&agent, OTHER, &nowhere), STUNP_FULL_HANDLE);
+    want("new_with again", stunp_agent_new_with(&agent, OTHER, &nowhere, &nowhere, &timeouts), STUNP_FULL_HANDLE);
     stunp_agent_free(&agent);
     stunp_agent_free(&agent);
     want("empty again", agent.is_full, 0);
@@ -160,7 +163,7 @@ static void defaults(bool are_named) {
 /* A poll waits an hour at most, 0 transmissions are one, and without a bound each wait doubles, however long. */
 static void waits(void) {
     const uint64_t hour = 3600 * SECOND;
-    const stunp_timeouts once = {SECOND, SECOND, 3 * hour, 0}, unbounded = {hour, UINT64_MAX, SECOND, 3};
+    const stunp_timeouts once = {SIZE, SECOND, SECOND, 3 * hour, 0}, unbounded = {SIZE, hour, UINT64_MAX, SECOND, 3};
     stunp_agent agent = {0};
     stunp_address local = address_of(1), remote = address_of(2), to;
     struct message request = message_of(STUNP_REQUEST, 1);
@@ -190,9 +193,12 @@ static void waits(void) {
 /* Time-outs with which a request would be sent again without a wait are refused, and those that come next to them are not. */
 static void no_waits(void) {
     static const stunp_timeouts refused[] = {
-        {0, 0, 0, UINT32_MAX}, {0, 0, 0, 2}, {0, SECOND, SECOND, 7}, {SECOND, 0, SECOND, 7}, {0, UINT64_MAX, 0, 2},
+        {SIZE, 0, 0, 0, UINT32_MAX}, {SIZE, 0, 0, 0, 2}, {SIZE, 0, SECOND, SECOND, 7}, {SIZE, SECOND, 0, SECOND, 7},
+        {SIZE, 0, UINT64_MAX, 0, 2},
     };
-    static const stunp_timeouts taken[] = {{0, 0, 0, 0}, {0, 0, 0, 1}, {1, 1, 0, 2}, {1, 1, 1, UINT32_MAX}};
+    static const stunp_timeouts taken[] = {
+        {SIZE, 0, 0, 0, 0}, {SIZE, 0, 0, 0, 1}, {SIZE, 1, 1, 0, 2}, {SIZE, 1, 1, 1, UINT32_MAX},
+    };
     enum { REFUSED = sizeof refused / sizeof *refused, TAKEN = sizeof taken / sizeof *taken };
     stunp_agent agent = {0};
     stunp_address local = address_of(1), remote = address_of(2), to;
@@ -222,6 +228,95 @@ static void no_waits(void) {
     want_no_blocks("waits");
 }
 
+/* Of time-outs and of counts of another size no other field is read or written, and that comes before the wait that is missing. */
+static void sizes(void) {
+    static const size_t others[] = {0, 1, SIZE - 1, SIZE + 1, SIZE_MAX};
+    const stunp_timeouts timeouts = STUNP_DEFAULT_TIMEOUTS;
+    stunp_agent agent = {0}, fresh = {0};
+    stunp_address local = address_of(1), remote = address_of(2);
+    struct message request = message_of(STUNP_REQUEST, 1);
+    stunp_statistics counts = {.size = sizeof counts, .requests_received = 7};
+    want("new_with", stunp_agent_new_with(&agent, STUNP_UDP, &local, &none, &timeouts), 0);
+    want("send_request", stunp_agent_send_request(&agent, request.bytes, request.length, &remote, 0), 0);
+    for (size_t i = 0; i < sizeof others / sizeof *others; i++) {
+        /* Nothing but the size is there: a sanitizer sees each further byte that is read. */
+        stunp_timeouts *cut = malloc(sizeof cut->size);
+        stunp_statistics *short_counts = malloc(sizeof short_counts->size);
+        if (cut == NULL || short_counts == NULL) exit(1);
+        cut->size = others[i];
+        short_counts->size = others[i];
+        want("new_with", stunp_agent_new_with(&fresh, STUNP_UDP, &local, &none, cut), STUNP_BAD_ARGUMENT);
+        want("new_with, remote", stunp_agent_new_with(&fresh, STUNP_TCP, &local, &remote, cut), STUNP_BAD_ARGUMENT);
+        want("still empty", fresh.is_full, 0);
+        want("configure", stunp_agent_configure(&agent, request.bytes + ID_AT, ID, cut), STUNP_BAD_ARGUMENT);
+        want("statistics", stunp_agent_statistics(&agent, short_counts), STUNP_BAD_ARGUMENT);
+        free(cut);
+        free(short_counts);
+    }
+    want("statistics", stunp_agent_statistics(&agent, &counts), 0);
+    want("they are told", counts.requests_sent == 1 && counts.requests_received == 0 && counts.size == sizeof counts, 1);
+    stunp_agent_free(&agent);
+    want_no_blocks("sizes");
+}
+
+/* Peers are counted and forgotten, without memory. */
+static void peers(void) {
+    stunp_agent agent = {0};
+    stunp_address local = address_of(1), one = address_of(2), two = address_of(3);
+    want("new", stunp_agent_new(&agent, STUNP_UDP, &local), 0);
+    want("none", stunp_agent_peer_count(&agent), 0);
+    want("name one", stunp_agent_validated_peer(&agent, &one), 0);
+    want("name one again", stunp_agent_validated_peer(&agent, &one), 0);
+    want("name two", stunp_agent_validated_peer(&agent, &two), 0);
+    stunp_heap_bound(0);
+    want("two", stunp_agent_peer_count(&agent), 2);
+    want("forget nowhere", stunp_agent_forget_peer(&agent, &nowhere), STUNP_BAD_ARGUMENT);
+    want("forget one", stunp_agent_forget_peer(&agent, &one), 0);
+    want("forget one again", stunp_agent_forget_peer(&agent, &one), 0);
+    stunp_heap_bound(SIZE_MAX);
+    want("one is left", stunp_agent_peer_count(&agent), 1);
+    want("not this", stunp_agent_is_validated_peer(&agent, &one), 0);
+    want("but that", stunp_agent_is_validated_peer(&agent, &two), 1);
+    stunp_agent_free(&agent);
+    want_no_blocks("peers");
+}
+
+/* A null pointer is a handle that is freed already, and stands for what has no bytes. */
+static void nulls(void) {
+    stunp_agent agent = {0};
+    stunp_server server = {0};
+    stunp_client client = {0};
+    stunp_address at = address_of(1);
+    uint64_t until = 0;
+    size_t length = 0;
+    stunp_agent_free(NULL);
+    stunp_server_free(NULL);
+    stunp_client_free(NULL);
+    want("an agent", stunp_agent_new(&agent, STUNP_UDP, &at), 0);
+    want("send_request", stunp_agent_send_request(&agent, NULL, 0, &at, 0), STUNP_TRUNCATED);
+    want("send", stunp_agent_send(&agent, NULL, 0, &at), STUNP_TRUNCATED);
+    want("handle", stunp_agent_handle(&agent, NULL, 0, &at, 0), STUNP_TRUNCATED);
+    want("poll_transmit", stunp_agent_poll_transmit(&agent, 0, NULL, 0, &at), 0);
+    want("poll", stunp_agent_poll(&agent, 0, &until, NULL, 0), STUNP_BUFFER_TOO_SMALL);
+    want("is_outstanding", stunp_agent_is_outstanding(&agent, NULL, 0, &at), STUNP_BAD_ARGUMENT);
+    want("cancel", stunp_agent_cancel(&agent, NULL, 0), STUNP_BAD_ARGUMENT);
+    want("a server", stunp_server_new(&server, NULL, 0), 0);
+    want("add_user", stunp_server_add_user(&server, NULL, 0, NULL, 0), 0);
+    want("remove_user", stunp_server_remove_user(&server, NULL, 0), 0);
+    want("validate", stunp_server_validate(&server, NULL, 0, &at, 0, some_words), STUNP_TRUNCATED);
+    want("client", stunp_server_client(&server, &at, NULL, 0, &length), 0);
+    want("nonce", stunp_server_nonce(&server, &at, NULL, 0), 0);
+    want("sign", stunp_server_sign(&server, NULL, 0, 0, &at), STUNP_TRUNCATED);
+    want("a client", stunp_client_new(&client), 0);
+    want("set_credentials", stunp_client_set_credentials(&client, NULL, 0, NULL, 0), 0);
+    want("client, sign", stunp_client_sign(&client, NULL, 0, 0), STUNP_TRUNCATED);
+    want("client, validate", stunp_client_validate(&client, NULL, 0), STUNP_TRUNCATED);
+    stunp_agent_free(&agent);
+    stunp_server_free(&server);
+    stunp_client_free(&client);
+    want_no_blocks("nulls");
+}
+
 /* ---- The server */
 
 static void empty_servers(void) {
@@ -230,10 +325,12 @@ static void empty_servers(void) {
     uint8_t byte = 0xff;
     size_t length = 7;
     want("set_algorithms", stunp_server_set_algorithms(&server, 9), STUNP_EMPTY_HANDLE);
-    want("set_anonymous_username", stunp_server_set_anonymous_username(&server, 9), STUNP_EMPTY_HANDLE);
+    want("set_anonymous_username", stunp_server_set_anonymous_username(&server, STUNP_AUTO), STUNP_EMPTY_HANDLE);
     want("set_nonce_expiry", stunp_server_set_nonce_expiry(&server, 9), STUNP_EMPTY_HANDLE);
     want("add_user", stunp_server_add_user(&server, &byte, 1, &byte, 1), STUNP_EMPTY_HANDLE);
     want("remove_user", stunp_server_remove_user(&server, &byte, 1), STUNP_EMPTY_HANDLE);
+    want("set_most_addresses", stunp_server_set_most_addresses(&server, 9), STUNP_EMPTY_HANDLE);
+    want("address_count", stunp_server_address_count(&server), STUNP_EMPTY_HANDLE);
     want("remove_client", stunp_server_remove_client(&server, &nowhere), STUNP_EMPTY_HANDLE);
     want("forget", stunp_server_forget(&server, &nowhere), STUNP_EMPTY_HANDLE);
     want("forget_expired", stunp_server_forget_expired(&server, 9), STUNP_EMPTY_HANDLE);
@@ -269,8 +366,8 @@ static void servers(void) {
     }
     for (uint32_t feature = 0; feature < 5; feature++) {
         int64_t wanted = feature <= STUNP_DISABLED ? 0 : STUNP_BAD_ARGUMENT;
-        want("set_anonymous_username", stunp_server_set_anonymous_username(server, feature), wanted);
-        want("of a client", stunp_client_set_anonymous_username(&pair.client, feature), wanted);
+        want("set_anonymous_username", stunp_server_set_anonymous_username(server, (stunp_feature)feature), wanted);
+        want("of a client", stunp_client_set_anonymous_username(&pair.client, (stunp_feature)feature), wanted);
     }
     want("set_nonce_expiry", stunp_server_set_nonce_expiry(server, 0), 0);
     want("set_nonce_expiry", stunp_server_set_nonce_expiry(server, UINT64_MAX), 0);
@@ -294,13 +391,76 @@ static void servers(void) {
     want("just room for it", stunp_server_nonce(server, &from, nonce, 29), 29);
     want_same("its cookie", nonce, "obMatJos2", 9);
     validate(&pair, &from, 0, STUNP_SHA1);
-    want("no room", stunp_server_client(server, &from, name, 3, &length), STUNP_BUFFER_TOO_SMALL);
     want("the length is left", (int64_t)length, 99);
+    name[0] = 0xff;
+    want("no room", stunp_server_client(server, &from, name, 3, &length), STUNP_BUFFER_TOO_SMALL);
+    want("the length that is wanted", (int64_t)length, 4);
+    want("the buffer is left", name[0], 0xff);
+    length = 99;
     want("just room", stunp_server_client(server, &from, name, 4, &length), STUNP_SHA1);
     want("its length", (int64_t)length, 4);
     want_same("its name", name, "name", 4);
     free_pair(&pair);
     want_no_blocks("servers");
+}
+
+/* Where as many addresses are kept as may be, a message from another is refused, after those that no message can pass, and
+ * changes nothing; those that are kept go on. */
+static void most_addresses(void) {
+    struct pair pair = pair_of(STUNP_SHA1);
+    stunp_server *server = &pair.server;
+    stunp_address one = address_of(1), two = address_of(2), three = address_of(3);
+    struct message plain = message_of(STUNP_REQUEST, 9), response = message_of(STUNP_SUCCESS, 9);
+    uint8_t nonce[64];
+    want("none", stunp_server_address_count(server), 0);
+    challenge(&pair, &one, 0);
+    want("one", stunp_server_address_count(server), 1);
+    want("a bound", stunp_server_set_most_addresses(server, 2), 0);
+    want("the last", stunp_server_validate(server, plain.bytes, plain.length, &two, 0, some_words), STUNP_UNAUTHORIZED);
+    want("two", stunp_server_address_count(server), 2);
+    stunp_heap_bound(0);
+    want("one too many", stunp_server_validate(server, plain.bytes, plain.length, &three, 0, some_words), STUNP_TOO_MANY_ADDRESSES);
+    want("a response of it", stunp_server_validate(server, response.bytes, response.length, &three, 0, some_words), STUNP_TOO_MANY_ADDRESSES);
+    want("nowhere", stunp_server_validate(server, plain.bytes, plain.length, &nowhere, 0, some_words), STUNP_BAD_ARGUMENT);
+    REFUSES_MESSAGES("of it", stunp_server_validate(server, bytes, length, &three, 0, some_words));
+    want("no nonce is made", stunp_server_nonce(server, &three, nonce, sizeof nonce), 0);
+    want("two", stunp_server_address_count(server), 2);
+    stunp_heap_bound(SIZE_MAX);
+    validate(&pair, &one, 0, STUNP_SHA1);
+    want("none at all", stunp_server_set_most_addresses(server, 0), 0);
+    validate(&pair, &one, 0, STUNP_SHA1);
+    want("two are kept", stunp_server_address_count(server), 2);
+    want("forget", stunp_server_forget(server, &two), 0);
+    want("it is new then", stunp_server_validate(server, plain.bytes, plain.length, &two, 0, some_words), STUNP_TOO_MANY_ADDRESSES);
+    want("no bound", stunp_server_set_most_addresses(server, SIZE_MAX), 0);
+    want("as before", stunp_server_validate(server, plain.bytes, plain.length, &three, 0, some_words), STUNP_UNAUTHORIZED);
+    free_pair(&pair);
+    want_no_blocks("most_addresses");
+}
+
+/* Signing by a writer is signing, and comes to nothing where something was refused before. */
+static void writers(void) {
+    struct pair pair = pair_of(STUNP_SHA1);
+    stunp_address from = address_of(7);
+    uint8_t id[ID] = {9}, bytes[512];
+    challenge(&pair, &from, 0);
+    stunp_writer request = stunp_write(STUNP_REQUEST, STUNP_BINDING, id, bytes, sizeof bytes);
+    stunp_write_client_sign(&request, &pair.client);
+    want("a request", stunp_written(&request), 0);
+    want("is validated", stunp_server_validate(&pair.server, bytes, request.length, &from, 0, some_words), STUNP_SHA1);
+    stunp_writer answer = stunp_write(STUNP_SUCCESS, STUNP_BINDING, id, bytes, sizeof bytes);
+    stunp_write_server_sign(&answer, &pair.server, &from);
+    want("an answer", stunp_written(&answer), 0);
+    want("is validated", stunp_client_validate(&pair.client, bytes, answer.length), STUNP_SHA1);
+    stunp_write_client_sign(&answer, &pair.client);
+    want("it is closed", stunp_written(&answer), STUNP_CLOSED);
+    answer = stunp_write(STUNP_SUCCESS, STUNP_BINDING, id, bytes, sizeof bytes);
+    stunp_write_number(&answer, STUNP_LIFETIME, 256, 1);
+    stunp_write_server_sign(&answer, &pair.server, &from);
+    want("the first refusal", stunp_written(&answer), STUNP_BAD_ARGUMENT);
+    want("no byte more", (int64_t)answer.length, STUNP_HEADER_LENGTH);
+    free_pair(&pair);
+    want_no_blocks("writers");
 }
 
 /* Signing in each room up to what is enough: too little leaves the message. A realm that no attribute can hold. */
@@ -502,7 +662,7 @@ static void clients(void) {
     uint8_t byte = 0xff;
     want("set_credentials", stunp_client_set_credentials(&client, &byte, 1, &byte, 1), STUNP_EMPTY_HANDLE);
     want("set_algorithms", stunp_client_set_algorithms(&client, 9), STUNP_EMPTY_HANDLE);
-    want("set_anonymous_username", stunp_client_set_anonymous_username(&client, 9), STUNP_EMPTY_HANDLE);
+    want("set_anonymous_username", stunp_client_set_anonymous_username(&client, STUNP_AUTO), STUNP_EMPTY_HANDLE);
     want("signing_algorithm", stunp_client_signing_algorithm(&client), STUNP_EMPTY_HANDLE);
     want("sign", stunp_client_sign(&client, &byte, 1, 2), STUNP_EMPTY_HANDLE);
     want("validate", stunp_client_validate(&client, &byte, 1), STUNP_EMPTY_HANDLE);
@@ -515,8 +675,15 @@ static void clients(void) {
     stunp_client_free(&client);
     stunp_client_free(&client);
     want_no_blocks("clients");
-    for (int64_t answer = STUNP_NO_WAIT; answer < 9; answer++)
+    for (int64_t answer = STUNP_TOO_MANY_ADDRESSES - 1; answer < 9; answer++)
         want("is_resend", stunp_is_resend(answer), answer == STUNP_RESEND || answer == STUNP_RESEND_SHA1 || answer == STUNP_RESEND_SHA256);
+    want("is_resend", stunp_is_resend(INT64_MIN) || stunp_is_resend(INT64_MAX), 0);
+}
+
+static void versions(void) {
+    want("the version", stunp_state_version(), STUNP_VERSION);
+    want("by its name", stunp_state_release_0_2(), STUNP_VERSION);
+    want("of both archives", stunp_version(), stunp_state_version());
 }
 
 /* What is set once a challenge was taken up is for the next one. */
@@ -542,8 +709,13 @@ int main(void) {
     defaults(true);
     waits();
     no_waits();
+    sizes();
+    peers();
+    nulls();
     empty_servers();
     servers();
+    most_addresses();
+    writers();
     sign();
     sign_without_memory();
     forget();
@@ -551,6 +723,7 @@ int main(void) {
     most_room();
     clients();
     late_settings();
+    versions();
     puts("handles: passed");
     return 0;
 }

@@ -17,9 +17,11 @@ static void addresses(void) {
         }
         most[round] = stunp_heap_bytes();
         want("each address is kept", stunp_heap_blocks() >= before, true);
+        want("each is counted", stunp_server_address_count(&pair.server), MANY);
         want("forget none", stunp_server_forget_expired(&pair.server, now + 3600 * SECOND), 0);
         want("none is forgotten", (int64_t)stunp_heap_bytes(), (int64_t)most[round]);
         want("forget all", stunp_server_forget_expired(&pair.server, now + 3601 * SECOND), 0);
+        want("none is counted", stunp_server_address_count(&pair.server), 0);
         bytes[round] = stunp_heap_bytes();
         blocks[round] = stunp_heap_blocks();
         want("most is given back", bytes[round] < most[round] / 2, true);
@@ -94,6 +96,13 @@ static void peers(void) {
         want("name it again", stunp_agent_validated_peer(&agent, &at), 0);
         want("it takes no more", (int64_t)stunp_heap_bytes(), (int64_t)bytes);
         want("it is named", stunp_agent_is_validated_peer(&agent, &at), 1);
+        want("it is counted", stunp_agent_peer_count(&agent), i + 1);
+    }
+    for (uint32_t i = 0; i < FEW; i++) {
+        stunp_address at = address_of(1000 + i);
+        want("forget it", stunp_agent_forget_peer(&agent, &at), 0);
+        want("it is not named", stunp_agent_is_validated_peer(&agent, &at), 0);
+        want("it is not counted", stunp_agent_peer_count(&agent), FEW - 1 - i);
     }
     stunp_agent_free(&agent);
     want_no_blocks("peers");

@@ -114,7 +114,7 @@ static const stunp_address *address(void) {
 }
 
 static const stunp_timeouts *timeouts(void) {
-    stunp_timeouts timeouts = {0, 0, 0, 0};
+    stunp_timeouts timeouts = {sizeof timeouts, 0, 0, 0, 0};
     timeouts.initial = number();
     timeouts.longest = number();
     timeouts.last = number();
@@ -252,7 +252,8 @@ static int64_t agent_is_outstanding(void) {
 }
 
 static int64_t agent_statistics(void) {
-    block *counts = block_of(sizeof(stunp_statistics));
+    static const stunp_statistics fresh = {.size = sizeof fresh};
+    block *counts = block_of_value(&fresh, sizeof fresh);
     int64_t answer = stunp_agent_statistics(&agent, VALUE(stunp_statistics, counts));
     wrote_all(counts, answer == 0);
     return answer;

@@ -3,7 +3,7 @@
 //! Each calls the crates below, and its clause cites their definitions. None allocates, and calls share nothing.
 #![tactic(auto)]
 
-ghost use Rattle.std.specs.Prelude.{◌≡◌, ◌↔◌, ◌⊎◌, drop, length, pos, slice_get, IfNone, IfSome};
+ghost use Rattle.std.specs.Prelude.{◌≡◌, ◌↔◌, ◌⊎◌, drop, length, pos, slice_get, IfNone, IfSome, Ok};
 ghost use Rattle.stun_base.specs.Attributes.{XOR_MAPPED_ADDRESS};
 ghost use Rattle.stun_base.specs.Header.{header_refusal};
 ghost use Rattle.stun_types.specs.Integrity.{first_of};
@@ -11,7 +11,7 @@ ghost use Rattle.stun_types.specs.Message.{refusal};
 ghost use Rattle.stun_types.specs.Visible.{visible};
 ghost use Rattle.stun_extra.specs.Framing.{IsStunPacket, frame_of, packet_frame_of, turn_frame_of};
 ghost use Rattle.stun_c.specs.Answers.{parse_answer, verify_answer, fitted, written_number, buffer_after};
-ghost use Rattle.stun_c.specs.Codes.{algorithm_numbered};
+ghost use Rattle.stun_c.specs.Codes.{algorithm_numbered, error_text};
 ghost use Rattle.stun_c.specs.Extra.{fingerprint_answer, fingerprinted, known_refusal, told_number, types_after, unknown_made, unknown_of, wanted_number};
 ghost use Rattle.stun_c.specs.Reading.{address_at, octets_at, class_answer, method_answer, id_of_message, next_member, next_answer, number_after, error_answer, address_in, octets_of_message, plain_octets, plain_port_after, port_after, sized_after, sized_at, find_answer, finding_refusal, header_answer, header_after};
 ghost use Rattle.stun_c.specs.Requests.{signed_request, key_of_texts, userhash_of_texts};
@@ -21,6 +21,7 @@ ghost use Rattle.stun_c.specs.Writing.{begun, added_number, added_sized, added_a
 mod address;
 mod buffer;
 mod codes;
+mod error_text;
 mod fingerprint;
 mod framing;
 mod header;
@@ -37,6 +38,7 @@ mod writing;
 
 use buffer::fill;
 use codes::{Refusal, algorithm_number};
+use error_text::error_text;
 use header::Header;
 use keys::{userhash_of_texts, write_key};
 use request::{LONGEST_REQUEST, signed_request};
@@ -126,9 +128,28 @@ pub extern "C" fn stunp_userhash(username: &[u8], realm: &[u8], out: &mut [u8]) 
 /// The version of this library: 10000 times its first number, 100 times its second, and its third.
 #[unsafe(no_mangle)]
 pub extern "C" fn stunp_version() -> i64
-    ensures { result ≡ pos 100 }
+    ensures { result ≡ pos 200 }
 {
-    100
+    200
+}
+
+/// The same, by a name that each release changes with what it breaks, so that a program that was compiled against another one does
+/// not link.
+#[unsafe(no_mangle)]
+pub extern "C" fn stunp_release_0_2() -> i64
+    ensures { result ≡ pos 200 }
+{
+    200
+}
+
+/// Writes what an answer says, in English, with a zero byte at its end, and answers how many bytes there are.
+#[unsafe(no_mangle)]
+pub extern "C" fn stunp_error_text(answer: i64, out: &mut [u8]) -> i64
+    ensures answer { result ≡ written_number (fitted (Ok (error_text answer)) (length out.old)) }
+    ensures written { out.new ≡ buffer_after (fitted (Ok (error_text answer))
+        (length out.old)) out.old }
+{
+    fill(out, error_text(answer))
 }
 
 /// Writes a message without attributes, of a class, a method and an id, and answers its length, 20.

@@ -5,7 +5,7 @@ use Rattle.stun_state.specs.Answers.{ForRefusal, OrMemory}
 use Rattle.stun_state.specs.Codes.{code_of}
 use Rattle.stun_state.specs.Numbers.{OrOutOfMemory, left_by, length_answer}
 use Rattle.stun_state.specs.declared.codes.Refusal.{Refusal}
-use Rattle.stun_state.specs.declared.codes.Refusal.TheVariants.{Truncated, NotStun, TooLarge, IntegrityFailed, BadArgument, NotText, TextTooLong, BufferTooSmall, NotAllowed, Closed, AttributeExists, MessageTooLong, MissingAttribute, MalformedAttribute, OutOfMemory, EmptyHandle, FullHandle, AlreadyInProgress, ProtocolViolation, Unauthorized, BadRequest, StaleNonce, UnsupportedFeature, NoWait}
+use Rattle.stun_state.specs.declared.codes.Refusal.TheVariants.{Truncated, NotStun, TooLarge, IntegrityFailed, BadArgument, NotText, TextTooLong, BufferTooSmall, NotAllowed, Closed, AttributeExists, MessageTooLong, MissingAttribute, MalformedAttribute, OutOfMemory, EmptyHandle, FullHandle, AlreadyInProgress, ProtocolViolation, Unauthorized, BadRequest, StaleNonce, UnsupportedFeature, NoWait, TooManyAddresses}
 
 -- what is so of the value that is there
 pub some_is : {T : Type 0} (o : Option T) (x : T) (F : T → Type 0) → o ≡ Some x → F x → IfSome o F
@@ -40,6 +40,7 @@ unless_memory Q number BadRequest expected told before now after memory is p q =
 unless_memory Q number StaleNonce expected told before now after memory is p q = inl (is ∙ ap number p, q)
 unless_memory Q number UnsupportedFeature expected told before now after memory is p q = inl (is ∙ ap number p, q)
 unless_memory Q number NoWait expected told before now after memory is p q = inl (is ∙ ap number p, q)
+unless_memory Q number TooManyAddresses expected told before now after memory is p q = inl (is ∙ ap number p, q)
 
 pub or_memory : {V S : Type 0} (Q : Type 0) (number : Result V Refusal → ℤ) (answer expected : Result V Refusal) (told : ℤ) (before now after : S)
     → number (Err OutOfMemory) ≡ code_of OutOfMemory → told ≡ number answer
@@ -78,6 +79,7 @@ below BadRequest = refl
 below StaleNonce = refl
 below UnsupportedFeature = refl
 below NoWait = refl
+below TooManyAddresses = refl
 
 -- what is kept after a call that answers a length, where a refusal leaves all
 pub left_length : {S H : Type 0} (E : Type 0) (wrap : S → H) (answer : Result ℕ Refusal) (told : ℤ) (before now after : S) (handle : H)

@@ -17,7 +17,7 @@ use Rattle.stun_base.specs.declared.transport.TransportType.{TransportType}
 use Rattle.stun_base.specs.declared.transport.TransportType.TheVariants.{Udp, Tcp}
 use Rattle.stun_types.specs.Message.{refusal}
 use Rattle.stun_state.specs.Addresses.{address_of, socket_address}
-use Rattle.stun_state.specs.Answers.{after_address, message_refusal, unless_refused}
+use Rattle.stun_state.specs.Answers.{after_address, kept_if_refused, message_refusal, unless_refused}
 use Rattle.stun_state.specs.Codes.{refusal_of_parse}
 use Rattle.stun_state.specs.declared.address.Address.{Address}
 use Rattle.stun_state.specs.declared.agent.Statistics.{Statistics}
@@ -60,24 +60,37 @@ settings_of t = record { initial = t.initial; maximum = t.longest; transmissions
 abbrev pub has_no_wait : Timeouts → Bool
 has_no_wait t = nat_lt 1 t.transmissions && ((t.initial == 0) || (t.longest == 0))
 
+-- the bytes of a caller's time-outs, with which they begin
+abbrev pub TIMEOUTS_SIZE : ℕ
+TIMEOUTS_SIZE = 40
+
+-- why time-outs are refused: they are those of another release, or have no wait
+abbrev pub timeouts_refusal : Timeouts → Option Refusal
+timeouts_refusal t =
+    if t.size == TIMEOUTS_SIZE then (if has_no_wait t then Some NoWait else None) else Some BadArgument
+
 -- an answer, unless it is to be given to such time-outs
-abbrev pub unless_no_wait : {V : Type 0} → Timeouts → Result V Refusal → Result V Refusal
-unless_no_wait t (Err refusal) = Err refusal
-unless_no_wait t (Ok value) = if has_no_wait t then Err NoWait else Ok value
+abbrev pub unless_untimed : {V : Type 0} → Timeouts → Result V Refusal → Result V Refusal
+unless_untimed t (Err refusal) = Err refusal
+unless_untimed t (Ok value) = unless_refused (timeouts_refusal t) (Ok value)
 
--- the agent that sends to this address alone, if it is one
-abbrev pub bound_to : Option SocketAddr → Agent → Result Agent Refusal
-bound_to None a = Err BadArgument
-bound_to (Some remote) a = Ok (record a { remote_addr = Some remote })
+-- the address to which alone an agent sends: none where the length is 0
+abbrev pub remote_if : Option SocketAddr → Result (Option SocketAddr) Refusal
+remote_if None = Err BadArgument
+remote_if (Some remote) = Ok (Some remote)
 
--- the same, and where the length is 0 to every address
-abbrev pub bound_if_given : Address → Agent → Result Agent Refusal
-bound_if_given remote a = if remote.length == 0 then Ok a else bound_to (socket_address remote) a
+abbrev pub remote_given : Address → Result (Option SocketAddr) Refusal
+remote_given remote = if remote.length == 0 then Ok None else remote_if (socket_address remote)
 
--- the agent with these time-outs, where they have a wait
+-- the agent that sends so
+abbrev pub bound_to : Result (Option SocketAddr) Refusal → Agent → Result Agent Refusal
+bound_to (Err refusal) a = Err refusal
+bound_to (Ok remote) a = Ok (record a { remote_addr = remote })
+
+-- the agent with these time-outs, where they are taken
 abbrev pub made_with : Result Agent Refusal → Address → Timeouts → Result Agent Refusal
 made_with (Err refusal) remote timeouts = Err refusal
-made_with (Ok a) remote timeouts = unless_no_wait timeouts (bound_if_given remote (record a { settings = settings_of timeouts }))
+made_with (Ok a) remote timeouts = unless_untimed timeouts (bound_to (remote_given remote) (record a { settings = settings_of timeouts }))
 
 -- ---- messages
 
@@ -115,6 +128,10 @@ known a peer = Ok (if is_peer peer a.peers then 1 else 0)
 -- the agent once an address is named, as a caller gives it
 abbrev pub kept_after_naming : Agent → Address → Agent
 kept_after_naming a peer = after_address (socket_address peer) a (λ peer. agent.with_validated peer a)
+
+-- the same once it is forgotten
+abbrev pub kept_after_forgetting : Agent → Address → Agent
+kept_after_forgetting a peer = after_address (socket_address peer) a (λ peer. agent.without_validated peer a)
 
 -- ---- time
 
@@ -180,9 +197,9 @@ abbrev pub with_changed : (Transaction → Transaction) → Option ℕ → Agent
 with_changed change None a = a
 with_changed change (Some id) a = agent.with_transactions a (changed change id a.transactions)
 
--- the agent whose request of an id has other time-outs, where they have a wait
+-- the agent whose request of an id has other time-outs, where they are taken
 abbrev pub kept_after_configuring : Timeouts → Option ℕ → Agent → Agent
-kept_after_configuring t id a = if has_no_wait t then a else with_changed (configured (settings_of t)) id a
+kept_after_configuring t id a = kept_if_refused (timeouts_refusal t) a (with_changed (configured (settings_of t)) id a)
 
 -- ---- what was counted
 
@@ -191,8 +208,17 @@ abbrev pub nanoseconds : Option ℕ → ℕ
 nanoseconds None = 0
 nanoseconds (Some span) = min span 18446744073709551615
 
+-- the bytes of a caller's statistics, with which they begin
+abbrev pub STATISTICS_SIZE : ℕ
+STATISTICS_SIZE = 120
+
+-- statistics of another release are refused
+abbrev pub statistics_answer : Statistics → Result (Unit {0}) Refusal
+statistics_answer s = if s.size == STATISTICS_SIZE then Ok tt else Err BadArgument
+
 abbrev pub told : counts.Statistics → Statistics
 told s = record {
+  size = STATISTICS_SIZE;
   requests_sent = s.requests_sent;
   requests_received = s.requests_received;
   responses_sent = s.responses_sent;

@@ -5,7 +5,7 @@ use Rattle.std.specs.declared.net.socket_addr.SocketAddr.{SocketAddr}
 use Rattle.stun_base.specs.declared.error.StunParseError.{StunParseError}
 use Rattle.stun_state.specs.Codes.{refusal_of_parse}
 use Rattle.stun_state.specs.declared.codes.Refusal.{Refusal}
-use Rattle.stun_state.specs.declared.codes.Refusal.TheVariants.{Truncated, NotStun, TooLarge, IntegrityFailed, BadArgument, NotText, TextTooLong, BufferTooSmall, NotAllowed, Closed, AttributeExists, MessageTooLong, MissingAttribute, MalformedAttribute, OutOfMemory, EmptyHandle, FullHandle, AlreadyInProgress, ProtocolViolation, Unauthorized, BadRequest, StaleNonce, UnsupportedFeature, NoWait}
+use Rattle.stun_state.specs.declared.codes.Refusal.TheVariants.{Truncated, NotStun, TooLarge, IntegrityFailed, BadArgument, NotText, TextTooLong, BufferTooSmall, NotAllowed, Closed, AttributeExists, MessageTooLong, MissingAttribute, MalformedAttribute, OutOfMemory, EmptyHandle, FullHandle, AlreadyInProgress, ProtocolViolation, Unauthorized, BadRequest, StaleNonce, UnsupportedFeature, NoWait, TooManyAddresses}
 
 -- the first fact holds, or the second where the refusal is that an allocation failed
 abbrev pub ForRefusal : Refusal → Type 0 → Type 0 → Type 0
@@ -33,6 +33,7 @@ ForRefusal BadRequest P Q = P
 ForRefusal StaleNonce P Q = P
 ForRefusal UnsupportedFeature P Q = P
 ForRefusal NoWait P Q = P
+ForRefusal TooManyAddresses P Q = P
 
 -- the first fact holds, or the second where an allocation failed
 abbrev pub OrMemory : {V : Type 0} → Result V Refusal → Type 0 → Type 0 → Type 0

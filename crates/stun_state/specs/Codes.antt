@@ -15,7 +15,7 @@ use Rattle.stun_base.specs.declared.error.StunParseError.TheVariants as Parse
 use Rattle.stun_base.specs.declared.error.StunWriteError.{StunWriteError}
 use Rattle.stun_base.specs.declared.error.StunWriteError.TheVariants as Write
 use Rattle.stun_state.specs.declared.codes.Refusal.{Refusal}
-use Rattle.stun_state.specs.declared.codes.Refusal.TheVariants.{Truncated, NotStun, TooLarge, IntegrityFailed, BadArgument, NotText, TextTooLong, BufferTooSmall, NotAllowed, Closed, AttributeExists, MessageTooLong, MissingAttribute, MalformedAttribute, OutOfMemory, EmptyHandle, FullHandle, AlreadyInProgress, ProtocolViolation, Unauthorized, BadRequest, StaleNonce, UnsupportedFeature, NoWait}
+use Rattle.stun_state.specs.declared.codes.Refusal.TheVariants.{Truncated, NotStun, TooLarge, IntegrityFailed, BadArgument, NotText, TextTooLong, BufferTooSmall, NotAllowed, Closed, AttributeExists, MessageTooLong, MissingAttribute, MalformedAttribute, OutOfMemory, EmptyHandle, FullHandle, AlreadyInProgress, ProtocolViolation, Unauthorized, BadRequest, StaleNonce, UnsupportedFeature, NoWait, TooManyAddresses}
 
 -- the number of a refusal
 abbrev pub code_of : Refusal → ℤ
@@ -43,6 +43,7 @@ code_of BadRequest = neg_ℤ (pos 23)
 code_of StaleNonce = neg_ℤ (pos 24)
 code_of UnsupportedFeature = neg_ℤ (pos 25)
 code_of NoWait = neg_ℤ (pos 26)
+code_of TooManyAddresses = neg_ℤ (pos 27)
 
 -- the refusal for an error of reading
 abbrev pub refusal_of_parse : StunParseError → Refusal

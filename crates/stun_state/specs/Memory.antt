@@ -7,10 +7,12 @@ use Rattle.stun_types.specs.Message.{refusal}
 use Rattle.stun_auth.specs.Client.{ClientSide}
 use Rattle.stun_auth.specs.ClientStep.{IsResend}
 use Rattle.stun_auth.specs.Reading.{reading_of}
-use Rattle.stun_auth.specs.Validation.{ChangesNothing, ServerSeen, sight}
+use Rattle.stun_auth.specs.Validation.{ChangesNothing, sight}
 use Rattle.stun_state.specs.Agent.{requested}
 use Rattle.stun_state.specs.Answers.{at_address}
 use Rattle.stun_state.specs.Client.{step}
+use Rattle.stun_state.specs.Server.{room_refusal}
+use Rattle.stun_state.specs.declared.handle.server.Server.{Server as Kept}
 
 -- whether naming an address adds none to those that an agent keeps: it is none, or is kept already
 abbrev pub naming_adds_none : Agent → Option SocketAddr → Bool
@@ -22,11 +24,13 @@ abbrev pub message_adds_none : Agent → List ℕ → Option SocketAddr → Bool
 message_adds_none a bytes None = true
 message_adds_none a bytes (Some from) = is_some (refusal bytes) || (is_peer from a.peers || not (takes_message bytes from a))
 
--- bytes change nothing of a server: they come from no address, are no message, or change nothing at their address
-abbrev pub LeavesServer : ServerSeen → List ℕ → ℕ → List ℕ → Option SocketAddr → Type 0
-LeavesServer s bytes now words None = ⊤
-LeavesServer s bytes now words (Some from) =
-    MatchOption (refusal bytes) (ChangesNothing (sight s from) now words (reading_of bytes)) (λ _. ⊤)
+-- bytes change nothing of a server: they come from no address, are no message, come from one too many, or change nothing at
+-- their address
+abbrev pub LeavesServer : Kept → List ℕ → ℕ → List ℕ → Option SocketAddr → Type 0
+LeavesServer k bytes now words None = ⊤
+LeavesServer k bytes now words (Some from) =
+    MatchOption (refusal bytes) (MatchOption (room_refusal k.server k.most_addresses from)
+    (ChangesNothing (sight k.server from) now words (reading_of bytes)) (λ _. ⊤)) (λ _. ⊤)
 
 -- bytes are a message that asks a client for another request
 abbrev pub AsksAgain : ClientSide → List ℕ → Type 0

@@ -1,12 +1,12 @@
 -- The numbers that calls answer.
-use Rattle.std.specs.Prelude.{◌≡◌, ◌⊎◌, ◌+◌, ℕ, ℤ, pos, int_lt, min, if◌then◌else◌, Option, Some, None, Result, Ok, Err}
+use Rattle.std.specs.Prelude.{◌≡◌, ◌⊎◌, ◌+◌, ◌&&◌, not, Bool, ℕ, ℤ, pos, int_lt, min, if◌then◌else◌, Option, Some, None, Result, Ok, Err}
 use Rattle.stun_auth.specs.declared.client_answer.LongTermClientValidation.{LongTermClientValidation}
 use Rattle.stun_auth.specs.declared.client_answer.LongTermClientValidation.TheVariants as Reading
 use Rattle.stun_base.specs.declared.algorithm.IntegrityAlgorithm.{IntegrityAlgorithm}
+use Rattle.stun_base.specs.declared.algorithm.IntegrityAlgorithm.TheVariants.{Sha256}
 use Rattle.stun_state.specs.Codes.{code_of, algorithm_number}
 use Rattle.stun_state.specs.declared.codes.Refusal.{Refusal}
 use Rattle.stun_state.specs.declared.codes.Refusal.TheVariants.{OutOfMemory}
-use Rattle.stun_state.specs.declared.server.Validated.{Validated}
 
 -- 0, or the refusal's number
 abbrev pub done_answer : Result (Unit {0}) Refusal → ℤ
@@ -39,16 +39,16 @@ reading_answer (Ok (Reading.Validated algorithm)) = pos (algorithm_number algori
 reading_answer (Ok (Reading.ResendRequest digest)) = pos (resend_number digest)
 reading_answer (Err refusal) = code_of refusal
 
--- the number of a client's algorithm, or 0 of none, and how long its name is
-abbrev pub client_answer : Result (Option Validated) Refusal → ℤ
-client_answer (Ok (Some client)) = pos (algorithm_number client.algorithm)
-client_answer (Ok None) = pos 0
-client_answer (Err refusal) = code_of refusal
+-- the algorithm's number, or 0 of none, or the refusal's number
+abbrev pub found_answer : Result (Option IntegrityAlgorithm) Refusal → ℤ
+found_answer (Ok (Some algorithm)) = pos (algorithm_number algorithm)
+found_answer (Ok None) = pos 0
+found_answer (Err refusal) = code_of refusal
 
-abbrev pub length_told : Result (Option Validated) Refusal → ℕ → ℕ
-length_told (Ok (Some client)) before = client.name_length
-length_told (Ok None) before = before
-length_told (Err refusal) before = before
+-- whether an answer of reading asks for another request: it is one of the numbers of `resend_number`
+abbrev pub is_resend_answer : ℤ → Bool
+is_resend_answer answer =
+    not (int_lt answer (pos (resend_number None))) && not (int_lt (pos (resend_number (Some Sha256))) answer)
 
 -- a call answers this number and leaves this in its handle; or an allocation failed: it answers the number of that, and the
 -- handle is as before

@@ -1,5 +1,5 @@
 -- What the calls on a server answer and leave, by the definitions of its authenticator (RFC 8489, section 9.2.4).
-use Rattle.std.specs.Prelude.{ℕ, ℤ, List, ◌++◌, length, drop, max, nat_lt, if◌then◌else◌, is_some, Option, Some, None, Result, Ok, Err, option_and_then}
+use Rattle.std.specs.Prelude.{ℕ, ℤ, List, ◌++◌, length, drop, max, nat_lt, ◌||◌, if◌then◌else◌, is_some, Option, Some, None, Result, Ok, Err, option_and_then}
 use Rattle.std.specs.FinMap as map
 use Rattle.std.specs.Option.{option_map}
 use Rattle.std.specs.declared.net.socket_addr.SocketAddr.{SocketAddr}
@@ -21,10 +21,14 @@ use Rattle.stun_state.specs.Codes.{refusal_of_server}
 use Rattle.stun_state.specs.Numbers.{algorithm_answer}
 use Rattle.stun_state.specs.declared.address.Address.{Address}
 use Rattle.stun_state.specs.declared.codes.Refusal.{Refusal}
-use Rattle.stun_state.specs.declared.codes.Refusal.TheVariants.{BufferTooSmall}
-use Rattle.stun_state.specs.declared.server.Validated.{Validated as Known}
+use Rattle.stun_state.specs.declared.codes.Refusal.TheVariants.{BufferTooSmall, TooManyAddresses}
+use Rattle.stun_state.specs.declared.handle.server.Server.{Server as Kept}
 
 -- ---- settings
+
+-- of so many addresses something may be kept where no bound was set
+abbrev pub UNBOUNDED : ℕ
+UNBOUNDED = 18446744073709551615
 
 abbrev pub with_algorithms : Option AlgorithmSet → ServerSeen → ServerSeen
 with_algorithms None s = s
@@ -50,26 +54,37 @@ step_answer s most from = Ok (if is_some (next_address s from most) then 1 else 
 
 -- ---- messages
 
+-- the last nonce that was made for an address
+abbrev pub nonce_at : ServerSeen → SocketAddr → Option (List ℕ)
+nonce_at s address = option_map (λ (p : PlaceSeen). p.nonce) (map.get s.places address)
+
 abbrev pub validation_answer : Answer → Result IntegrityAlgorithm Refusal
 validation_answer (Ok (Validated algorithm)) = Ok algorithm
 validation_answer (Err reason) = Err (refusal_of_server reason)
 
+-- an address is refused of which nothing is kept, where something is kept of so many as may be
+abbrev pub room_refusal : ServerSeen → ℕ → SocketAddr → Option Refusal
+room_refusal s most from =
+    if nat_lt (map.len s.places) most || is_some (nonce_at s from) then None else Some TooManyAddresses
+
 -- what is answered to bytes that came from an address
-abbrev pub validated : ServerSeen → List ℕ → ℕ → List ℕ → SocketAddr → Result IntegrityAlgorithm Refusal
-validated s bytes now words from =
-    unless_refused (message_refusal (refusal bytes)) (validation_answer (answer (sight s from) now words (reading_of bytes)))
+abbrev pub validated : Kept → List ℕ → ℕ → List ℕ → SocketAddr → Result IntegrityAlgorithm Refusal
+validated k bytes now words from =
+    unless_refused (message_refusal (refusal bytes)) (unless_refused (room_refusal k.server k.most_addresses from)
+    (validation_answer (answer (sight k.server from) now words (reading_of bytes))))
 
 -- the server that they leave
-abbrev pub after_validating : ServerSeen → List ℕ → ℕ → List ℕ → SocketAddr → ServerSeen
-after_validating s bytes now words from =
-    kept_if_refused (message_refusal (refusal bytes)) s (after_message s from now words (reading_of bytes))
+abbrev pub after_validating : Kept → List ℕ → ℕ → List ℕ → SocketAddr → ServerSeen
+after_validating k bytes now words from =
+    kept_if_refused (message_refusal (refusal bytes)) k.server (kept_if_refused (room_refusal k.server k.most_addresses from) k.server
+    (after_message k.server from now words (reading_of bytes)))
 
 -- the number that a caller gets for bytes and an address, and the server that is kept then
-abbrev pub validation_number : ServerSeen → List ℕ → Address → ℕ → List ℕ → ℤ
-validation_number s bytes from now words = algorithm_answer (at_address (socket_address from) (validated s bytes now words))
+abbrev pub validation_number : Kept → List ℕ → Address → ℕ → List ℕ → ℤ
+validation_number k bytes from now words = algorithm_answer (at_address (socket_address from) (validated k bytes now words))
 
-abbrev pub kept_after_validating : ServerSeen → List ℕ → Address → ℕ → List ℕ → ServerSeen
-kept_after_validating s bytes from now words = after_address (socket_address from) s (after_validating s bytes now words)
+abbrev pub kept_after_validating : Kept → List ℕ → Address → ℕ → List ℕ → ServerSeen
+kept_after_validating k bytes from now words = after_address (socket_address from) k.server (after_validating k bytes now words)
 
 -- ---- who was validated
 
@@ -77,11 +92,14 @@ abbrev pub client_at : ServerSeen → SocketAddr → Option ClientSeen
 client_at s address = option_and_then (λ (p : PlaceSeen). p.client) (map.get s.places address)
 
 -- who is told, where a buffer of so many bytes has room for the name
-abbrev pub client_told : ℕ → Option ClientSeen → Result (Option Known) Refusal
+abbrev pub client_told : ℕ → Option ClientSeen → Result (Option IntegrityAlgorithm) Refusal
 client_told room None = Ok None
-client_told room (Some c) =
-    if nat_lt room (length c.name) then Err BufferTooSmall
-    else Ok (Some (record { name_length = length c.name; algorithm = c.algorithm }))
+client_told room (Some c) = if nat_lt room (length c.name) then Err BufferTooSmall else Ok (Some c.algorithm)
+
+-- how long the name is, also where it has no room
+abbrev pub name_length_of : Option ClientSeen → ℕ → ℕ
+name_length_of None before = before
+name_length_of (Some c) before = length c.name
 
 -- the buffer with a text at its front, where it has room for it
 abbrev pub with_text : List ℕ → List ℕ → List ℕ
@@ -93,14 +111,10 @@ name_written buffer None = buffer
 name_written buffer (Some c) = with_text buffer c.name
 
 -- the same at an address as a caller gives it
-abbrev pub client_found : ServerSeen → Address → ℕ → Result (Option Known) Refusal
+abbrev pub client_found : ServerSeen → Address → ℕ → Result (Option IntegrityAlgorithm) Refusal
 client_found s address room = at_address (socket_address address) (λ a. client_told room (client_at s a))
 
 -- ---- nonces
-
--- the last nonce that was made for an address
-abbrev pub nonce_at : ServerSeen → SocketAddr → Option (List ℕ)
-nonce_at s address = option_map (λ (p : PlaceSeen). p.nonce) (map.get s.places address)
 
 -- how long it is, or 0 of none, where a buffer of so many bytes has room for it
 abbrev pub nonce_told : ℕ → Option (List ℕ) → Result ℕ Refusal

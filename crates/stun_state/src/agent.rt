@@ -7,7 +7,7 @@ ghost use Rattle.byteorder.specs.Endian.{big_bytes};
 ghost use Rattle.stun_agent.specs.Agent.{after_message, after_poll, after_poll_transmit, after_send, after_send_request, poll_answer, sent_by_poll};
 ghost use Rattle.stun_agent.specs.Transactions.{cancelled, silenced};
 ghost use Rattle.stun_state.specs.Addresses.{socket_address};
-ghost use Rattle.stun_state.specs.Agent.{bytes_told, found, handled, has_no_wait, id_in, id_told, kept_after_configuring, kept_after_naming, known, made, made_with, moment_told, nanoseconds, peer_found, polled, refusal_of_agent, requested, sent, sent_again, sent_to, told, told_of, transport_numbered, unless_no_wait, with_changed};
+ghost use Rattle.stun_state.specs.Agent.{bytes_told, found, handled, id_in, id_told, kept_after_configuring, kept_after_forgetting, kept_after_naming, known, made, made_with, moment_told, nanoseconds, peer_found, polled, refusal_of_agent, remote_given, requested, sent, sent_again, sent_to, statistics_answer, timeouts_refusal, told, told_of, transport_numbered, unless_untimed, with_changed};
 ghost use Rattle.stun_state.specs.Answers.{OrMemory, at_address, done_if_given};
 ghost use Rattle.stun_state.specs.Memory.{IsRequestTaken, message_adds_none, naming_adds_none};
 
@@ -16,6 +16,8 @@ use crate::codes::Refusal;
 use crate::signing::put;
 use byteorder::{BigEndian, ByteOrder};
 use std::alloc::Global;
+use std::mem::size_of;
+use std::net::SocketAddr;
 use std::time::Duration;
 use stun_agent::agent::{StunAgent, StunAgentPollRet, StunError};
 use stun_agent::stats::StunAgentStats;
@@ -27,10 +29,17 @@ use stun_types::message::Message;
 /// How many bytes an id has.
 const ID_LENGTH: usize = 12;
 
+/// How many bytes a caller's time-outs have, and its statistics. Each begins with that number.
+const TIMEOUTS_SIZE: usize = size_of::<Timeouts>();
+
+const STATISTICS_SIZE: usize = size_of::<Statistics>();
+
 /// When a request is sent again, in nanoseconds.
 #[repr(C)]
 #[derive(Debug, Clone, Copy, PartialEq, Eq)]
 pub struct Timeouts {
+    /// How many bytes the caller has for them.
+    pub size: usize,
     /// The wait after the first transmission. Each further wait is twice as long.
     pub initial: u64,
     /// The longest wait between two transmissions.
@@ -45,6 +54,8 @@ pub struct Timeouts {
 #[repr(C)]
 #[derive(Debug, Clone, Copy, PartialEq, Eq)]
 pub struct Statistics {
+    /// How many bytes the caller has for them.
+    pub size: usize,
     pub requests_sent: u64,
     pub requests_received: u64,
     pub responses_sent: u64,
@@ -115,16 +126,29 @@ pub fn new(alloc: Global, transport: u32, local: &Address) -> Result<StunAgent<G
     )
 }
 
-/// Refuses time-outs with which a request would be sent again without a wait.
-fn check_waits(timeouts: &Timeouts) -> Result<(), Refusal>
-    ensures ok { OnOk result (has_no_wait timeouts.now ≡ false) }
-    ensures err { IfErr result (λ refusal. (has_no_wait timeouts.now ≡ true)
-        × (refusal ≡ Refusal.NoWait)) }
+/// Refuses time-outs of another size, of which no other field is read, and those with which a request would be sent again without
+/// a wait.
+fn check_timeouts(timeouts: &Timeouts) -> Result<(), Refusal>
+    ensures ok { OnOk result (timeouts_refusal timeouts.now ≡ None) }
+    ensures err { IfErr result (λ refusal. timeouts_refusal timeouts.now ≡ Some refusal) }
 {
+    if timeouts.size != TIMEOUTS_SIZE {
+        return Err(Refusal::BadArgument);
+    }
     if timeouts.transmissions > 1 && (timeouts.initial == 0 || timeouts.longest == 0) {
         return Err(Refusal::NoWait);
     }
     Ok(())
+}
+
+/// The remote address, or none where its length is 0.
+fn remote_of(remote: &Address) -> Result<Option<SocketAddr>, Refusal>
+    ensures { result ≡ remote_given remote.now }
+{
+    if remote.length == 0 {
+        return Ok(None);
+    }
+    Ok(Some(remote.socket()?))
 }
 
 /// The same with other time-outs, and with a remote address where its length is not 0.
@@ -140,6 +164,8 @@ pub fn new_with(
 {
     let transport = transport_numbered(transport)?;
     let local = local.socket()?;
+    let remote = remote_of(remote)?;
+    check_timeouts(timeouts)?;
     let builder = StunAgent::builder(alloc, transport, local)
         .stats(true)
         .request_retransmits(
@@ -148,13 +174,10 @@ pub fn new_with(
             timeouts.transmissions,
             Duration::from_nanos(timeouts.last),
         );
-    if remote.length == 0 {
-        check_waits(timeouts)?;
-        return Ok(builder.build());
+    match remote {
+        Some(remote) => Ok(builder.remote_addr(remote).build()),
+        None => Ok(builder.build()),
     }
-    let remote = remote.socket()?;
-    check_waits(timeouts)?;
-    Ok(builder.remote_addr(remote).build())
 }
 
 /// Keeps a request and counts it.
@@ -304,6 +327,15 @@ pub fn is_validated_peer(agent: &StunAgent<Global>, peer: &Address) -> Result<u3
     Ok(u32::from(agent.is_validated_peer(peer.socket()?)))
 }
 
+/// Forgets that messages from an address were taken, or that it was named.
+pub fn forget_peer(agent: &mut StunAgent<Global>, peer: &Address) -> Result<(), Refusal>
+    ensures answer { result ≡ done_if_given (socket_address peer.now) }
+    ensures state { agent.new ≡ kept_after_forgetting agent.old peer.now }
+{
+    agent.forget_validated_peer(peer.socket()?);
+    Ok(())
+}
+
 /// Whether a request of an id is outstanding, and the address that it went to.
 pub fn is_outstanding(
     agent: &StunAgent<Global>,
@@ -356,11 +388,11 @@ pub fn configure(
     id: &[u8],
     timeouts: &Timeouts,
 ) -> Result<u32, Refusal>
-    ensures answer { result ≡ unless_no_wait timeouts.now (found (id_in id.now) agent.old) }
+    ensures answer { result ≡ unless_untimed timeouts.now (found (id_in id.now) agent.old) }
     ensures state { agent.new ≡ kept_after_configuring timeouts.now (id_in id.now) agent.old }
 {
     let id = id_of(id)?;
-    check_waits(timeouts)?;
+    check_timeouts(timeouts)?;
     match agent.mut_request_transaction(id) {
         Some(mut request) => {
             request.configure_timeout_with_max(
@@ -390,6 +422,7 @@ fn told(stats: &StunAgentStats) -> Statistics
     ensures { result ≡ told stats.now }
 {
     Statistics {
+        size: STATISTICS_SIZE,
         requests_sent: stats.requests_sent(),
         requests_received: stats.requests_received(),
         responses_sent: stats.responses_sent(),
@@ -407,11 +440,20 @@ fn told(stats: &StunAgentStats) -> Statistics
     }
 }
 
-/// What the agent counted.
-pub fn tell_statistics(agent: &StunAgent<Global>, statistics: &mut Statistics)
-    ensures { statistics.new ≡ told_of agent.now.statistics statistics.old }
+/// What the agent counted. Statistics of another size are left, and no other field of theirs is read.
+pub fn tell_statistics(
+    agent: &StunAgent<Global>,
+    statistics: &mut Statistics,
+) -> Result<(), Refusal>
+    ensures answer { result ≡ statistics_answer statistics.old }
+    ensures ok { OnOk result (statistics.new ≡ told_of agent.now.statistics statistics.old) }
+    ensures err { OnErr result (statistics.new ≡ statistics.old) }
 {
+    if statistics.size != STATISTICS_SIZE {
+        return Err(Refusal::BadArgument);
+    }
     if let Some(stats) = agent.stats() {
         *statistics = told(stats);
     }
+    Ok(())
 }

@@ -1,15 +1,16 @@
 //! The numbers that calls answer.
 
 ghost use Rattle.std.specs.Prelude.{◌≡◌, pos};
-ghost use Rattle.stun_state.specs.Numbers.{algorithm_answer, client_answer, done_answer, length_answer, length_told, number_answer, reading_answer, resend_number};
+ghost use Rattle.stun_state.specs.Numbers.{algorithm_answer, done_answer, found_answer, is_resend_answer, length_answer, number_answer, reading_answer, resend_number};
 
 use crate::codes::{Refusal, algorithm_number};
-use crate::server::Validated;
 use stun_auth::auth::LongTermClientValidation;
 use stun_base::algorithm::IntegrityAlgorithm;
 
-/// The number of a response that asks for another request, and that is not rightly signed.
+/// The number of a response that asks for another request, and that is not rightly signed; and the last number of one that is.
 const RESEND: i64 = 3;
+
+const RESEND_SHA256: i64 = 5;
 
 /// The greatest number that a call answers.
 const MOST: usize = 9_223_372_036_854_775_807;
@@ -54,6 +55,13 @@ fn resend(signed_by: Option<IntegrityAlgorithm>) -> i64
     }
 }
 
+/// Whether an answer is one of the numbers by which another request is asked for.
+pub fn is_resend(answer: i64) -> bool
+    ensures { result ≡ is_resend_answer answer }
+{
+    answer >= RESEND && answer <= RESEND_SHA256
+}
+
 /// What a response says, or the refusal.
 pub fn reading(answer: Result<LongTermClientValidation, Refusal>) -> i64
     ensures { result ≡ reading_answer answer }
@@ -77,16 +85,12 @@ pub fn length(answer: Result<usize, Refusal>) -> i64
     }
 }
 
-/// The number of a client's algorithm, or 0 of none, and how long its name is.
-pub fn client(answer: Result<Option<Validated>, Refusal>, name_length: &mut usize) -> i64
-    ensures answer { result ≡ client_answer answer }
-    ensures length { name_length.new ≡ length_told answer name_length.old }
+/// The number of an algorithm, 0 of none, or the refusal.
+pub fn found(answer: Result<Option<IntegrityAlgorithm>, Refusal>) -> i64
+    ensures { result ≡ found_answer answer }
 {
     match answer {
-        Ok(Some(client)) => {
-            *name_length = client.name_length;
-            i64::from(algorithm_number(client.algorithm))
-        }
+        Ok(Some(algorithm)) => i64::from(algorithm_number(algorithm)),
         Ok(None) => 0,
         Err(refusal) => refusal.code(),
     }

@@ -60,6 +60,8 @@ pub enum Refusal {
     UnsupportedFeature,
     /// -26: a request would be sent again without a wait.
     NoWait,
+    /// -27: something is kept of as many addresses as may be, and of this one nothing is.
+    TooManyAddresses,
 }
 
 impl Refusal {
@@ -113,6 +115,7 @@ impl Refusal {
             Refusal::StaleNonce => -24,
             Refusal::UnsupportedFeature => -25,
             Refusal::NoWait => -26,
+            Refusal::TooManyAddresses => -27,
         }
     }
 }

@@ -17,10 +17,11 @@ ghost use Rattle.stun_state.specs.Codes.{algorithms_numbered, feature_numbered};
 ghost use Rattle.stun_state.specs.Memory.{LeavesServer};
 ghost use Rattle.stun_state.specs.Signing.{buffer_after, is_too_long, length_of, message_of, server_signs, signed_by_server};
 ghost use Rattle.stun_state.specs.code.Measured.{IsMeasured};
-ghost use Rattle.stun_state.specs.Server.{after_validating, client_at, client_told, name_written, nonce_at, nonce_told, nonce_written, step_answer, validated, validation_answer, with_algorithms, with_expiry, with_feature, without_client, without_named};
+ghost use Rattle.stun_state.specs.Server.{client_at, client_told, kept_after_validating, name_length_of, name_written, nonce_at, nonce_told, nonce_written, room_refusal, step_answer, validated, validation_answer, with_algorithms, with_expiry, with_feature, without_client, without_named};
 
 use crate::address::Address;
 use crate::codes::{Refusal, feature_numbered};
+use crate::handle::server::Server;
 use crate::signing::{SHORT, base_message, is_response, is_too_long, put, writer_of};
 use crate::text::{copied, text};
 use std::alloc::Global;
@@ -37,15 +38,6 @@ use stun_types::prelude::*;
 
 /// The shortest time that a nonce lasts, in nanoseconds.
 const SHORTEST_EXPIRY: u64 = 30_000_000_000;
-
-/// Who was validated last at an address: how long the user's name is, and the algorithm of the key.
-#[derive(Debug, Clone, Copy, PartialEq, Eq)]
-pub struct Validated {
-    /// How many bytes the name has.
-    pub name_length: usize,
-    /// The algorithm that both sides agreed on.
-    pub algorithm: IntegrityAlgorithm,
-}
 
 /// A server of a realm, without users.
 pub fn new(alloc: Global, realm: &[u8]) -> Result<LongTermServerAuth<Global>, Refusal>
@@ -179,30 +171,32 @@ pub fn forget_expired_within(
     Ok(u32::from(next.is_some()))
 }
 
-/// Who was validated last at an address, and the user's name at the front of the buffer.
+/// Who was validated last at an address: the algorithm of the key, the user's name at the front of the buffer, and how long that
+/// is, also where the buffer has no room for it.
 pub fn client(
     server: &LongTermServerAuth<Global>,
     at: &Address,
     name: &mut [u8],
-) -> Result<Option<Validated>, Refusal>
+    name_length: &mut usize,
+) -> Result<Option<IntegrityAlgorithm>, Refusal>
     ensures answer { result ≡ at_address (socket_address at.now)
         (λ a. client_told (length name.old) (client_at server.now a)) }
     ensures written { name.new ≡ after_address (socket_address at.now) name.old
         (λ a. name_written name.old (client_at server.now a)) }
+    ensures length { name_length.new ≡ after_address (socket_address at.now) name_length.old
+        (λ a. name_length_of (client_at server.now a) name_length.old) }
 {
     let address = at.socket()?;
     let Some((client, algorithm)) = server.client(address) else {
         return Ok(None);
     };
     let client = client.as_bytes();
+    *name_length = client.len();
     if name.len() < client.len() {
         return Err(Refusal::BufferTooSmall);
     }
     name[..client.len()].copy_from_slice(client);
-    Ok(Some(Validated {
-        name_length: client.len(),
-        algorithm,
-    }))
+    Ok(Some(algorithm))
 }
 
 /// How long the nonce of an address is, or 0 of none, and the nonce at the front of the buffer.
@@ -385,7 +379,7 @@ fn sign_in<'m>(
 
 /// Who signed a message that came from an address. A refusal may make a nonce for the address.
 pub fn validate(
-    server: &mut LongTermServerAuth<Global>,
+    kept: &mut Server,
     message: &[u8],
     from: &Address,
     now: u64,
@@ -393,21 +387,44 @@ pub fn validate(
 ) -> Result<IntegrityAlgorithm, Refusal>
     ensures answer { OrMemory result
         (result ≡ at_address (socket_address from.now)
-        (validated server.old message.now now words.now)) ⊤ }
+        (validated kept.old message.now now words.now)) ⊤ }
     ensures state { OrMemory result
-        (server.new ≡ after_address (socket_address from.now) server.old
-        (after_validating server.old message.now now words.now))
-        (server.new ≡ server.old) }
+        (kept.new ≡ record kept.old {
+          server = kept_after_validating kept.old message.now from.now now words.now;
+        })
+        (kept.new ≡ kept.old) }
 
     // Where nothing of the server changes, no failed allocation is answered.
-    ensures unchanged { LeavesServer server.old message.now now words.now
+    ensures unchanged { LeavesServer kept.old message.now now words.now
         (socket_address from.now) →
         result ≡ at_address (socket_address from.now)
-        (validated server.old message.now now words.now) }
+        (validated kept.old message.now now words.now) }
 {
     let from = from.socket()?;
     let message = Message::from_bytes(message)?;
-    validate_message(server, &message, from, Instant::from_nanos(now), *words)
+    check_room(&kept.server, kept.most_addresses, from)?;
+    validate_message(
+        &mut kept.server,
+        &message,
+        from,
+        Instant::from_nanos(now),
+        *words,
+    )
+}
+
+/// Refuses an address of which nothing is kept, where something is of as many as may be.
+fn check_room(
+    server: &LongTermServerAuth<Global>,
+    most: usize,
+    from: SocketAddr,
+) -> Result<(), Refusal>
+    ensures ok { OnOk result (room_refusal server.now most from ≡ None) }
+    ensures err { IfErr result (λ refusal. room_refusal server.now most from ≡ Some refusal) }
+{
+    if server.address_count() < most || server.nonce_for_client(from).is_some() {
+        return Ok(());
+    }
+    Err(Refusal::TooManyAddresses)
 }
 
 /// Who signed a message.

@@ -55,6 +55,8 @@ pub mod server {
     /// A server of the heap.
     pub struct Server {
         pub server: LongTermServerAuth,
+        /// Of how many addresses something may be kept.
+        pub most_addresses: usize,
     }
 
     /// What a caller keeps of a server.

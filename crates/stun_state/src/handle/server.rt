@@ -13,6 +13,8 @@ use stun_auth::auth::LongTermServerAuth;
 #[derive(Drop)]
 pub struct Server {
     pub server: LongTermServerAuth<Global>,
+    /// Of how many addresses something may be kept.
+    pub most_addresses: usize,
 }
 
 /// What a caller keeps of a server: all zero where it is empty, and else what `put` wrote.

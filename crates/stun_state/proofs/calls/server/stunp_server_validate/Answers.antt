@@ -2,7 +2,7 @@
 use Rattle.std.proofs.Common.{rules, ◌≡◌, ◌∙◌, Some, ap, to_z, of_z, w64}
 use Rattle.stun_state.specs.Numbers.{algorithm_answer}
 use Rattle.stun_state.proofs.Exports.{some_is}
-use Rattle.stun_state.proofs.stunp_server_validate.Goals as goal
+use Rattle.stun_state.proofs.calls.server.stunp_server_validate.Goals as goal
 
 pub returns-clause-unchanged : goal.returns-clause-unchanged
 returns-clause-unchanged c =

@@ -4,7 +4,7 @@ use Rattle.stun_agent.specs.Agent.{Agent, after_poll_transmit}
 use Rattle.stun_state.specs.Numbers.{length_answer}
 use Rattle.stun_state.specs.declared.handle.agent.Agent.{Agent as Kept}
 use Rattle.stun_state.proofs.Exports.{left_length, some_is}
-use Rattle.stun_state.proofs.stunp_agent_poll_transmit.Goals as goal
+use Rattle.stun_state.proofs.calls.agent.stunp_agent_poll_transmit.Goals as goal
 
 pub returns-clause-state : goal.returns-clause-state
 returns-clause-state c =

@@ -1,0 +1,448 @@
+//! The calls on an agent: requests and their time (RFC 8489, section 6.2).
+
+ghost use Rattle.std.specs.Prelude.{◌≡◌, ◌⊎◌, length, pos, MatchResult, Some, None, Ok, IfNone, IfSome, IsTrue};
+ghost use Rattle.stun_agent.specs.Agent.{after_poll, after_poll_transmit, after_send, poll_answer, sent_by_poll};
+ghost use Rattle.stun_agent.specs.Transactions.{cancelled, silenced};
+ghost use Rattle.stun_state.specs.Addresses.{socket_address};
+ghost use Rattle.stun_state.specs.Agent.{bytes_told, found, handled, id_in, id_told, kept_after_configuring, kept_after_forgetting, kept_after_message, kept_after_naming, kept_after_request, known, made, made_with, moment_told, peer_found, polled, requested, sent, sent_again, sent_to, statistics_answer, told_of, transport_numbered, unless_untimed, with_changed};
+ghost use Rattle.stun_state.specs.Answers.{at_address, done_if_given};
+ghost use Rattle.stun_state.specs.Codes.{code_of};
+ghost use Rattle.stun_state.specs.Memory.{IsRequestTaken, message_adds_none, naming_adds_none};
+ghost use Rattle.stun_state.specs.Numbers.{IsOrOutOfMemory, OrOutOfMemory, done_answer, left_by, length_answer, number_answer};
+
+use crate::address::Address;
+use crate::agent::{Statistics, Timeouts};
+use crate::codes::Refusal;
+use crate::handle::agent::{Agent, AgentHandle};
+use crate::{agent, answers};
+use std::alloc::Global;
+
+/// Fills a handle with an agent of a transport at a local address.
+#[unsafe(no_mangle)]
+pub extern "C" fn stunp_agent_new(
+    alloc: Global,
+    handle: &mut AgentHandle,
+    transport: u32,
+    local: &Address,
+) -> i64
+    ensures full { IfSome handle.old.agent (λ kept. (result ≡ code_of Refusal.FullHandle)
+        × (handle.new.agent ≡ Some kept)) }
+    ensures made { IfNone handle.old.agent (MatchResult
+        (made (transport_numbered transport) (socket_address local.now))
+        (λ agent. OrOutOfMemory result None handle.new.agent (pos 0)
+        (Some (record { agent = agent })))
+        (λ refusal. (result ≡ code_of refusal) × (handle.new.agent ≡ None))) }
+{
+    if let Some(kept) = handle.take(alloc) {
+        handle.put(alloc, kept);
+        return Refusal::FullHandle.code();
+    }
+    let agent = match agent::new(alloc, transport, local) {
+        Ok(agent) => agent,
+        Err(refusal) => return refusal.code(),
+    };
+    match Box::new(alloc, Agent { agent }) {
+        Ok(kept) => {
+            handle.put(alloc, kept);
+            0
+        }
+        Err(_) => Refusal::OutOfMemory.code(),
+    }
+}
+
+/// The same with time-outs of the caller's, and with a remote address, to which alone the agent then sends.
+#[unsafe(no_mangle)]
+pub extern "C" fn stunp_agent_new_with(
+    alloc: Global,
+    handle: &mut AgentHandle,
+    transport: u32,
+    local: &Address,
+    remote: &Address,
+    timeouts: &Timeouts,
+) -> i64
+    ensures full { IfSome handle.old.agent (λ kept. (result ≡ code_of Refusal.FullHandle)
+        × (handle.new.agent ≡ Some kept)) }
+    ensures made { IfNone handle.old.agent (MatchResult
+        (made_with (made (transport_numbered transport) (socket_address local.now))
+        remote.now timeouts.now)
+        (λ agent. OrOutOfMemory result None handle.new.agent (pos 0)
+        (Some (record { agent = agent })))
+        (λ refusal. (result ≡ code_of refusal) × (handle.new.agent ≡ None))) }
+{
+    if let Some(kept) = handle.take(alloc) {
+        handle.put(alloc, kept);
+        return Refusal::FullHandle.code();
+    }
+    let agent = match agent::new_with(alloc, transport, local, remote, timeouts) {
+        Ok(agent) => agent,
+        Err(refusal) => return refusal.code(),
+    };
+    match Box::new(alloc, Agent { agent }) {
+        Ok(kept) => {
+            handle.put(alloc, kept);
+            0
+        }
+        Err(_) => Refusal::OutOfMemory.code(),
+    }
+}
+
+/// Keeps a request and counts it.
+#[unsafe(no_mangle)]
+pub extern "C" fn stunp_agent_send_request(
+    alloc: Global,
+    handle: &mut AgentHandle,
+    message: &[u8],
+    to: &Address,
+    now: u64,
+) -> i64
+    ensures empty { IfNone handle.old.agent ((result ≡ code_of Refusal.EmptyHandle)
+        × (handle.new.agent ≡ None)) }
+    ensures answer { IfSome handle.old.agent (λ kept. IsOrOutOfMemory result (done_answer
+        (at_address (socket_address to.now) (requested kept.agent message.now)))) }
+    ensures state { IfSome handle.old.agent (λ kept. handle.new.agent ≡ Some (record {
+      agent = left_by result kept.agent
+          (kept_after_request kept.agent message.now to.now now);
+    })) }
+
+    // A failed allocation is answered only where the request would be taken.
+    ensures taken { IfSome handle.old.agent (λ kept. (result ≡ done_answer
+        (at_address (socket_address to.now) (requested kept.agent message.now)))
+        ⊎ IsRequestTaken kept.agent message.now (socket_address to.now)) }
+{
+    let Some(mut kept) = handle.take(alloc) else {
+        return Refusal::EmptyHandle.code();
+    };
+    let answer = answers::done(agent::send_request(&mut kept.agent, message, to, now));
+    handle.put(alloc, kept);
+    answer
+}
+
+/// Counts a response or an indication that is sent to an address.
+#[unsafe(no_mangle)]
+pub extern "C" fn stunp_agent_send(
+    alloc: Global,
+    handle: &mut AgentHandle,
+    message: &[u8],
+    to: &Address,
+) -> i64
+    ensures empty { IfNone handle.old.agent ((result ≡ code_of Refusal.EmptyHandle)
+        × (handle.new.agent ≡ None)) }
+    ensures answer { IfSome handle.old.agent (λ kept. result ≡ done_answer
+        (at_address (socket_address to.now) (sent kept.agent message.now))) }
+    ensures state { IfSome handle.old.agent (λ kept. handle.new.agent ≡ Some (record {
+      agent = left_by result kept.agent (after_send message.now kept.agent);
+    })) }
+{
+    let Some(mut kept) = handle.take(alloc) else {
+        return Refusal::EmptyHandle.code();
+    };
+    let answer = answers::done(agent::send(&mut kept.agent, message, to));
+    handle.put(alloc, kept);
+    answer
+}
+
+/// What is to be done at a moment.
+#[unsafe(no_mangle)]
+pub extern "C" fn stunp_agent_poll(
+    alloc: Global,
+    handle: &mut AgentHandle,
+    now: u64,
+    until: &mut u64,
+    id: &mut [u8],
+) -> i64
+    ensures empty { IfNone handle.old.agent ((result ≡ code_of Refusal.EmptyHandle)
+        × (handle.new.agent ≡ None)
+        × (until.new ≡ until.old) × (id.new ≡ id.old)) }
+    ensures answer { IfSome handle.old.agent (λ kept. result ≡ number_answer
+        (polled (length id.old) (poll_answer now kept.agent))) }
+    ensures state { IfSome handle.old.agent (λ kept. handle.new.agent ≡ Some (record {
+      agent = left_by result kept.agent (after_poll now kept.agent);
+    })) }
+    ensures until { IfSome handle.old.agent (λ kept. until.new ≡ left_by result until.old
+        (moment_told (poll_answer now kept.agent) until.old)) }
+    ensures id { IfSome handle.old.agent (λ kept. id.new ≡ left_by result id.old
+        (id_told (poll_answer now kept.agent) id.old)) }
+{
+    let Some(mut kept) = handle.take(alloc) else {
+        return Refusal::EmptyHandle.code();
+    };
+    let answer = answers::number(agent::poll(&mut kept.agent, now, until, id));
+    handle.put(alloc, kept);
+    answer
+}
+
+/// The request that is to be sent again now, and where to.
+#[unsafe(no_mangle)]
+pub extern "C" fn stunp_agent_poll_transmit(
+    alloc: Global,
+    handle: &mut AgentHandle,
+    now: u64,
+    out: &mut [u8],
+    to: &mut Address,
+) -> i64
+    ensures empty { IfNone handle.old.agent ((result ≡ code_of Refusal.EmptyHandle)
+        × (handle.new.agent ≡ None)
+        × (out.new ≡ out.old) × (to.new ≡ to.old)) }
+    ensures answer { IfSome handle.old.agent (λ kept. result ≡ length_answer
+        (sent_again (length out.old) (sent_by_poll now kept.agent))) }
+
+    // Too small a buffer leaves the agent, so no transmission is lost.
+    ensures state { IfSome handle.old.agent (λ kept. handle.new.agent ≡ Some (record {
+      agent = left_by result kept.agent (after_poll_transmit now kept.agent);
+    })) }
+    ensures out { IfSome handle.old.agent (λ kept. out.new ≡ left_by result out.old
+        (bytes_told (sent_by_poll now kept.agent) out.old)) }
+    ensures to { IfSome handle.old.agent (λ kept. to.new ≡ left_by result to.old
+        (sent_to (sent_by_poll now kept.agent) to.old)) }
+{
+    let Some(mut kept) = handle.take(alloc) else {
+        return Refusal::EmptyHandle.code();
+    };
+    let answer = answers::length(agent::poll_transmit(&mut kept.agent, now, out, to));
+    handle.put(alloc, kept);
+    answer
+}
+
+/// Takes a message that came from an address.
+#[unsafe(no_mangle)]
+pub extern "C" fn stunp_agent_handle(
+    alloc: Global,
+    handle: &mut AgentHandle,
+    message: &[u8],
+    from: &Address,
+    now: u64,
+) -> i64
+    ensures empty { IfNone handle.old.agent ((result ≡ code_of Refusal.EmptyHandle)
+        × (handle.new.agent ≡ None)) }
+    ensures answer { IfSome handle.old.agent (λ kept. IsOrOutOfMemory result (number_answer
+        (at_address (socket_address from.now) (handled kept.agent message.now)))) }
+    ensures state { IfSome handle.old.agent (λ kept. handle.new.agent ≡ Some (record {
+      agent = left_by result kept.agent
+          (kept_after_message kept.agent message.now from.now now);
+    })) }
+
+    // Where no address is added to those that are kept, no failed allocation is answered.
+    ensures no_memory { IfSome handle.old.agent (λ kept.
+        IsTrue (message_adds_none kept.agent message.now (socket_address from.now)) →
+        result ≡ number_answer
+        (at_address (socket_address from.now) (handled kept.agent message.now))) }
+{
+    let Some(mut kept) = handle.take(alloc) else {
+        return Refusal::EmptyHandle.code();
+    };
+    let answer = answers::number(agent::handle(&mut kept.agent, message, from, now));
+    handle.put(alloc, kept);
+    answer
+}
+
+/// Names an address as one whose messages were taken.
+#[unsafe(no_mangle)]
+pub extern "C" fn stunp_agent_validated_peer(
+    alloc: Global,
+    handle: &mut AgentHandle,
+    peer: &Address,
+) -> i64
+    ensures empty { IfNone handle.old.agent ((result ≡ code_of Refusal.EmptyHandle)
+        × (handle.new.agent ≡ None)) }
+    ensures answer { IfSome handle.old.agent (λ _. IsOrOutOfMemory result (done_answer
+        (done_if_given (socket_address peer.now)))) }
+    ensures state { IfSome handle.old.agent (λ kept. handle.new.agent ≡ Some (record {
+      agent = left_by result kept.agent (kept_after_naming kept.agent peer.now);
+    })) }
+
+    // For an address that is kept already no failed allocation is answered.
+    ensures there { IfSome handle.old.agent (λ kept.
+        IsTrue (naming_adds_none kept.agent (socket_address peer.now)) →
+        result ≡ done_answer (done_if_given (socket_address peer.now))) }
+{
+    let Some(mut kept) = handle.take(alloc) else {
+        return Refusal::EmptyHandle.code();
+    };
+    let answer = answers::done(agent::validated_peer(&mut kept.agent, peer));
+    handle.put(alloc, kept);
+    answer
+}
+
+/// Whether a message from an address was taken, or the address was named as such.
+#[unsafe(no_mangle)]
+pub extern "C" fn stunp_agent_is_validated_peer(
+    alloc: Global,
+    handle: &mut AgentHandle,
+    peer: &Address,
+) -> i64
+    ensures empty { IfNone handle.old.agent ((result ≡ code_of Refusal.EmptyHandle)
+        × (handle.new.agent ≡ None)) }
+    ensures answer { IfSome handle.old.agent (λ kept. result ≡ number_answer
+        (at_address (socket_address peer.now) (known kept.agent))) }
+    ensures same { handle.new.agent ≡ handle.old.agent }
+{
+    let Some(mut kept) = handle.take(alloc) else {
+        return Refusal::EmptyHandle.code();
+    };
+    let answer = answers::number(agent::is_validated_peer(&kept.agent, peer));
+    handle.put(alloc, kept);
+    answer
+}
+
+/// How many addresses are kept from which a message was taken, or which were named.
+#[unsafe(no_mangle)]
+pub extern "C" fn stunp_agent_peer_count(alloc: Global, handle: &mut AgentHandle) -> i64
+    ensures empty { IfNone handle.old.agent ((result ≡ code_of Refusal.EmptyHandle)
+        × (handle.new.agent ≡ None)) }
+    ensures answer { IfSome handle.old.agent (λ kept. result
+        ≡ length_answer (Ok (length kept.agent.peers))) }
+    ensures same { handle.new.agent ≡ handle.old.agent }
+{
+    let Some(kept) = handle.take(alloc) else {
+        return Refusal::EmptyHandle.code();
+    };
+    let answer = answers::length(Ok(kept.agent.validated_peer_count()));
+    handle.put(alloc, kept);
+    answer
+}
+
+/// Forgets that messages from an address were taken, or that it was named.
+#[unsafe(no_mangle)]
+pub extern "C" fn stunp_agent_forget_peer(
+    alloc: Global,
+    handle: &mut AgentHandle,
+    peer: &Address,
+) -> i64
+    ensures empty { IfNone handle.old.agent ((result ≡ code_of Refusal.EmptyHandle)
+        × (handle.new.agent ≡ None)) }
+    ensures answer { IfSome handle.old.agent (λ _. result ≡ done_answer
+        (done_if_given (socket_address peer.now))) }
+    ensures state { IfSome handle.old.agent (λ kept. handle.new.agent ≡ Some (record {
+      agent = kept_after_forgetting kept.agent peer.now;
+    })) }
+{
+    let Some(mut kept) = handle.take(alloc) else {
+        return Refusal::EmptyHandle.code();
+    };
+    let answer = answers::done(agent::forget_peer(&mut kept.agent, peer));
+    handle.put(alloc, kept);
+    answer
+}
+
+/// Whether a request of an id is outstanding, and the address that it went to.
+#[unsafe(no_mangle)]
+pub extern "C" fn stunp_agent_is_outstanding(
+    alloc: Global,
+    handle: &mut AgentHandle,
+    id: &[u8],
+    peer: &mut Address,
+) -> i64
+    ensures empty { IfNone handle.old.agent ((result ≡ code_of Refusal.EmptyHandle)
+        × (handle.new.agent ≡ None)
+        × (peer.new ≡ peer.old)) }
+    ensures answer { IfSome handle.old.agent (λ kept. result ≡ number_answer
+        (found (id_in id.now) kept.agent)) }
+    ensures peer { IfSome handle.old.agent (λ kept. peer.new
+        ≡ peer_found (id_in id.now) kept.agent peer.old) }
+    ensures same { handle.new.agent ≡ handle.old.agent }
+{
+    let Some(mut kept) = handle.take(alloc) else {
+        return Refusal::EmptyHandle.code();
+    };
+    let answer = answers::number(agent::is_outstanding(&kept.agent, id, peer));
+    handle.put(alloc, kept);
+    answer
+}
+
+/// Cancels the request of an id.
+#[unsafe(no_mangle)]
+pub extern "C" fn stunp_agent_cancel(alloc: Global, handle: &mut AgentHandle, id: &[u8]) -> i64
+    ensures empty { IfNone handle.old.agent ((result ≡ code_of Refusal.EmptyHandle)
+        × (handle.new.agent ≡ None)) }
+    ensures answer { IfSome handle.old.agent (λ kept. result ≡ number_answer
+        (found (id_in id.now) kept.agent)) }
+    ensures state { IfSome handle.old.agent (λ kept. handle.new.agent ≡ Some (record {
+      agent = with_changed cancelled (id_in id.now) kept.agent;
+    })) }
+{
+    let Some(mut kept) = handle.take(alloc) else {
+        return Refusal::EmptyHandle.code();
+    };
+    let answer = answers::number(agent::cancel(&mut kept.agent, id));
+    handle.put(alloc, kept);
+    answer
+}
+
+/// Ends the retransmissions of the request of an id.
+#[unsafe(no_mangle)]
+pub extern "C" fn stunp_agent_cancel_retransmissions(
+    alloc: Global,
+    handle: &mut AgentHandle,
+    id: &[u8],
+) -> i64
+    ensures empty { IfNone handle.old.agent ((result ≡ code_of Refusal.EmptyHandle)
+        × (handle.new.agent ≡ None)) }
+    ensures answer { IfSome handle.old.agent (λ kept. result ≡ number_answer
+        (found (id_in id.now) kept.agent)) }
+    ensures state { IfSome handle.old.agent (λ kept. handle.new.agent ≡ Some (record {
+      agent = with_changed silenced (id_in id.now) kept.agent;
+    })) }
+{
+    let Some(mut kept) = handle.take(alloc) else {
+        return Refusal::EmptyHandle.code();
+    };
+    let answer = answers::number(agent::cancel_retransmissions(&mut kept.agent, id));
+    handle.put(alloc, kept);
+    answer
+}
+
+/// Gives the request of an id time-outs of its own.
+#[unsafe(no_mangle)]
+pub extern "C" fn stunp_agent_configure(
+    alloc: Global,
+    handle: &mut AgentHandle,
+    id: &[u8],
+    timeouts: &Timeouts,
+) -> i64
+    ensures empty { IfNone handle.old.agent ((result ≡ code_of Refusal.EmptyHandle)
+        × (handle.new.agent ≡ None)) }
+    ensures answer { IfSome handle.old.agent (λ kept. result ≡ number_answer
+        (unless_untimed timeouts.now (found (id_in id.now) kept.agent))) }
+    ensures state { IfSome handle.old.agent (λ kept. handle.new.agent ≡ Some (record {
+      agent = kept_after_configuring timeouts.now (id_in id.now) kept.agent;
+    })) }
+{
+    let Some(mut kept) = handle.take(alloc) else {
+        return Refusal::EmptyHandle.code();
+    };
+    let answer = answers::number(agent::configure(&mut kept.agent, id, timeouts));
+    handle.put(alloc, kept);
+    answer
+}
+
+/// What the agent counted.
+#[unsafe(no_mangle)]
+pub extern "C" fn stunp_agent_statistics(
+    alloc: Global,
+    handle: &mut AgentHandle,
+    statistics: &mut Statistics,
+) -> i64
+    ensures empty { IfNone handle.old.agent ((result ≡ code_of Refusal.EmptyHandle)
+        × (handle.new.agent ≡ None)
+        × (statistics.new ≡ statistics.old)) }
+    ensures answer { IfSome handle.old.agent (λ _. result
+        ≡ done_answer (statistics_answer statistics.old)) }
+    ensures told { IfSome handle.old.agent (λ kept. statistics.new ≡ left_by result statistics.old
+        (told_of kept.agent.statistics statistics.old)) }
+    ensures same { handle.new.agent ≡ handle.old.agent }
+{
+    let Some(mut kept) = handle.take(alloc) else {
+        return Refusal::EmptyHandle.code();
+    };
+    let answer = answers::done(agent::tell_statistics(&kept.agent, statistics));
+    handle.put(alloc, kept);
+    answer
+}
+
+/// Frees the agent. The handle is empty then.
+#[unsafe(no_mangle)]
+pub extern "C" fn stunp_agent_clear(alloc: Global, handle: &mut AgentHandle)
+    ensures { handle.new.agent ≡ None }
+{
+    let _agent = handle.take(alloc);
+}

@@ -1,0 +1,186 @@
+//! The calls on the long-term authenticator of a client (RFC 8489, sections 9.2.3 and 9.2.5).
+
+ghost use Rattle.std.specs.Prelude.{◌≡◌, ◌⊎◌, length, pos, MatchOption, Some, None, Ok, IfNone, IfSome};
+ghost use Rattle.stun_auth.specs.ClientSigning.{signing_algorithm};
+ghost use Rattle.stun_state.specs.Answers.{done_if_given, texts_refusal};
+ghost use Rattle.stun_auth.specs.Client.{new_client};
+ghost use Rattle.stun_state.specs.Client as on_client;
+ghost use Rattle.stun_state.specs.Client.{after_validating, validated, with_credentials};
+ghost use Rattle.stun_state.specs.Codes.{algorithm_or_none, algorithms_numbered, code_of, feature_numbered};
+ghost use Rattle.stun_state.specs.Memory.{AsksAgain};
+ghost use Rattle.stun_state.specs.Numbers.{OrOutOfMemory, done_answer, length_answer, reading_answer};
+ghost use Rattle.stun_state.specs.Signing.{buffer_after, length_of, signed_by_client};
+
+use crate::codes::Refusal;
+use crate::handle::client::{Client, ClientHandle};
+use crate::{answers, client};
+use std::alloc::Global;
+
+/// Fills a handle with a client without credentials.
+#[unsafe(no_mangle)]
+pub extern "C" fn stunp_client_new(alloc: Global, handle: &mut ClientHandle) -> i64
+    ensures full { IfSome handle.old.client (λ kept. (result ≡ code_of Refusal.FullHandle)
+        × (handle.new.client ≡ Some kept)) }
+    ensures made { IfNone handle.old.client (OrOutOfMemory result None handle.new.client (pos 0)
+        (Some (record { client = new_client }))) }
+{
+    if let Some(kept) = handle.take(alloc) {
+        handle.put(alloc, kept);
+        return Refusal::FullHandle.code();
+    }
+    let client = client::new(alloc);
+    match Box::new(alloc, Client { client }) {
+        Ok(kept) => {
+            handle.put(alloc, kept);
+            0
+        }
+        Err(_) => Refusal::OutOfMemory.code(),
+    }
+}
+
+/// Whose name and password are used.
+#[unsafe(no_mangle)]
+pub extern "C" fn stunp_client_set_credentials(
+    alloc: Global,
+    handle: &mut ClientHandle,
+    name: &[u8],
+    password: &[u8],
+) -> i64
+    ensures empty { IfNone handle.old.client ((result ≡ code_of Refusal.EmptyHandle)
+        × (handle.new.client ≡ None)) }
+    ensures answer { IfSome handle.old.client (λ kept. MatchOption
+        (texts_refusal name.now password.now)
+        (OrOutOfMemory result handle.old.client handle.new.client (pos 0)
+        (Some (record { client = with_credentials name.now password.now kept.client })))
+        (λ refusal. (result ≡ code_of refusal) × (handle.new.client ≡ handle.old.client))) }
+{
+    let Some(mut kept) = handle.take(alloc) else {
+        return Refusal::EmptyHandle.code();
+    };
+    let answer = answers::done(client::set_credentials(alloc, &mut kept.client, name, password));
+    handle.put(alloc, kept);
+    answer
+}
+
+/// Which algorithms the client supports.
+#[unsafe(no_mangle)]
+pub extern "C" fn stunp_client_set_algorithms(
+    alloc: Global,
+    handle: &mut ClientHandle,
+    algorithms: u32,
+) -> i64
+    ensures empty { IfNone handle.old.client ((result ≡ code_of Refusal.EmptyHandle)
+        × (handle.new.client ≡ None)) }
+    ensures answer { IfSome handle.old.client (λ _. result ≡ done_answer
+        (done_if_given (algorithms_numbered algorithms))) }
+    ensures state { IfSome handle.old.client (λ kept. handle.new.client ≡ Some (record {
+      client = on_client.with_algorithms (algorithms_numbered algorithms) kept.client;
+    })) }
+{
+    let Some(mut kept) = handle.take(alloc) else {
+        return Refusal::EmptyHandle.code();
+    };
+    let answer = answers::done(client::set_algorithms(&mut kept.client, algorithms));
+    handle.put(alloc, kept);
+    answer
+}
+
+/// What the client does with the user's name.
+#[unsafe(no_mangle)]
+pub extern "C" fn stunp_client_set_anonymous_username(
+    alloc: Global,
+    handle: &mut ClientHandle,
+    feature: u32,
+) -> i64
+    ensures empty { IfNone handle.old.client ((result ≡ code_of Refusal.EmptyHandle)
+        × (handle.new.client ≡ None)) }
+    ensures answer { IfSome handle.old.client (λ _. result ≡ done_answer
+        (done_if_given (feature_numbered feature))) }
+    ensures state { IfSome handle.old.client (λ kept. handle.new.client ≡ Some (record {
+      client = on_client.with_feature (feature_numbered feature) kept.client;
+    })) }
+{
+    let Some(mut kept) = handle.take(alloc) else {
+        return Refusal::EmptyHandle.code();
+    };
+    let answer = answers::done(client::set_anonymous_username(&mut kept.client, feature));
+    handle.put(alloc, kept);
+    answer
+}
+
+/// By which algorithm a message would be signed now.
+#[unsafe(no_mangle)]
+pub extern "C" fn stunp_client_signing_algorithm(alloc: Global, handle: &mut ClientHandle) -> i64
+    ensures empty { IfNone handle.old.client ((result ≡ code_of Refusal.EmptyHandle)
+        × (handle.new.client ≡ None)) }
+    ensures answer { IfSome handle.old.client (λ kept. result
+        ≡ pos (algorithm_or_none (signing_algorithm kept.client.state))) }
+    ensures same { handle.new.client ≡ handle.old.client }
+{
+    let Some(mut kept) = handle.take(alloc) else {
+        return Refusal::EmptyHandle.code();
+    };
+    let answer = i64::from(client::signing_algorithm(&kept.client));
+    handle.put(alloc, kept);
+    answer
+}
+
+/// Signs the message at the front of a buffer.
+#[unsafe(no_mangle)]
+pub extern "C" fn stunp_client_sign(
+    alloc: Global,
+    handle: &mut ClientHandle,
+    buffer: &mut [u8],
+    length: usize,
+) -> i64
+    ensures empty { IfNone handle.old.client ((result ≡ code_of Refusal.EmptyHandle)
+        × (handle.new.client ≡ None)
+        × (buffer.new ≡ buffer.old)) }
+    ensures answer { IfSome handle.old.client (λ kept. result
+        ≡ length_answer (length_of (signed_by_client kept.client.state buffer.old length))) }
+    ensures written { IfSome handle.old.client (λ kept. buffer.new
+        ≡ buffer_after (signed_by_client kept.client.state buffer.old length) buffer.old) }
+    ensures same { handle.new.client ≡ handle.old.client }
+{
+    let Some(mut kept) = handle.take(alloc) else {
+        return Refusal::EmptyHandle.code();
+    };
+    let answer = answers::length(client::sign(&mut kept.client, buffer, length));
+    handle.put(alloc, kept);
+    answer
+}
+
+/// What a response says.
+#[unsafe(no_mangle)]
+pub extern "C" fn stunp_client_validate(
+    alloc: Global,
+    handle: &mut ClientHandle,
+    message: &[u8],
+) -> i64
+    ensures empty { IfNone handle.old.client ((result ≡ code_of Refusal.EmptyHandle)
+        × (handle.new.client ≡ None)) }
+    ensures answer { IfSome handle.old.client (λ kept. OrOutOfMemory result
+        handle.old.client handle.new.client
+        (reading_answer (validated kept.client message.now))
+        (Some (record { client = after_validating kept.client message.now }))) }
+
+    // A failed allocation is answered only where another request is asked for.
+    ensures resend { IfSome handle.old.client (λ kept.
+        (result ≡ reading_answer (validated kept.client message.now))
+        ⊎ AsksAgain kept.client message.now) }
+{
+    let Some(mut kept) = handle.take(alloc) else {
+        return Refusal::EmptyHandle.code();
+    };
+    let answer = answers::reading(client::validate(&mut kept.client, message));
+    handle.put(alloc, kept);
+    answer
+}
+
+/// Frees the client. The handle is empty then.
+#[unsafe(no_mangle)]
+pub extern "C" fn stunp_client_clear(alloc: Global, handle: &mut ClientHandle)
+    ensures { handle.new.client ≡ None }
+{
+    let _client = handle.take(alloc);
+}

@@ -1,0 +1,437 @@
+//! The calls on the long-term authenticator of a server (RFC 8489, section 9.2.4).
+
+ghost use Rattle.std.specs.FinMap as map;
+ghost use Rattle.std.specs.Prelude.{◌≡◌, length, pos, MatchOption, Some, None, Ok, IfNone, IfSome};
+ghost use Rattle.stun_auth.specs.Forgetting.{after_forgetting, without_place};
+ghost use Rattle.stun_auth.specs.ForgettingSteps.{after_step, next_address};
+ghost use Rattle.stun_state.specs.Addresses.{socket_address, start_for, start_told};
+ghost use Rattle.stun_state.specs.Answers.{after_address, after_start, at_start, done_if_given, text_refusal, texts_refusal, unless_refused};
+ghost use Rattle.stun_auth.specs.Registered.{with_user};
+ghost use Rattle.stun_auth.specs.Validation.{new_server};
+ghost use Rattle.stun_state.specs.Codes.{algorithms_numbered, code_of, feature_numbered};
+ghost use Rattle.stun_state.specs.Memory.{LeavesServer};
+ghost use Rattle.stun_state.specs.Numbers.{OrOutOfMemory, done_answer, found_answer, left_by, length_answer, number_answer};
+ghost use Rattle.stun_state.specs.Server as on_server;
+ghost use Rattle.stun_state.specs.Server.{UNBOUNDED, client_at, client_found, kept_after_validating, name_length_of, name_written, nonce_at, nonce_found, nonce_written, step_answer, validation_number, with_expiry, without_client, without_named};
+ghost use Rattle.stun_state.specs.Signing.{buffer_after, kept_after_signing, length_of, signed_for};
+
+use crate::address::Address;
+use crate::codes::Refusal;
+use crate::handle::server::{Server, ServerHandle};
+use crate::{answers, server};
+use std::alloc::Global;
+
+/// Fills a handle with a server of a realm.
+#[unsafe(no_mangle)]
+pub extern "C" fn stunp_server_new(alloc: Global, handle: &mut ServerHandle, realm: &[u8]) -> i64
+    ensures full { IfSome handle.old.server (λ kept. (result ≡ code_of Refusal.FullHandle)
+        × (handle.new.server ≡ Some kept)) }
+    ensures made { IfNone handle.old.server (MatchOption (text_refusal realm.now)
+        (OrOutOfMemory result None handle.new.server (pos 0)
+        (Some (record { server = new_server realm.now; most_addresses = UNBOUNDED })))
+        (λ refusal. (result ≡ code_of refusal) × (handle.new.server ≡ None))) }
+{
+    if let Some(kept) = handle.take(alloc) {
+        handle.put(alloc, kept);
+        return Refusal::FullHandle.code();
+    }
+    let server = match server::new(alloc, realm) {
+        Ok(server) => server,
+        Err(refusal) => return refusal.code(),
+    };
+    let kept = Server {
+        server,
+        most_addresses: usize::MAX,
+    };
+    match Box::new(alloc, kept) {
+        Ok(kept) => {
+            handle.put(alloc, kept);
+            0
+        }
+        Err(_) => Refusal::OutOfMemory.code(),
+    }
+}
+
+/// Which algorithms the server supports.
+#[unsafe(no_mangle)]
+pub extern "C" fn stunp_server_set_algorithms(
+    alloc: Global,
+    handle: &mut ServerHandle,
+    algorithms: u32,
+) -> i64
+    ensures empty { IfNone handle.old.server ((result ≡ code_of Refusal.EmptyHandle)
+        × (handle.new.server ≡ None)) }
+    ensures answer { IfSome handle.old.server (λ _. result ≡ done_answer
+        (done_if_given (algorithms_numbered algorithms))) }
+    ensures state { IfSome handle.old.server (λ kept. handle.new.server ≡ Some (record kept {
+      server = on_server.with_algorithms (algorithms_numbered algorithms) kept.server;
+    })) }
+{
+    let Some(mut kept) = handle.take(alloc) else {
+        return Refusal::EmptyHandle.code();
+    };
+    let answer = answers::done(server::set_algorithms(&mut kept.server, algorithms));
+    handle.put(alloc, kept);
+    answer
+}
+
+/// Whether users may be named by a hash.
+#[unsafe(no_mangle)]
+pub extern "C" fn stunp_server_set_anonymous_username(
+    alloc: Global,
+    handle: &mut ServerHandle,
+    feature: u32,
+) -> i64
+    ensures empty { IfNone handle.old.server ((result ≡ code_of Refusal.EmptyHandle)
+        × (handle.new.server ≡ None)) }
+    ensures answer { IfSome handle.old.server (λ _. result ≡ done_answer
+        (done_if_given (feature_numbered feature))) }
+    ensures state { IfSome handle.old.server (λ kept. handle.new.server ≡ Some (record kept {
+      server = on_server.with_feature (feature_numbered feature) kept.server;
+    })) }
+{
+    let Some(mut kept) = handle.take(alloc) else {
+        return Refusal::EmptyHandle.code();
+    };
+    let answer = answers::done(server::set_anonymous_username(&mut kept.server, feature));
+    handle.put(alloc, kept);
+    answer
+}
+
+/// How long a nonce lasts.
+#[unsafe(no_mangle)]
+pub extern "C" fn stunp_server_set_nonce_expiry(
+    alloc: Global,
+    handle: &mut ServerHandle,
+    nanoseconds: u64,
+) -> i64
+    ensures empty { IfNone handle.old.server ((result ≡ code_of Refusal.EmptyHandle)
+        × (handle.new.server ≡ None)) }
+    ensures answer { IfSome handle.old.server (λ _. result ≡ pos 0) }
+    ensures state { IfSome handle.old.server (λ kept. handle.new.server ≡ Some (record kept {
+      server = with_expiry nanoseconds kept.server;
+    })) }
+{
+    let Some(mut kept) = handle.take(alloc) else {
+        return Refusal::EmptyHandle.code();
+    };
+    server::set_nonce_expiry(&mut kept.server, nanoseconds);
+    handle.put(alloc, kept);
+    0
+}
+
+/// Of how many addresses something may be kept.
+#[unsafe(no_mangle)]
+pub extern "C" fn stunp_server_set_most_addresses(
+    alloc: Global,
+    handle: &mut ServerHandle,
+    most: usize,
+) -> i64
+    ensures empty { IfNone handle.old.server ((result ≡ code_of Refusal.EmptyHandle)
+        × (handle.new.server ≡ None)) }
+    ensures answer { IfSome handle.old.server (λ _. result ≡ pos 0) }
+    ensures state { IfSome handle.old.server (λ kept. handle.new.server ≡ Some (record kept {
+      most_addresses = most;
+    })) }
+{
+    let Some(mut kept) = handle.take(alloc) else {
+        return Refusal::EmptyHandle.code();
+    };
+    kept.most_addresses = most;
+    handle.put(alloc, kept);
+    0
+}
+
+/// Of how many addresses something is kept.
+#[unsafe(no_mangle)]
+pub extern "C" fn stunp_server_address_count(alloc: Global, handle: &mut ServerHandle) -> i64
+    ensures empty { IfNone handle.old.server ((result ≡ code_of Refusal.EmptyHandle)
+        × (handle.new.server ≡ None)) }
+    ensures answer { IfSome handle.old.server (λ kept. result
+        ≡ length_answer (Ok (map.len kept.server.places))) }
+    ensures same { handle.new.server ≡ handle.old.server }
+{
+    let Some(kept) = handle.take(alloc) else {
+        return Refusal::EmptyHandle.code();
+    };
+    let answer = answers::length(Ok(kept.server.address_count()));
+    handle.put(alloc, kept);
+    answer
+}
+
+/// Registers a user.
+#[unsafe(no_mangle)]
+pub extern "C" fn stunp_server_add_user(
+    alloc: Global,
+    handle: &mut ServerHandle,
+    name: &[u8],
+    password: &[u8],
+) -> i64
+    ensures empty { IfNone handle.old.server ((result ≡ code_of Refusal.EmptyHandle)
+        × (handle.new.server ≡ None)) }
+    ensures answer { IfSome handle.old.server (λ kept. MatchOption
+        (texts_refusal name.now password.now)
+        (OrOutOfMemory result handle.old.server handle.new.server (pos 0)
+        (Some (record kept {
+          server = record kept.server {
+            registered = with_user kept.server.registered
+                (record { username = name.now; password = password.now });
+          };
+        })))
+        (λ refusal. (result ≡ code_of refusal) × (handle.new.server ≡ handle.old.server))) }
+{
+    let Some(mut kept) = handle.take(alloc) else {
+        return Refusal::EmptyHandle.code();
+    };
+    let answer = answers::done(server::add_user(alloc, &mut kept.server, name, password));
+    handle.put(alloc, kept);
+    answer
+}
+
+/// Removes a user.
+#[unsafe(no_mangle)]
+pub extern "C" fn stunp_server_remove_user(
+    alloc: Global,
+    handle: &mut ServerHandle,
+    name: &[u8],
+) -> i64
+    ensures empty { IfNone handle.old.server ((result ≡ code_of Refusal.EmptyHandle)
+        × (handle.new.server ≡ None)) }
+    ensures answer { IfSome handle.old.server (λ _. result ≡ done_answer
+        (unless_refused (text_refusal name.now) (Ok tt))) }
+    ensures state { IfSome handle.old.server (λ kept. handle.new.server ≡ Some (record kept {
+      server = without_named (text_refusal name.now) kept.server name.now;
+    })) }
+{
+    let Some(mut kept) = handle.take(alloc) else {
+        return Refusal::EmptyHandle.code();
+    };
+    let answer = answers::done(server::remove_user(&mut kept.server, name));
+    handle.put(alloc, kept);
+    answer
+}
+
+/// Forgets who was validated at an address.
+#[unsafe(no_mangle)]
+pub extern "C" fn stunp_server_remove_client(
+    alloc: Global,
+    handle: &mut ServerHandle,
+    at: &Address,
+) -> i64
+    ensures empty { IfNone handle.old.server ((result ≡ code_of Refusal.EmptyHandle)
+        × (handle.new.server ≡ None)) }
+    ensures answer { IfSome handle.old.server (λ _. result ≡ done_answer
+        (done_if_given (socket_address at.now))) }
+    ensures state { IfSome handle.old.server (λ kept. handle.new.server ≡ Some (record kept {
+      server = after_address (socket_address at.now) kept.server
+          (without_client kept.server);
+    })) }
+{
+    let Some(mut kept) = handle.take(alloc) else {
+        return Refusal::EmptyHandle.code();
+    };
+    let answer = answers::done(server::remove_client(&mut kept.server, at));
+    handle.put(alloc, kept);
+    answer
+}
+
+/// Forgets all that is kept of an address.
+#[unsafe(no_mangle)]
+pub extern "C" fn stunp_server_forget(alloc: Global, handle: &mut ServerHandle, at: &Address) -> i64
+    ensures empty { IfNone handle.old.server ((result ≡ code_of Refusal.EmptyHandle)
+        × (handle.new.server ≡ None)) }
+    ensures answer { IfSome handle.old.server (λ _. result ≡ done_answer
+        (done_if_given (socket_address at.now))) }
+    ensures state { IfSome handle.old.server (λ kept. handle.new.server ≡ Some (record kept {
+      server = after_address (socket_address at.now) kept.server
+          (without_place kept.server);
+    })) }
+{
+    let Some(mut kept) = handle.take(alloc) else {
+        return Refusal::EmptyHandle.code();
+    };
+    let answer = answers::done(server::forget(&mut kept.server, at));
+    handle.put(alloc, kept);
+    answer
+}
+
+/// Forgets each address without a client whose nonce expired before a moment.
+#[unsafe(no_mangle)]
+pub extern "C" fn stunp_server_forget_expired(
+    alloc: Global,
+    handle: &mut ServerHandle,
+    now: u64,
+) -> i64
+    ensures empty { IfNone handle.old.server ((result ≡ code_of Refusal.EmptyHandle)
+        × (handle.new.server ≡ None)) }
+    ensures answer { IfSome handle.old.server (λ _. result ≡ pos 0) }
+    ensures state { IfSome handle.old.server (λ kept. handle.new.server ≡ Some (record kept {
+      server = after_forgetting kept.server now;
+    })) }
+{
+    let Some(mut kept) = handle.take(alloc) else {
+        return Refusal::EmptyHandle.code();
+    };
+    server::forget_expired(&mut kept.server, now);
+    handle.put(alloc, kept);
+    0
+}
+
+/// Forgets so at no more than a number of addresses, from one on.
+#[unsafe(no_mangle)]
+pub extern "C" fn stunp_server_forget_expired_within(
+    alloc: Global,
+    handle: &mut ServerHandle,
+    now: u64,
+    from: &mut Address,
+    most: usize,
+) -> i64
+    ensures empty { IfNone handle.old.server ((result ≡ code_of Refusal.EmptyHandle)
+        × (handle.new.server ≡ None)
+        × (from.new ≡ from.old)) }
+    ensures answer { IfSome handle.old.server (λ kept. result ≡ number_answer
+        (at_start (start_told from.old) (step_answer kept.server most))) }
+    ensures state { IfSome handle.old.server (λ kept. handle.new.server ≡ Some (record kept {
+      server = after_start (start_told from.old) kept.server
+          (λ start. after_step kept.server now start most);
+    })) }
+    ensures from { IfSome handle.old.server (λ kept. from.new
+        ≡ after_start (start_told from.old) from.old
+        (λ start. start_for (next_address kept.server start most))) }
+{
+    let Some(mut kept) = handle.take(alloc) else {
+        return Refusal::EmptyHandle.code();
+    };
+    let answer = answers::number(server::forget_expired_within(&mut kept.server, now, from, most));
+    handle.put(alloc, kept);
+    answer
+}
+
+/// Who was validated last at an address.
+#[unsafe(no_mangle)]
+pub extern "C" fn stunp_server_client(
+    alloc: Global,
+    handle: &mut ServerHandle,
+    at: &Address,
+    name: &mut [u8],
+    name_length: &mut usize,
+) -> i64
+    ensures empty { IfNone handle.old.server ((result ≡ code_of Refusal.EmptyHandle)
+        × (handle.new.server ≡ None)
+        × (name.new ≡ name.old) × (name_length.new ≡ name_length.old)) }
+    ensures answer { IfSome handle.old.server (λ kept. result ≡ found_answer
+        (client_found kept.server at.now (length name.old))) }
+    ensures name { IfSome handle.old.server (λ kept. name.new
+        ≡ after_address (socket_address at.now) name.old
+        (λ at. name_written name.old (client_at kept.server at))) }
+
+    // Also where the buffer has no room for the name.
+    ensures name_length { IfSome handle.old.server (λ kept. name_length.new
+        ≡ after_address (socket_address at.now) name_length.old
+        (λ at. name_length_of (client_at kept.server at) name_length.old)) }
+    ensures same { handle.new.server ≡ handle.old.server }
+{
+    let Some(mut kept) = handle.take(alloc) else {
+        return Refusal::EmptyHandle.code();
+    };
+    let answer = answers::found(server::client(&kept.server, at, name, name_length));
+    handle.put(alloc, kept);
+    answer
+}
+
+/// The last nonce that was made for an address.
+#[unsafe(no_mangle)]
+pub extern "C" fn stunp_server_nonce(
+    alloc: Global,
+    handle: &mut ServerHandle,
+    at: &Address,
+    nonce: &mut [u8],
+) -> i64
+    ensures empty { IfNone handle.old.server ((result ≡ code_of Refusal.EmptyHandle)
+        × (handle.new.server ≡ None)
+        × (nonce.new ≡ nonce.old)) }
+    ensures answer { IfSome handle.old.server (λ kept. result ≡ length_answer
+        (nonce_found kept.server at.now (length nonce.old))) }
+    ensures nonce { IfSome handle.old.server (λ kept. nonce.new
+        ≡ after_address (socket_address at.now) nonce.old
+        (λ at. nonce_written nonce.old (nonce_at kept.server at))) }
+    ensures same { handle.new.server ≡ handle.old.server }
+{
+    let Some(mut kept) = handle.take(alloc) else {
+        return Refusal::EmptyHandle.code();
+    };
+    let answer = answers::length(server::nonce(&kept.server, at, nonce));
+    handle.put(alloc, kept);
+    answer
+}
+
+/// Who signed a message that came from an address.
+#[unsafe(no_mangle)]
+pub extern "C" fn stunp_server_validate(
+    alloc: Global,
+    handle: &mut ServerHandle,
+    message: &[u8],
+    from: &Address,
+    now: u64,
+    words: &[u32; 16],
+) -> i64
+    ensures empty { IfNone handle.old.server ((result ≡ code_of Refusal.EmptyHandle)
+        × (handle.new.server ≡ None)) }
+
+    // The number of what the authenticator answers, and what its call leaves.
+    ensures answer { IfSome handle.old.server (λ kept. OrOutOfMemory result
+        handle.old.server handle.new.server
+        (validation_number kept message.now from.now now words.now)
+        (Some (record kept {
+          server = kept_after_validating kept message.now from.now now words.now;
+        }))) }
+
+    // Where nothing of the server changes, as where the same client is accepted again, no failed allocation is answered.
+    ensures unchanged { IfSome handle.old.server (λ kept.
+        LeavesServer kept message.now now words.now (socket_address from.now) →
+        result ≡ validation_number kept message.now from.now now words.now) }
+{
+    let Some(mut kept) = handle.take(alloc) else {
+        return Refusal::EmptyHandle.code();
+    };
+    let answer = answers::algorithm(server::validate(&mut kept, message, from, now, words));
+    handle.put(alloc, kept);
+    answer
+}
+
+/// Signs the message at the front of a buffer, which goes to an address.
+#[unsafe(no_mangle)]
+pub extern "C" fn stunp_server_sign(
+    alloc: Global,
+    handle: &mut ServerHandle,
+    buffer: &mut [u8],
+    length: usize,
+    to: &Address,
+) -> i64
+    ensures empty { IfNone handle.old.server ((result ≡ code_of Refusal.EmptyHandle)
+        × (handle.new.server ≡ None)
+        × (buffer.new ≡ buffer.old)) }
+    ensures answer { IfSome handle.old.server (λ kept. result
+        ≡ length_answer (length_of (signed_for kept.server buffer.old length to.now))) }
+    ensures written { IfSome handle.old.server (λ kept. buffer.new
+        ≡ buffer_after (signed_for kept.server buffer.old length to.now) buffer.old) }
+    ensures state { IfSome handle.old.server (λ kept. handle.new.server ≡ Some (record kept {
+      server = left_by result kept.server
+          (kept_after_signing kept.server buffer.old length to.now);
+    })) }
+{
+    let Some(mut kept) = handle.take(alloc) else {
+        return Refusal::EmptyHandle.code();
+    };
+    let answer = answers::length(server::sign(&mut kept.server, buffer, length, to));
+    handle.put(alloc, kept);
+    answer
+}
+
+/// Frees the server. The handle is empty then.
+#[unsafe(no_mangle)]
+pub extern "C" fn stunp_server_clear(alloc: Global, handle: &mut ServerHandle)
+    ensures { handle.new.server ≡ None }
+{
+    let _server = handle.take(alloc);
+}

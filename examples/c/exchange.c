@@ -93,7 +93,7 @@ int64_t ask(struct exchange *exchange, const stunp_writer *request, const struct
     return kept < 0 ? kept : tell(exchange, request, &of->peer);
 }
 
-bool is_answer(struct exchange *exchange, const struct datagram *got,
+bool is_answer(const struct exchange *exchange, const struct datagram *got,
                const stunp_header *header) {
     stunp_address asked;
     bool is_response =

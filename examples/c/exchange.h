@@ -51,7 +51,7 @@ int64_t tell(const struct exchange *exchange, const stunp_writer *message, const
 int64_t ask(struct exchange *exchange, const stunp_writer *request, const struct remote *of);
 
 /* Whether a message is a response to an outstanding request, from whom was asked. */
-bool is_answer(struct exchange *exchange, const struct datagram *got,
+bool is_answer(const struct exchange *exchange, const struct datagram *got,
                const stunp_header *header);
 
 /* Ends the request that it answers. Answers below 0 where there is no memory. */

@@ -223,8 +223,8 @@ static int64_t begin(struct session *session, const stunp_address *own, const ch
     if (answer >= 0)
         answer = stunp_client_set_algorithms(&session->client, STUNP_SHA1 | STUNP_SHA256);
     if (answer < 0) return answer;
-    return stunp_client_set_credentials(&session->client, (const uint8_t *)name, strlen(name),
-                                       (const uint8_t *)password, strlen(password));
+    return stunp_client_set_credentials(&session->client, name, strlen(name), password,
+                                        strlen(password));
 }
 
 int main(int count, char **words) {

@@ -88,7 +88,7 @@ static enum end read_response(struct asker *asker, const struct message *respons
 }
 
 /* Whether a message is a response to an outstanding request, from the address that was asked. */
-static bool is_an_answer(struct asker *asker, const struct message *message) {
+static bool is_an_answer(const struct asker *asker, const struct message *message) {
     const stunp_header *header = &message->header;
     stunp_address asked;
     return (header->message_class == STUNP_SUCCESS || header->message_class == STUNP_ERROR)
@@ -153,8 +153,8 @@ static enum end wait_and_receive(struct asker *asker) {
 static int64_t take(void *taker, const char *name, const char *password) {
     struct asker *asker = taker;
     asker->has_credentials = true;
-    return stunp_client_set_credentials(&asker->client, (const uint8_t *)name, strlen(name),
-                                       (const uint8_t *)password, strlen(password));
+    return stunp_client_set_credentials(&asker->client, name, strlen(name), password,
+                                        strlen(password));
 }
 
 static int64_t begin(struct asker *asker, const stunp_address *own, int count, char **words,

@@ -197,14 +197,13 @@ static bool serve(const struct listener *listener) {
 /* ---- Settings */
 
 static int64_t take(void *taker, const char *name, const char *password) {
-    return stunp_server_add_user(taker, (const uint8_t *)name, strlen(name),
-                                (const uint8_t *)password, strlen(password));
+    return stunp_server_add_user(taker, name, strlen(name), password, strlen(password));
 }
 
 /* The server of a realm and its users. */
 static int64_t begin(const char *realm, int count, char **words) {
     if (!make_places(settings.addresses)) return STUNP_OUT_OF_MEMORY;
-    int64_t answer = stunp_server_new(&server, (const uint8_t *)realm, strlen(realm));
+    int64_t answer = stunp_server_new(&server, realm, strlen(realm));
     if (answer >= 0 && settings.has_sha256)
         answer = stunp_server_set_algorithms(&server, STUNP_SHA1 | STUNP_SHA256);
     if (answer >= 0) answer = stunp_server_set_nonce_expiry(&server, settings.expiry);

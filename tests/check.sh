@@ -73,6 +73,7 @@ for name in arguments extra; do
     "$cc" $c99 c/$name.c $messages -o "$scratch/$name"
     passes $name "$scratch/$name"
 done
+passes refused env LIBRARIES="$system" ./refused.sh
 for name in handles hostile many worked; do
     "$cc" $c99 -Wno-conversion -I"$scratch" c/$name.c $heap $archives -o "$scratch/$name"
     passes $name "$scratch/$name"

@@ -2,7 +2,8 @@
 
 The crates `stun_c` and `stun_state` are exported as the others, but for what a caller in C keeps: a
 handle is a flag and a pointer, which `capi/src/handle.rs` has by hand. Their `extern "C"` functions
-become plain ones, and `border.rs` has those that C calls, where a slice is a pointer and a length.
+become plain ones, and `border.rs` has those that C calls, where a slice is a pointer and a length
+(`capi/src/passed.rs`).
 """
 import re
 import shutil
@@ -12,10 +13,8 @@ CRATES = ["stun_c", "stun_state"]
 PLACES = {crate: f"crate::calls::{crate}" for crate in CRATES}
 CALL = re.compile(r'((?:^///[^\n]*\n)+)^#\[unsafe\(no_mangle\)\]\npub extern "C" fn (\w+)\(([^)]*)\)(?: -> (\w+))?',
                   re.M)
-SLICES = {"&[u8]": ("*const u8", "slice::from_raw_parts"),
-          "&mut [u8]": ("*mut u8", "slice::from_raw_parts_mut"),
-          "&[u16]": ("*const u16", "slice::from_raw_parts"),
-          "&mut [u16]": ("*mut u16", "slice::from_raw_parts_mut")}
+SLICES = {"&[u8]": ("*const u8", "read"), "&mut [u8]": ("*mut u8", "written"),
+          "&[u16]": ("*const u16", "read"), "&mut [u16]": ("*mut u16", "written")}
 
 
 def border_of(text, module):
@@ -52,7 +51,7 @@ def write(out, exported, places, root):
               "use super::stun_state::agent::{Statistics, Timeouts};\n"
               "use super::{stun_c, stun_state};\nuse crate::handle::agent::AgentHandle;\n"
               "use crate::handle::client::ClientHandle;\nuse crate::handle::server::ServerHandle;\n"
-              "use crate::kit::alloc::Global;\nuse core::slice;\n\n")
+              "use crate::kit::alloc::Global;\nuse crate::passed::{read, written};\n\n")
     for crate in CRATES:
         source = root / "crates" / crate / "src"
         for path in sorted(source.rglob("*.rt")):

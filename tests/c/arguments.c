@@ -45,7 +45,7 @@ static void reads(void) {
 static void walks(void) {
     const size_t whole = sizeof response - 1;
     stunp_cursor outside[] = {{1, 0}, {19, 0}, {whole + 1, 0}, {SIZE_MAX, 9}}, inside[] = {{whole, 0}, {20, 3}, {20, UINT32_MAX}};
-    stunp_header header = {7, 7, 7, {7}};
+    stunp_header header = {STUNP_ERROR, 7, 7, {7}};
     uint16_t type = 7;
     size_t length = 7;
     for (size_t i = 0; i < sizeof outside / sizeof *outside; i++) {
@@ -61,7 +61,7 @@ static void walks(void) {
     CHECK(stunp_find(BYTES(response), STUNP_FINGERPRINT, &length), 84);
     CHECK((int64_t)length, 4);
     CHECK(stunp_read_header((const uint8_t *)response, 19, &header), STUNP_TRUNCATED);
-    CHECK(header.message_class == 7 && header.method == 7 && header.length == 7 && header.id[0] == 7, 1);
+    CHECK(header.message_class == STUNP_ERROR && header.method == 7 && header.length == 7 && header.id[0] == 7, 1);
     CHECK(stunp_read_header((const uint8_t *)response, 20, &header), 0);
     CHECK(header.message_class == STUNP_SUCCESS && header.method == STUNP_BINDING && header.length == whole, 1);
     CHECK(memcmp(header.id, response_id, 12), 0);
@@ -70,11 +70,10 @@ static void walks(void) {
 static void writes(void) {
     uint8_t out[100], reason[764];
     memset(reason, 'a', sizeof reason);
-    CHECK(stunp_begin(4, 1, response_id, 12, out, 100), STUNP_BAD_ARGUMENT);
-    CHECK(stunp_begin(0, 4096, response_id, 12, out, 100), STUNP_BAD_ARGUMENT);
-    CHECK(stunp_begin(0, 1, response_id, 11, out, 100), STUNP_BAD_ARGUMENT);
-    CHECK(stunp_begin(0, 1, response_id, 11, out, 19), STUNP_BAD_ARGUMENT);
-    CHECK(stunp_begin(0, 1, response_id, 12, out, 19), STUNP_BUFFER_TOO_SMALL);
+    CHECK(stunp_begin(STUNP_REQUEST, 4096, response_id, 12, out, 100), STUNP_BAD_ARGUMENT);
+    CHECK(stunp_begin(STUNP_REQUEST, 1, response_id, 11, out, 100), STUNP_BAD_ARGUMENT);
+    CHECK(stunp_begin(STUNP_REQUEST, 1, response_id, 11, out, 19), STUNP_BAD_ARGUMENT);
+    CHECK(stunp_begin(STUNP_REQUEST, 1, response_id, 12, out, 19), STUNP_BUFFER_TOO_SMALL);
     CHECK(stunp_begin(STUNP_INDICATION, 1, response_id, 12, out, 20), 20);
     CHECK(stunp_add(out, 100, 101, STUNP_SOFTWARE, BYTES("a")), STUNP_BAD_ARGUMENT);
     CHECK(stunp_add(out, 100, 19, 65536, BYTES("a")), STUNP_BAD_ARGUMENT);
@@ -89,7 +88,6 @@ static void writes(void) {
     reason[0] = 0xff;
     CHECK(stunp_add_error(out, 100, 28, 299, reason, 764), STUNP_BAD_ARGUMENT);
     CHECK(stunp_add_error(out, 100, 28, 300, reason, 764), STUNP_NOT_TEXT);
-    CHECK(stunp_sign(out, 100, 28, 3, response_id, 12), STUNP_BAD_ARGUMENT);
     CHECK(stunp_sign(out, 51, 28, STUNP_SHA1, response_id, 12), STUNP_BUFFER_TOO_SMALL);
     CHECK(stunp_sign(out, 64, 28, STUNP_SHA256, response_id, 12), 64);
     CHECK(stunp_verify(out, 64, response_id, 12), STUNP_SHA256);
@@ -105,7 +103,6 @@ static void writes_keys(void) {
     out[32] = 0xa5;
     CHECK(stunp_long_term_key(STUNP_SHA256, BYTES(user_name), BYTES("example.org"), BYTES("TheMatrIX"), out, sizeof out),
           STUNP_SHA256_KEY_LENGTH);
-    CHECK(stunp_long_term_key(3, BYTES("\xff"), BYTES(""), BYTES(""), out, 0), STUNP_BAD_ARGUMENT);
     CHECK(stunp_long_term_key(STUNP_SHA256, BYTES(user_name), BYTES(""), BYTES("\xff"), out, 0), STUNP_NOT_TEXT);
     CHECK(stunp_long_term_key(STUNP_SHA256, BYTES(user_name), BYTES(""), BYTES("TheMatrIX"), out, 31), STUNP_BUFFER_TOO_SMALL);
     CHECK(stunp_long_term_key(STUNP_SHA1, BYTES(user_name), BYTES(""), BYTES("TheMatrIX"), out, 15), STUNP_BUFFER_TOO_SMALL);
@@ -128,35 +125,145 @@ static void builds(void) {
     name[513] = 0xff;
     CHECK(stunp_build_signed(STUNP_SHA256, id, 12, name, 514, BYTES("key"), out, 0), STUNP_NOT_TEXT);
     CHECK(stunp_build_signed(STUNP_SHA256, id, 11, name, 514, BYTES("key"), out, 0), STUNP_BAD_ARGUMENT);
-    CHECK(stunp_build_signed(0, id, 12, name, 514, BYTES("key"), out, 0), STUNP_BAD_ARGUMENT);
-    CHECK(stunp_build_signed(3, id, 12, name, 514, BYTES("key"), out, 0), STUNP_BAD_ARGUMENT);
     CHECK(stunp_verify(out, sizeof out, BYTES("key")), STUNP_SHA256);
     CHECK(stunp_build_signed(STUNP_SHA1, id, 12, name, 0, name, 0, out, 48), 48);
     CHECK(stunp_verify(out, 48, name, 0), STUNP_SHA1);
 }
 
+/* Numbers that are none of their enum, which C++ does not let pass. */
+static void refuses_numbers(void) {
+#ifndef __cplusplus
+    uint8_t out[64];
+    CHECK(stunp_begin(STUNP_REQUEST, 1, response_id, 12, out, 64), 20);
+    CHECK(stunp_begin(4, 1, response_id, 12, out, 64), STUNP_BAD_ARGUMENT);
+    CHECK(stunp_begin(UINT32_MAX, 1, response_id, 12, out, 64), STUNP_BAD_ARGUMENT);
+    CHECK(stunp_sign(out, 64, 20, 0, response_id, 12), STUNP_BAD_ARGUMENT);
+    CHECK(stunp_sign(out, 64, 20, 3, response_id, 12), STUNP_BAD_ARGUMENT);
+    CHECK(stunp_sign(out, 64, 65, 3, response_id, 12), STUNP_BAD_ARGUMENT);
+    CHECK(stunp_long_term_key(3, "\xff", 1, "", 0, "", 0, out, 0), STUNP_BAD_ARGUMENT);
+    CHECK(stunp_build_signed(0, response_id, 12, "\xff", 1, "", 0, out, 0), STUNP_BAD_ARGUMENT);
+    CHECK(stunp_build_signed(3, response_id, 12, "\xff", 1, "", 0, out, 0), STUNP_BAD_ARGUMENT);
+    CHECK(stunp_parse(out, 20), 0);
+#endif
+}
+
+/* A null pointer whose length is 0 is nothing to read, or no room. */
+static void reads_nothing(void) {
+    stunp_header header;
+    stunp_cursor cursor = {0, 0};
+    uint8_t octets[16], id[12];
+    uint16_t port, type;
+    uint64_t number;
+    size_t length;
+    CHECK(stunp_parse(NULL, 0), STUNP_TRUNCATED);
+    CHECK(stunp_read_header(NULL, 0, &header), STUNP_TRUNCATED);
+    CHECK(stunp_class(NULL, 0), STUNP_TRUNCATED);
+    CHECK(stunp_method(NULL, 0), STUNP_TRUNCATED);
+    CHECK(stunp_id(NULL, 0, id, 12), STUNP_TRUNCATED);
+    CHECK(stunp_id(BYTES(response), NULL, 0), STUNP_BUFFER_TOO_SMALL);
+    CHECK(stunp_find(NULL, 0, STUNP_SOFTWARE, &length), STUNP_TRUNCATED);
+    CHECK(stunp_walk(NULL, 0, &cursor, &type, &length), STUNP_TRUNCATED);
+    CHECK(stunp_next(NULL, 0, 0, &type, &length), STUNP_TRUNCATED);
+    CHECK(stunp_read_text(NULL, 0, 20, &length), STUNP_BAD_ARGUMENT);
+    CHECK(stunp_read_number(NULL, 0, 20, &number), STUNP_BAD_ARGUMENT);
+    CHECK(stunp_read_address(NULL, 0, 20, octets, 16, &port), STUNP_BAD_ARGUMENT);
+    CHECK(stunp_read_xor_address(NULL, 0, 20, octets, 16, &port), STUNP_BAD_ARGUMENT);
+    CHECK(stunp_read_xor_address(BYTES(response), 36, NULL, 0, &port), STUNP_BUFFER_TOO_SMALL);
+    CHECK(stunp_read_types(NULL, 0, 20, NULL, 0), STUNP_BAD_ARGUMENT);
+    CHECK(stunp_error_code(NULL, 0), STUNP_TRUNCATED);
+    CHECK(stunp_xor_mapped_address(NULL, 0, octets, 16, &port), STUNP_TRUNCATED);
+    CHECK(stunp_xor_mapped_address(BYTES(response), NULL, 0, &port), STUNP_BUFFER_TOO_SMALL);
+    CHECK(stunp_verify(NULL, 0, "a", 1), STUNP_TRUNCATED);
+    CHECK(stunp_verify(BYTES(response), NULL, 0), STUNP_INTEGRITY_FAILED);
+    CHECK(stunp_check_fingerprint(NULL, 0), STUNP_TRUNCATED);
+    CHECK(stunp_unknown_types(NULL, 0, NULL, 0, NULL, 0), STUNP_TRUNCATED);
+    CHECK(stunp_unknown_types(BYTES(response), NULL, 0, NULL, 0), 2);
+    CHECK(stunp_is_stun(NULL, 0), 0);
+    CHECK(stunp_next_frame(NULL, 0), 20);
+    CHECK(stunp_next_packet_frame(NULL, 0), 2);
+    CHECK(stunp_next_turn_frame(NULL, 0), 4);
+}
+
+static void writes_nothing(void) {
+    uint8_t out[128];
+    CHECK(stunp_begin(STUNP_REQUEST, 1, NULL, 0, out, 128), STUNP_BAD_ARGUMENT);
+    CHECK(stunp_begin(STUNP_REQUEST, 1, response_id, 12, NULL, 0), STUNP_BUFFER_TOO_SMALL);
+    CHECK(stunp_begin(STUNP_REQUEST, 1, response_id, 12, out, 128), 20);
+    CHECK(stunp_refuse_unknown(NULL, 0, NULL, 0, NULL, 0), STUNP_TRUNCATED);
+    CHECK(stunp_refuse_unknown(out, 20, NULL, 0, NULL, 0), 0);
+    CHECK(stunp_add(NULL, 0, 0, STUNP_SOFTWARE, "a", 1), STUNP_TRUNCATED);
+    CHECK(stunp_add(out, 128, 20, STUNP_USE_CANDIDATE, NULL, 0), 24);
+    CHECK(stunp_add_number(NULL, 0, 0, STUNP_PRIORITY, 1, 4), STUNP_TRUNCATED);
+    CHECK(stunp_add_address(out, 128, 24, STUNP_MAPPED_ADDRESS, NULL, 0, 1), STUNP_BAD_ARGUMENT);
+    CHECK(stunp_add_address(NULL, 0, 0, STUNP_MAPPED_ADDRESS, peer, 16, 1), STUNP_TRUNCATED);
+    CHECK(stunp_add_xor_address(NULL, 0, 0, STUNP_XOR_PEER_ADDRESS, NULL, 0, 1),
+          STUNP_BAD_ARGUMENT);
+    CHECK(stunp_add_xor_mapped_address(NULL, 0, 0, NULL, 0, 1), STUNP_BAD_ARGUMENT);
+    CHECK(stunp_add_error(NULL, 0, 0, 400, NULL, 0), STUNP_TRUNCATED);
+    CHECK(stunp_add_error(out, 128, 24, 400, NULL, 0), 32);
+    CHECK(stunp_sign(NULL, 0, 0, STUNP_SHA1, NULL, 0), STUNP_TRUNCATED);
+    CHECK(stunp_sign(out, 128, 32, STUNP_SHA1, NULL, 0), 56);
+    CHECK(stunp_verify(out, 56, NULL, 0), STUNP_SHA1);
+    CHECK(stunp_add_fingerprint(NULL, 0, 0), STUNP_TRUNCATED);
+    CHECK(stunp_build_signed(STUNP_SHA1, response_id, 12, NULL, 0, NULL, 0, NULL, 0),
+          STUNP_BUFFER_TOO_SMALL);
+    CHECK(stunp_build_signed(STUNP_SHA1, response_id, 12, NULL, 0, NULL, 0, out, 128), 48);
+    CHECK(stunp_build_signed(STUNP_SHA1, NULL, 0, NULL, 0, NULL, 0, out, 128), STUNP_BAD_ARGUMENT);
+    CHECK(stunp_long_term_key(STUNP_SHA1, NULL, 0, NULL, 0, NULL, 0, NULL, 0),
+          STUNP_BUFFER_TOO_SMALL);
+    CHECK(stunp_long_term_key(STUNP_SHA1, NULL, 0, NULL, 0, NULL, 0, out, 128), 16);
+    CHECK(stunp_userhash(NULL, 0, NULL, 0, NULL, 0), STUNP_BUFFER_TOO_SMALL);
+    CHECK(stunp_userhash(NULL, 0, NULL, 0, out, 128), 32);
+    CHECK(stunp_error_text(0, NULL, 0), STUNP_BUFFER_TOO_SMALL);
+}
+
+/* The text of the archive is that of the header, in any buffer that has room for it. */
+static void tells_the_same(int64_t answer) {
+    uint8_t text[STUNP_LONGEST_ERROR_TEXT + 1];
+    const char *wanted = stunp_strerror(answer);
+    const size_t whole = strlen(wanted) + 1;
+    CHECK(whole <= STUNP_LONGEST_ERROR_TEXT, 1);
+    memset(text, 0xa5, sizeof text);
+    CHECK(stunp_error_text(answer, text, whole - 1), STUNP_BUFFER_TOO_SMALL);
+    CHECK(text[0], 0xa5);
+    CHECK(stunp_error_text(answer, text, sizeof text), (int64_t)whole);
+    CHECK(memcmp(text, wanted, whole), 0);
+    CHECK(text[whole], 0xa5);
+    CHECK(stunp_error_text(answer, text, whole), (int64_t)whole);
+}
+
 /* Each refusal has a text of its own, and no other number has one of these. */
 static void tells(void) {
-    for (int64_t i = STUNP_NO_WAIT; i < 0; i++) {
-        CHECK(strcmp(stunp_strerror(i), "no error") == 0 || strcmp(stunp_strerror(i), "unknown refusal") == 0, 0);
-        for (int64_t j = STUNP_NO_WAIT; j < i; j++) CHECK(strcmp(stunp_strerror(i), stunp_strerror(j)) == 0, 0);
+    const int64_t last = STUNP_TOO_MANY_ADDRESSES;
+    for (int64_t i = last; i < 0; i++) {
+        CHECK(strcmp(stunp_strerror(i), "no error") == 0, 0);
+        CHECK(strcmp(stunp_strerror(i), "unknown refusal") == 0, 0);
+        for (int64_t j = last; j < i; j++)
+            CHECK(strcmp(stunp_strerror(i), stunp_strerror(j)) == 0, 0);
     }
     CHECK(strcmp(stunp_strerror(STUNP_TRUNCATED), "bytes are missing at the end"), 0);
-    CHECK(strcmp(stunp_strerror(STUNP_UNSUPPORTED_FEATURE), "a required feature is not supported"), 0);
-    CHECK(strcmp(stunp_strerror(STUNP_NO_WAIT), "a request would be sent again without a wait"), 0);
-    CHECK(strcmp(stunp_strerror(STUNP_NO_WAIT - 1), "unknown refusal"), 0);
-    CHECK(strcmp(stunp_strerror(INT64_MIN), "unknown refusal"), 0);
+    CHECK(strcmp(stunp_strerror(STUNP_UNSUPPORTED_FEATURE), "a required feature is not supported"),
+          0);
+    CHECK(strcmp(stunp_strerror(last), "as many addresses are kept as may be"), 0);
+    CHECK(strcmp(stunp_strerror(last - 1), "unknown refusal"), 0);
     CHECK(strcmp(stunp_strerror(0), "no error"), 0);
-    CHECK(strcmp(stunp_strerror(INT64_MAX), "no error"), 0);
+    for (int64_t i = -1000; i < 1000; i++) tells_the_same(i);
+    tells_the_same(INT64_MIN);
+    tells_the_same(INT64_MIN + 1);
+    tells_the_same(INT64_MAX);
 }
 
 int main(void) {
     CHECK(stunp_version(), STUNP_VERSION);
+    CHECK(stunp_release_0_2(), STUNP_VERSION);
     reads();
     walks();
     writes();
     writes_keys();
     builds();
+    refuses_numbers();
+    reads_nothing();
+    writes_nothing();
     tells();
     puts("arguments: passed");
     return 0;

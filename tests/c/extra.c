@@ -1,5 +1,5 @@
-/* FINGERPRINT, types that are not known, streams of messages, addresses and numbers: what the calls answer to the samples of
- * RFC 5769, to each of their bits changed, to messages with many types, and to streams in any pieces.
+/* FINGERPRINT, types that are not known, streams of messages, addresses, numbers, texts and a writer: what the calls answer to
+ * the samples of RFC 5769, to each of their bits changed, to messages with many types, and to streams in any pieces.
  *
  * The samples are typed from RFC 5769; what is wanted is counted, spelled or summed here, and does not come from the library. */
 #include "stunp.h"
@@ -178,8 +178,8 @@ static void refuses_types(void) {
     CHECK(stunp_refuse_unknown(large, length - 1, known, 256, out, 0), STUNP_TRUNCATED);
     CHECK(stunp_refuse_unknown(large, length, known, 256, out, 0), 0);
     CHECK(stunp_refuse_unknown(large, length, known, 0, out, 0), STUNP_BUFFER_TOO_SMALL);
-    for (uint32_t kind = STUNP_INDICATION; kind <= STUNP_ERROR; kind++) {
-        CHECK(stunp_begin(kind, STUNP_BINDING, id, 12, out, 20), 20);
+    for (int kind = STUNP_INDICATION; kind <= STUNP_ERROR; kind++) {
+        CHECK(stunp_begin((stunp_message_class)kind, STUNP_BINDING, id, 12, out, 20), 20);
         CHECK(stunp_refuse_unknown(out, 20, known, 0, large, 0), STUNP_BAD_ARGUMENT);
     }
 }
@@ -476,6 +476,162 @@ static void refuses_numbers(void) {
     CHECK(stunp_add_number(out, 64, 36, STUNP_LIFETIME, 1, 4), STUNP_CLOSED);
 }
 
+/* ---- Texts and types, and each read by its type. */
+
+static void reads_texts(void) {
+    static const char name[] = "\xe3\x83\x9e\xe3\x83\x88\xe3\x83\xaa\xe3\x83\x83\xe3\x82\xaf\xe3\x82\xb9";
+    size_t length = 7;
+    CHECK(stunp_find_text(BYTES(request), STUNP_SOFTWARE, &length), 24);
+    CHECK(length == 16 && memcmp(request + 24, "STUN test client", 16) == 0, 1);
+    CHECK(stunp_read_text(BYTES(request), 20, &length), 24);
+    int64_t begin = stunp_find_text(BYTES(long_term), STUNP_USERNAME, &length);
+    CHECK(begin, 24);
+    CHECK(length == 18 && memcmp(long_term + begin, name, 18) == 0, 1);
+    begin = stunp_find_text(BYTES(long_term), STUNP_REALM, &length);
+    CHECK(length == 11 && memcmp(long_term + begin, "example.org", 11) == 0, 1);
+    length = 7;
+    CHECK(stunp_find_text(BYTES(request), 65536, &length), STUNP_BAD_ARGUMENT);
+    CHECK(stunp_find_text(BYTES(request), STUNP_REALM, &length), STUNP_MISSING_ATTRIBUTE);
+    CHECK(stunp_find_text((const uint8_t *)request, 19, STUNP_REALM, &length), STUNP_TRUNCATED);
+    for (size_t place = 0; place < 20; place++)
+        CHECK(stunp_read_text(BYTES(request), place, &length), STUNP_BAD_ARGUMENT);
+    for (size_t there = 0; there < 40; there++)
+        CHECK(stunp_read_text((const uint8_t *)request, there, 20, &length), STUNP_BAD_ARGUMENT);
+    CHECK(stunp_read_text(BYTES(request), sizeof request - 1, &length), STUNP_BAD_ARGUMENT);
+    CHECK(stunp_read_text(BYTES(request), SIZE_MAX, &length), STUNP_BAD_ARGUMENT);
+    CHECK(stunp_find_text(BYTES(request), STUNP_ICE_CONTROLLED, &length), STUNP_NOT_TEXT);
+    CHECK((int64_t)length, 7);
+    CHECK(stunp_begin(STUNP_REQUEST, STUNP_BINDING, id, 12, out, 24), 20);
+    CHECK(stunp_add(out, 24, 20, STUNP_NONCE, "", 0), 24);
+    CHECK(stunp_read_text(out, 24, 20, &length), 24);
+    CHECK((int64_t)length, 0);
+}
+
+static void reads_types(void) {
+    static const uint16_t known[] = {STUNP_USERNAME};
+    uint16_t types[4] = {7, 7, 7, 7};
+    size_t length = (size_t)stunp_refuse_unknown(BYTES(request), known, 0, out, sizeof out);
+    CHECK(stunp_find_types(out, length, STUNP_UNKNOWN_ATTRIBUTES, types, 4), 3);
+    CHECK(types[0] == STUNP_PRIORITY && types[1] == STUNP_USERNAME, 1);
+    CHECK(types[2] == STUNP_MESSAGE_INTEGRITY && types[3] == 7, 1);
+    types[0] = types[1] = types[2] = 7;
+    CHECK(stunp_read_types(out, length, 48, types, 2), 3);
+    CHECK(types[0] == STUNP_PRIORITY && types[1] == STUNP_USERNAME && types[2] == 7, 1);
+    CHECK(stunp_read_types(out, length, 48, NULL, 0), 3);
+    CHECK(stunp_find_types(out, length, STUNP_USERNAME, types, 4), STUNP_MISSING_ATTRIBUTE);
+    /* Any type; an odd number of bytes; none; as many as an attribute holds. */
+    CHECK(stunp_find_types(BYTES(request), STUNP_PRIORITY, types, 4), 2);
+    CHECK(types[0] == 0x6e00 && types[1] == 0x01ff, 1);
+    CHECK(stunp_find_types(BYTES(request), STUNP_USERNAME, types, 4), STUNP_MALFORMED_ATTRIBUTE);
+    for (size_t place = 0; place < 20; place++)
+        CHECK(stunp_read_types(BYTES(request), place, types, 4), STUNP_BAD_ARGUMENT);
+    for (size_t there = 0; there < 40; there++)
+        CHECK(stunp_read_types((const uint8_t *)request, there, 20, types, 4), STUNP_BAD_ARGUMENT);
+    CHECK(types[0] == 0x6e00 && types[1] == 0x01ff && types[2] == 7, 1);
+    CHECK(stunp_begin(STUNP_ERROR, STUNP_BINDING, id, 12, out, 24), 20);
+    CHECK(stunp_add(out, 24, 20, STUNP_UNKNOWN_ATTRIBUTES, "", 0), 24);
+    CHECK(stunp_read_types(out, 24, 20, types, 4), 0);
+    CHECK(types[0], 0x6e00);
+    static uint16_t all[32764];
+    memset(large, 0x80, 65528);
+    CHECK(stunp_begin(STUNP_ERROR, STUNP_BINDING, id, 12, out, 20), 20);
+    CHECK(stunp_add(out, 65552, 20, STUNP_UNKNOWN_ATTRIBUTES, large, 65528), 65552);
+    CHECK(stunp_read_types(out, 65552, 20, all, COUNT(all)), 32764);
+    for (size_t i = 0; i < COUNT(all); i++) CHECK(all[i], 0x8080);
+}
+
+static void reads_by_type(void) {
+    uint8_t octets[16];
+    uint16_t port = 7;
+    uint64_t number = 7;
+    CHECK(stunp_find_number(BYTES(request), STUNP_PRIORITY, &number), 4);
+    CHECK(number == 0x6e0001ff, 1);
+    CHECK(stunp_find_number(BYTES(request), STUNP_SOFTWARE, &number), STUNP_MALFORMED_ATTRIBUTE);
+    CHECK(stunp_find_number(BYTES(request), STUNP_LIFETIME, &number), STUNP_MISSING_ATTRIBUTE);
+    CHECK(stunp_find_xor_address(BYTES(response), STUNP_XOR_MAPPED_ADDRESS, octets, 16, &port), 4);
+    CHECK(port == 32853 && memcmp(octets, peer_4, 4) == 0, 1);
+    CHECK(stunp_find_xor_address(BYTES(response_6), STUNP_XOR_MAPPED_ADDRESS, octets, 16, &port),
+          16);
+    CHECK(memcmp(octets, peer_6, 16), 0);
+    CHECK(stunp_find_xor_address(BYTES(response), STUNP_XOR_PEER_ADDRESS, octets, 16, &port),
+          STUNP_MISSING_ATTRIBUTE);
+    CHECK(stunp_find_address(BYTES(response), STUNP_XOR_MAPPED_ADDRESS, octets, 16, &port), 4);
+    CHECK(port, 0xa147);
+    CHECK(stunp_find_address(BYTES(response), STUNP_MAPPED_ADDRESS, octets, 16, &port),
+          STUNP_MISSING_ATTRIBUTE);
+}
+
+/* ---- A writer: what the single calls write, and the first refusal. */
+
+/* The samples again, but for the bytes that pad theirs. */
+static void writes_samples(void) {
+    stunp_writer writer = stunp_write(STUNP_REQUEST, STUNP_BINDING, id, out, 108);
+    stunp_write_text(&writer, STUNP_SOFTWARE, "STUN test client");
+    stunp_write_number(&writer, STUNP_PRIORITY, 0x6e0001ff, 4);
+    stunp_write_number(&writer, STUNP_ICE_CONTROLLED, 0x932ff9b151263b36, 8);
+    stunp_write_text(&writer, STUNP_USERNAME, "evtj:h6vY");
+    stunp_write_integrity(&writer, STUNP_SHA1, password, sizeof password - 1);
+    stunp_write_fingerprint(&writer);
+    CHECK(stunp_written(&writer), 0);
+    CHECK((int64_t)writer.length, 108);
+    CHECK(memcmp(out + 4, request + 4, 69), 0);
+    CHECK(stunp_verify(out, 108, password, sizeof password - 1), STUNP_SHA1);
+    CHECK(stunp_check_fingerprint(out, 108), STUNP_RIGHT_FINGERPRINT);
+
+    stunp_writer answer = stunp_write(STUNP_SUCCESS, STUNP_BINDING, id, out, sizeof out);
+    stunp_write_bytes(&answer, STUNP_SOFTWARE, "test vector", 11);
+    stunp_write_xor_address(&answer, STUNP_XOR_MAPPED_ADDRESS, peer_6, 16, 32853);
+    CHECK(stunp_written(&answer), 0);
+    CHECK((int64_t)answer.length, 60);
+    CHECK(memcmp(out + 4, response_6 + 4, 31), 0);
+    CHECK(memcmp(out + 36, response_6 + 36, 24), 0);
+    stunp_write_address(&answer, STUNP_MAPPED_ADDRESS, peer_4, 4, 32853);
+    stunp_write_error(&answer, 487, "Role Conflict");
+    CHECK(stunp_written(&answer), 0);
+    CHECK(memcmp(out + 60, "\x00\x01\x00\x08\x00\x01\x80\x55\xc0\x00\x02\x01", 12), 0);
+    CHECK(memcmp(out + 72, "\x00\x09\x00\x11\x00\x00\x04\x57Role Conflict\0\0\0", 24), 0);
+    CHECK((int64_t)answer.length, 96);
+}
+
+/* Each call after one that fails does nothing, and the first refusal stays. */
+static void keeps_the_first_refusal(void) {
+    stunp_writer writer = stunp_write(STUNP_REQUEST, STUNP_BINDING, id, out, 32);
+    stunp_write_text(&writer, STUNP_USERNAME, "u");
+    memcpy(before, out, 32);
+    stunp_write_text(&writer, STUNP_REALM, "realm");
+    CHECK(stunp_written(&writer), STUNP_BUFFER_TOO_SMALL);
+    stunp_write_bytes(&writer, STUNP_USE_CANDIDATE, NULL, 0);
+    stunp_write_text(&writer, STUNP_USERNAME, "again");
+    stunp_write_number(&writer, STUNP_PRIORITY, 1, 3);
+    stunp_write_address(&writer, STUNP_MAPPED_ADDRESS, peer_4, 3, 1);
+    stunp_write_xor_address(&writer, STUNP_XOR_PEER_ADDRESS, peer_4, 3, 1);
+    stunp_write_error(&writer, 299, "");
+    stunp_write_integrity(&writer, STUNP_SHA1, "", 0);
+    stunp_write_fingerprint(&writer);
+    CHECK(stunp_written(&writer), STUNP_BUFFER_TOO_SMALL);
+    CHECK((int64_t)writer.length, 28);
+    CHECK(memcmp(out, before, 32), 0);
+    writer = stunp_write(STUNP_REQUEST, 4096, id, out, 32);
+    stunp_write_fingerprint(&writer);
+    CHECK(stunp_written(&writer), STUNP_BAD_ARGUMENT);
+    CHECK((int64_t)writer.length, 0);
+    CHECK(memcmp(out, before, 32), 0);
+}
+
+/* It goes on with what another call wrote, or keeps why that failed. */
+static void writes_on(void) {
+    static const uint16_t known[257] = {STUNP_USERNAME};
+    stunp_writer writer = stunp_write_on(
+        stunp_refuse_unknown(BYTES(request), known, 1, out, sizeof out), out, sizeof out);
+    stunp_write_fingerprint(&writer);
+    CHECK(stunp_written(&writer), 0);
+    CHECK((int64_t)writer.length, 64);
+    CHECK(stunp_check_fingerprint(out, 64), STUNP_RIGHT_FINGERPRINT);
+    writer = stunp_write_on(stunp_refuse_unknown(BYTES(request), known, 257, out, 64), out, 64);
+    stunp_write_fingerprint(&writer);
+    CHECK(stunp_written(&writer), STUNP_BAD_ARGUMENT);
+}
+
 int main(void) {
     checks_samples();
     notices_each_bit();
@@ -494,6 +650,12 @@ int main(void) {
     reads_samples();
     sizes();
     refuses_numbers();
+    reads_texts();
+    reads_types();
+    reads_by_type();
+    writes_samples();
+    keeps_the_first_refusal();
+    writes_on();
     puts("extra: passed");
     return 0;
 }

@@ -1,5 +1,6 @@
 mod Appended
 mod Ending
+mod ErrorTexts
 mod Lengths
 mod Members
 mod Refused

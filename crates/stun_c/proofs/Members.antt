@@ -1,9 +1,11 @@
 -- The first attribute of a type as it is read, and where the attributes after a place are.
-use Rattle.std.proofs.Common.{◌≡◌, ◌≤◌, ℕ, true, List, length, drop, arith}
-use Rattle.std.specs.Prelude.{nat_lt, IfSome, MatchOption, Option, Some, None, Result, Err}
+use Rattle.std.proofs.Common.{◌≡◌, ◌∙◌, ◌≤◌, ◌+◌, ℕ, Bool, true, false, List, length, take, drop, sym, ap, arith, rules}
+use Rattle.std.specs.Prelude.{nat_lt, not, ◌||◌, if◌then◌else◌, IfSome, IfOk, MatchOption, Option, Some, None, Result, Ok, Err}
+use Rattle.std.proofs.lemmas.List.{drop-drop, length-take, take_min}
+use Rattle.stun_base.specs.Header.{HEADER_LENGTH}
 use Rattle.stun_base.specs.declared.error.StunParseError.{StunParseError}
 use Rattle.stun_base.specs.declared.error.StunParseError.TheVariants.{MissingAttribute}
-use Rattle.stun_types.specs.Attribute.{TypedValue, has_attribute}
+use Rattle.stun_types.specs.Attribute.{TypedValue, has_attribute, value_length_field}
 use Rattle.stun_types.specs.Reading.{attribute_answer}
 use Rattle.stun_types.specs.Integrity.{first_of}
 use Rattle.stun_types.specs.Visible.{visible}
@@ -11,7 +13,9 @@ use Rattle.stun_types.specs.Walk.{Member}
 use Rattle.stun_types.specs.code.Walk.{IsWithin}
 use Rattle.stun_types.proofs.IntegrityLemmas.{IfSome-find, first_of-within, visible-within}
 use Rattle.stun_types.proofs.WalkLemmas.{whole_within}
-use Rattle.stun_c.specs.Reading.{next_member, read_member}
+use Rattle.stun_c.specs.declared.codes.Refusal.{Refusal}
+use Rattle.stun_c.specs.declared.codes.Refusal.TheVariants.{BadArgument}
+use Rattle.stun_c.specs.Reading.{next_member, read_member, value_at}
 
 -- what reading answers of a member that may be there
 pub read_member-is : {A : Type 0} (kind : ℕ) (reading : TypedValue → Option A) (found : Option Member) (answer : Result A StunParseError)
@@ -36,3 +40,20 @@ first-within kind bytes = place-within bytes (first_of kind (visible bytes)) (fi
 -- a whole attribute after a header has the header before it
 pub header_before : (place : ℕ) (bytes : List ℕ) → 20 ≤ place → has_attribute (drop place bytes) ≡ true → 20 ≤ length bytes
 header_before place bytes behind whole = omega (arith, behind, whole_within place bytes whole)
+
+-- what is taken of bytes is at their front
+at_front : (n : ℕ) (bytes : List ℕ) → take (length (take n bytes)) bytes ≡ take n bytes
+at_front n bytes = ap (λ k. take k bytes) (length-take n bytes) ∙ take_min n bytes
+
+-- a value is where it is taken
+taken_there : (refused : Bool) (n place : ℕ) (bytes : List ℕ)
+    → IfOk {T = List ℕ} {E = Refusal} (if refused then Err BadArgument else Ok (take n (drop 4 (drop place bytes))))
+    (λ value. take (length value) (drop (place + 4) bytes) ≡ value)
+taken_there true n place bytes = search rules
+taken_there false n place bytes =
+    let value = take n (drop 4 (drop place bytes)) in
+    ap (take (length value)) (sym (drop-drop 4 place bytes)) ∙ at_front n (drop 4 (drop place bytes))
+
+pub value_there : (bytes : List ℕ) (place : ℕ) → IfOk (value_at bytes place) (λ value. take (length value) (drop (place + 4) bytes) ≡ value)
+value_there bytes place =
+    taken_there (nat_lt place HEADER_LENGTH || not (has_attribute (drop place bytes))) (value_length_field (drop place bytes)) place bytes

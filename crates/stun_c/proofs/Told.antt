@@ -1,10 +1,10 @@
 -- The numbers of types at the front of a buffer, as one after the other is told.
 use Rattle.std.proofs.Common.{◌≡◌, ◌<◌, ◌≤◌, ℕ, zero, suc, ◌+◌, ◌-◌, Bool, true, false, length-append, List, [], ◌∷◌, ◌++◌, length, map, take, drop, set, append_assoc, refl, sym, ◌∙◌, ap, arith}
-use Rattle.std.specs.Prelude.{nat_lt}
+use Rattle.std.specs.Prelude.{nat_lt, slice_get, Some, None}
 use Rattle.std.proofs.lemmas.List.{drop-drop, drop_all, drop_more, length-map, length-take, length-take-le, length_push, map_push, set-append_right, set_past, take-append-le, take_all, take_at}
 use Rattle.byteorder.specs.Endian.{big_bytes}
 use Rattle.stun_base.specs.declared.attribute_type.AttributeType.{AttributeType}
-use Rattle.stun_extra.specs.Unknown.{spelled_types}
+use Rattle.stun_extra.specs.Unknown.{spelled_types, types_in}
 use Rattle.stun_c.specs.Extra.{numbers_after}
 
 -- the numbers of types
@@ -102,3 +102,40 @@ spelled_next place placed all end kind rest is_placed room is_all =
     ap (take (end + 2)) is_placed
     ∙ take_at (take end place ++ two) (drop (end + 2) place) (end + 2) count in
     ap (λ xs. xs ++ spelled_types rest) front ∙ (append_assoc (take end place) two (spelled_types rest) ∙ is_all)
+
+-- ---- one step by an index
+
+get_drop : (n : ℕ) (all : List AttributeType) (kind : AttributeType) → slice_get all n ≡ Some kind → drop n all ≡ kind ∷ drop (n + 1) all
+get_drop n [] kind is = cc
+get_drop zero (x ∷ all) kind is = cc
+get_drop (suc n) (x ∷ all) kind is =
+    let one : suc n + 1 ≡ suc (n + 1) = omega arith in
+    get_drop n all kind is ∙ ap (λ k. kind ∷ drop k (x ∷ all)) (sym one)
+
+pub held_next : (n : ℕ) (all : List AttributeType) (kind : AttributeType) (old : List ℕ) → slice_get all n ≡ Some kind
+    → set (numbers_after (take n all) old) n kind.0 ≡ numbers_after (take (n + 1) all) old
+held_next n all kind old is = told_next n all (drop (n + 1) all) kind old (get_drop n all kind is)
+
+-- where none is, all were before
+past_all : (n : ℕ) (all : List AttributeType) → slice_get all n ≡ None → length all ≤ n
+past_all n [] none = omega arith
+past_all zero (x ∷ all) none = cc
+past_all (suc n) (x ∷ all) none = omega (arith, past_all n all none)
+
+pub held_all : (n : ℕ) (all : List AttributeType) (old : List ℕ) → length all ≤ n → numbers_after (take n all) old ≡ numbers_after all old
+held_all n all old whole = ap (λ types. numbers_after types old) (take_all n all whole)
+
+pub held_none : (n : ℕ) (all : List AttributeType) (old : List ℕ) → slice_get all n ≡ None
+    → numbers_after (take n all) old ≡ numbers_after (take (n + 1) all) old
+held_none n all old none =
+    let whole : length all ≤ n = past_all n all none in
+    held_all n all old whole ∙ sym (held_all (n + 1) all old (omega (arith, whole)))
+
+-- bytes spell no more types than they are
+few_types : (value : List ℕ) → length (types_in value) ≤ length value
+few_types [] = omega arith
+few_types (a ∷ []) = omega arith
+few_types (a ∷ b ∷ rest) = omega (arith, few_types rest)
+
+pub held_few : (value : List ℕ) (types : List AttributeType) → types ≡ types_in value → length value < 65536 → length types < 65536
+held_few value types is short = rw is (omega (arith, few_types value, short))

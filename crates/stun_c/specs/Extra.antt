@@ -12,15 +12,16 @@ use Rattle.stun_types.specs.ErrorCode.{error_value}
 use Rattle.stun_types.specs.Message.{refusal}
 use Rattle.stun_types.specs.Writing.{begun_answer, with_attribute}
 use Rattle.stun_extra.specs.Fingerprint.{fingerprint_in, with_fingerprint}
-use Rattle.stun_extra.specs.Unknown.{UNKNOWN_ATTRIBUTES, spelled_types, types_of, unknown_types}
+use Rattle.stun_extra.specs.Unknown.{UNKNOWN_ATTRIBUTES, spelled_types, types_of, unknown_attributes_in, unknown_types}
 use Rattle.stun_extra.specs.declared.fingerprint.Fingerprint.{Fingerprint}
 use Rattle.stun_extra.specs.declared.fingerprint.Fingerprint.TheVariants.{Right, Wrong, Misplaced, Absent}
 use Rattle.stun_extra.specs.declared.framing.Frame.{Frame}
 use Rattle.stun_extra.specs.declared.framing.Frame.TheVariants.{Need, Message as Whole, NotStun as NoFrame}
 use Rattle.stun_c.specs.declared.codes.Refusal.{Refusal}
-use Rattle.stun_c.specs.declared.codes.Refusal.TheVariants.{NotStun, IntegrityFailed, BadArgument, BufferTooSmall, NotAllowed, Closed, AttributeExists, MessageTooLong}
+use Rattle.stun_c.specs.declared.codes.Refusal.TheVariants.{NotStun, IntegrityFailed, BadArgument, MalformedAttribute, BufferTooSmall, NotAllowed, Closed, AttributeExists, MessageTooLong}
 use Rattle.stun_c.specs.Answers.{unless_no_message}
 use Rattle.stun_c.specs.Codes.{code_of, refusal_of_parse}
+use Rattle.stun_c.specs.Reading.{value_at}
 use Rattle.stun_c.specs.Requests.{unless_refused}
 use Rattle.stun_c.specs.Writing.{fit_refusal, shows_kind, unless}
 
@@ -115,6 +116,30 @@ answer_made message types =
 -- what `stunp_refuse_unknown` makes
 abbrev pub unknown_made : List ℕ → List ℕ → Result (List ℕ) Refusal
 unknown_made request known = unless (known_refusal request known) (answer_made request (unknown_of request known))
+
+-- types, unless their attribute is malformed
+abbrev pub unless_odd : Option (List AttributeType) → Result (List AttributeType) Refusal
+unless_odd None = Err MalformedAttribute
+unless_odd (Some types) = Ok types
+
+-- the types that a value of UNKNOWN-ATTRIBUTES holds
+abbrev pub types_of_value : Result (List ℕ) Refusal → Result (List AttributeType) Refusal
+types_of_value (Ok value) = unless_odd (unknown_attributes_in (record { kind = UNKNOWN_ATTRIBUTES; value = value }))
+types_of_value (Err refusal) = Err refusal
+
+-- those in the attribute at a place of a message, or why there are none
+abbrev pub types_at : List ℕ → ℕ → Result (List AttributeType) Refusal
+types_at bytes place = types_of_value (value_at bytes place)
+
+-- what `stunp_read_types` answers of them
+abbrev pub held_number : Result (List AttributeType) Refusal → ℤ
+held_number (Ok types) = pos (length types)
+held_number (Err refusal) = code_of refusal
+
+-- the caller's numbers, to whose front they are written
+abbrev pub held_after : Result (List AttributeType) Refusal → List ℕ → List ℕ
+held_after (Ok types) numbers = numbers_after types numbers
+held_after (Err refusal) numbers = numbers
 
 -- ---- streams (section 6.2.2)
 

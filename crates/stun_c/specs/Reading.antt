@@ -1,6 +1,7 @@
 -- What the calls that read a message answer, and what they leave in the caller's numbers and buffers.
 use Rattle.std.specs.Prelude.{ℕ, ℤ, pos, ◌+◌, List, length, take, drop, find, nat_lt, not, ◌||◌, Option, Some, None, Result, Ok, Err, if◌then◌else◌}
 use Rattle.std.specs.Option.{option_map}
+use Rattle.std.specs.Str.{is_utf8}
 use Rattle.byteorder.specs.Endian.{big_number}
 use Rattle.stun_base.specs.Attributes.{ERROR_CODE, XOR_MAPPED_ADDRESS}
 use Rattle.stun_base.specs.Header.{HEADER_LENGTH, header_refusal, length_field, transaction_id_field, type_field}
@@ -16,7 +17,7 @@ use Rattle.stun_types.specs.Visible.{visible}
 use Rattle.stun_types.specs.Walk.{Member}
 use Rattle.stun_types.specs.XorMappedAddress.{XoredAddress, xor_bytes, xor_key, xor_port, xored_of}
 use Rattle.stun_c.specs.declared.codes.Refusal.{Refusal}
-use Rattle.stun_c.specs.declared.codes.Refusal.TheVariants.{BadArgument, MalformedAttribute, MissingAttribute as NotFound}
+use Rattle.stun_c.specs.declared.codes.Refusal.TheVariants.{BadArgument, MalformedAttribute, MissingAttribute as NotFound, NotText}
 use Rattle.stun_c.specs.declared.header.Header.{Header}
 use Rattle.stun_c.specs.Answers.{unless_no_message}
 use Rattle.stun_c.specs.Codes.{code_of, refusal_of_attribute, refusal_of_parse}
@@ -169,3 +170,28 @@ sized_at bytes place =
 abbrev pub sized_after : Result (List ℕ) Refusal → ℕ → ℕ
 sized_after (Ok value) number = big_number (length value) value
 sized_after (Err refusal) number = number
+
+-- the value of the attribute at a place of a message: the place is after the header, and the attribute is whole
+abbrev pub value_at : List ℕ → ℕ → Result (List ℕ) Refusal
+value_at bytes place =
+    if nat_lt place HEADER_LENGTH || not (has_attribute (drop place bytes)) then Err BadArgument
+    else Ok (first_attribute (drop place bytes)).value
+
+-- a value that is a text
+abbrev pub as_text : Result (List ℕ) Refusal → Result (List ℕ) Refusal
+as_text (Ok value) = if is_utf8 value then Ok value else Err NotText
+as_text (Err refusal) = Err refusal
+
+-- the text in the attribute at a place of a message, or why there is none
+abbrev pub text_at : List ℕ → ℕ → Result (List ℕ) Refusal
+text_at bytes place = as_text (value_at bytes place)
+
+-- what `stunp_read_text` answers of a text in the attribute at a place: where its value begins
+abbrev pub text_answer : Result (List ℕ) Refusal → ℕ → ℤ
+text_answer (Ok text) place = pos (place + 4)
+text_answer (Err refusal) place = code_of refusal
+
+-- the caller's length, which the text sets
+abbrev pub text_length_after : Result (List ℕ) Refusal → ℕ → ℕ
+text_length_after (Ok text) number = length text
+text_length_after (Err refusal) number = number

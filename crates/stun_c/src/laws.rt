@@ -1,6 +1,6 @@
 //! What `include/stunp.h` says of several calls: numbers of bytes, a whole walk, and what the calls over `stun_extra` refuse and write.
 
-ghost use Rattle.std.specs.Prelude.{◌≡◌, ◌+◌, ℕ, suc, List, [], ◌∷◌, drop, length, slice_get, cond, Some};
+ghost use Rattle.std.specs.Prelude.{◌≡◌, ◌≤◌, ◌+◌, ℕ, ℤ, suc, List, [], ◌∷◌, drop, take, length, slice_get, cond, IfOk, Some};
 ghost use Rattle.std.specs.Option.{option_map};
 ghost use Rattle.stun_base.specs.Algorithm.{digest_length};
 ghost use Rattle.stun_base.specs.Attributes.{FINGERPRINT};
@@ -15,7 +15,9 @@ ghost use Rattle.stun_types.specs.Visible.{visible};
 ghost use Rattle.stun_types.specs.Writing.{with_integrity};
 ghost use Rattle.stun_extra.specs.Fingerprint.{fingerprint_refusal};
 ghost use Rattle.stun_c.specs.declared.walk.Cursor.{Cursor};
+ghost use Rattle.stun_c.specs.Codes.{error_text};
 ghost use Rattle.stun_c.specs.Extra.{error_420, refusal_of_write, types_attribute, unknown_answer};
+ghost use Rattle.stun_c.specs.Reading.{value_at};
 ghost use Rattle.stun_c.specs.Requests.{binding_request, key_length};
 ghost use Rattle.stun_c.specs.Walking.{ahead};
 ghost use Rattle.stun_c.specs.Writing.{fit_refusal, shows_kind};
@@ -55,4 +57,16 @@ pub fn refusal_is_spelled()
     ensures { (request : List ℕ) (types : List AttributeType) → unknown_answer request types
         ≡ spelled (type_number MessageClass.Error (method_of (type_field request)))
         (transaction_id_field request) (error_420 ∷ types_attribute types ∷ []) }
+{}
+
+/// The value of the attribute at a place of a message is in the message, 4 bytes after the place: so is the text that
+/// `stunp_read_text` tells.
+pub fn a_value_is_where_it_begins()
+    ensures { (bytes : List ℕ) (place : ℕ) → IfOk (value_at bytes place)
+        (λ value. take (length value) (drop (place + 4) bytes) ≡ value) }
+{}
+
+/// What `stunp_error_text` writes has no more bytes than `STUNP_LONGEST_ERROR_TEXT`.
+pub fn an_error_text_is_short()
+    ensures { (answer : ℤ) → length (error_text answer) ≤ 64 }
 {}

@@ -12,8 +12,8 @@ ghost use Rattle.stun_types.specs.Visible.{visible};
 ghost use Rattle.stun_extra.specs.Framing.{IsStunPacket, frame_of, packet_frame_of, turn_frame_of};
 ghost use Rattle.stun_c.specs.Answers.{parse_answer, verify_answer, fitted, written_number, buffer_after};
 ghost use Rattle.stun_c.specs.Codes.{algorithm_numbered, error_text};
-ghost use Rattle.stun_c.specs.Extra.{fingerprint_answer, fingerprinted, known_refusal, told_number, types_after, unknown_made, unknown_of, wanted_number};
-ghost use Rattle.stun_c.specs.Reading.{address_at, octets_at, class_answer, method_answer, id_of_message, next_member, next_answer, number_after, error_answer, address_in, octets_of_message, plain_octets, plain_port_after, port_after, sized_after, sized_at, find_answer, finding_refusal, header_answer, header_after};
+ghost use Rattle.stun_c.specs.Extra.{fingerprint_answer, fingerprinted, known_refusal, told_number, types_after, unknown_made, unknown_of, wanted_number, held_after, held_number, types_at};
+ghost use Rattle.stun_c.specs.Reading.{text_answer, text_at, text_length_after, address_at, octets_at, class_answer, method_answer, id_of_message, next_member, next_answer, number_after, error_answer, address_in, octets_of_message, plain_octets, plain_port_after, port_after, sized_after, sized_at, find_answer, finding_refusal, header_answer, header_after};
 ghost use Rattle.stun_c.specs.Requests.{signed_request, key_of_texts, userhash_of_texts};
 ghost use Rattle.stun_c.specs.Walking.{ahead, cursor_refusal, walk_answer};
 ghost use Rattle.stun_c.specs.Writing.{begun, added_number, added_sized, added_address, added_numbered_address, added_plain_address, added_error, signed};
@@ -32,6 +32,7 @@ mod reading;
 mod request;
 mod text;
 mod unknown;
+mod value;
 mod verdict;
 mod walk;
 mod writing;
@@ -429,6 +430,25 @@ pub extern "C" fn stunp_read_number(message: &[u8], place: usize, number: &mut u
     ensures number { number.new ≡ sized_after (sized_at message.now place) number.old }
 {
     number::number_at(message, place, number)
+}
+
+/// Where the text in the attribute at a place of a message begins, with its length.
+#[unsafe(no_mangle)]
+pub extern "C" fn stunp_read_text(message: &[u8], place: usize, text_length: &mut usize) -> i64
+    ensures answer { result ≡ text_answer (text_at message.now place) place }
+    ensures text_length { text_length.new
+        ≡ text_length_after (text_at message.now place) text_length.old }
+{
+    value::read_text(message, place, text_length)
+}
+
+/// How many types the attribute at a place of a message holds, as UNKNOWN-ATTRIBUTES does; the first of them are written.
+#[unsafe(no_mangle)]
+pub extern "C" fn stunp_read_types(message: &[u8], place: usize, types: &mut [u16]) -> i64
+    ensures answer { result ≡ held_number (types_at message.now place) }
+    ensures types { types.new ≡ held_after (types_at message.now place) types.old }
+{
+    value::read_types(message, place, types)
 }
 
 /// What the FINGERPRINT of a message is: 0 where it has none, 1 right, 2 wrong, 3 misplaced, or why the bytes are no message.

@@ -53,7 +53,7 @@ fn known_types<'a>(
 
 /// Writes a number at a place, where it is there.
 #[tactic(auto, using(crate::proofs::Told::not_set))]
-fn put(numbers: &mut [u16], place: usize, number: u16)
+pub fn put(numbers: &mut [u16], place: usize, number: u16)
     ensures { numbers.new ≡ set numbers.old place number }
 {
     if place < numbers.len() {

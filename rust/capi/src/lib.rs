@@ -2,8 +2,8 @@
 //! `include/stunp_state.h` declare, and nothing else.
 //!
 //! `cargo build --release -p seatcrane-stun-c` makes `libstunp.a` and `libstunp.so`. What is unsafe stands
-//! in `border.rs`, where a slice comes as a pointer and a length, in `handle.rs`, where a handle keeps a
-//! pointer, and in `memory.rs`, which asks the program for memory.
+//! in `border.rs` and `passed.rs`, where a slice comes as a pointer and a length, in `handle.rs`, where a
+//! handle keeps a pointer, and in `memory.rs`, which asks the program for memory.
 
 extern crate alloc;
 
@@ -17,5 +17,6 @@ mod handle;
 mod kit;
 #[cfg(feature = "program-memory")]
 mod memory;
+mod passed;
 
 pub use calls::border::*;

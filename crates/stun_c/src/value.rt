@@ -1,0 +1,97 @@
+//! The value of the attribute at a place of a message, as a text or as types.
+
+ghost use Rattle.std.specs.Prelude.{◌≡◌, ◌≤◌, ◌<◌, ◌+◌, length, IfOk, IfErr, OnOk, Ok, Err};
+ghost use Rattle.stun_c.specs.Extra.{held_after, held_number, numbers_after, types_at};
+ghost use Rattle.stun_c.specs.Reading.{text_answer, text_at, text_length_after, value_at};
+
+use crate::codes::Refusal;
+use crate::text::text;
+use crate::unknown::put;
+use crate::walk::attribute_at;
+use stun_base::header::HEADER_LENGTH;
+use stun_extra::unknown::{UNKNOWN_ATTRIBUTES, UnknownAttributes};
+use stun_types::attribute::{ATTRIBUTE_HEADER_LENGTH, RawAttribute};
+use stun_types::prelude::*;
+
+/// The value of the attribute at a place of a message, or why there is none.
+fn value_at(message: &[u8], place: usize) -> Result<&[u8], Refusal>
+    ensures ok { IfOk result (λ value. value_at message.now place ≡ Ok value.now) }
+    ensures within { OnOk result (place + 4 ≤ length message.now) }
+    ensures short { IfOk result (λ value. length value.now < 65536) }
+    ensures err { IfErr result (λ refusal. value_at message.now place ≡ Err refusal) }
+{
+    if place < HEADER_LENGTH {
+        return Err(Refusal::BadArgument);
+    }
+    match attribute_at(message, place) {
+        Some(attribute) => Ok(attribute.value()),
+        None => Err(Refusal::BadArgument),
+    }
+}
+
+/// The text in the attribute at a place of a message, or why there is none.
+fn text_at(message: &[u8], place: usize) -> Result<&str, Refusal>
+    ensures ok { IfOk result (λ text. text_at message.now place ≡ Ok text.now) }
+    ensures within { OnOk result (place + 4 ≤ length message.now) }
+    ensures err { IfErr result (λ refusal. text_at message.now place ≡ Err refusal) }
+{
+    let value = value_at(message, place)?;
+    text(value)
+}
+
+/// Where the text in the attribute at a place of a message begins, whose length is written, or the
+/// number of the refusal.
+pub fn read_text(message: &[u8], place: usize, text_length: &mut usize) -> i64
+    ensures answer { result ≡ text_answer (text_at message.now place) place }
+    ensures text_length { text_length.new
+        ≡ text_length_after (text_at message.now place) text_length.old }
+{
+    match text_at(message, place) {
+        Ok(text) => {
+            *text_length = text.len();
+            (place + ATTRIBUTE_HEADER_LENGTH) as i64
+        }
+        Err(refusal) => refusal.code(),
+    }
+}
+
+/// The types that the attribute at a place of a message holds, or why there are none.
+#[tactic(auto, using(crate::proofs::Told::held_few))]
+fn types_at(message: &[u8], place: usize) -> Result<UnknownAttributes<'_>, Refusal>
+    ensures ok { IfOk result (λ types. types_at message.now place ≡ Ok types) }
+    ensures few { IfOk result (λ types. length types < 65536) }
+    ensures err { IfErr result (λ refusal. types_at message.now place ≡ Err refusal) }
+{
+    let value = value_at(message, place)?;
+    match UnknownAttributes::from_raw(RawAttribute::new(UNKNOWN_ATTRIBUTES, value)) {
+        Ok(types) => Ok(types),
+        Err(_) => Err(Refusal::MalformedAttribute),
+    }
+}
+
+/// Writes types to the front of the caller's, as many as have room.
+#[tactic(auto, using(crate::proofs::Told::held_next, crate::proofs::Told::held_none, crate::proofs::Told::held_all))]
+fn hold(held: &UnknownAttributes<'_>, types: &mut [u16])
+    ensures { types.new ≡ numbers_after held.now types.old }
+{
+    for i in 0..held.len() {
+        if let Some(kind) = held.get(i) {
+            put(types, i, kind.value());
+        }
+    }
+}
+
+/// How many types the attribute at a place of a message holds, and as many of them as have room, or
+/// the number of the refusal.
+pub fn read_types(message: &[u8], place: usize, types: &mut [u16]) -> i64
+    ensures answer { result ≡ held_number (types_at message.now place) }
+    ensures types { types.new ≡ held_after (types_at message.now place) types.old }
+{
+    match types_at(message, place) {
+        Ok(held) => {
+            hold(&held, types);
+            held.len() as i64
+        }
+        Err(refusal) => refusal.code(),
+    }
+}

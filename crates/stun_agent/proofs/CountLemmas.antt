@@ -13,7 +13,7 @@ use Rattle.stun_agent.specs.declared.error.StunError.TheVariants.{ProtocolViolat
 use Rattle.stun_base.specs.MessageType.{class_in, is_request}
 use Rattle.stun_agent.specs.Agent.{Agent, tallied, with_validated, with_transactions, tally_of_end, tally_of_sent, sending_tally, address_refusal, class_refusal, sending_refusal, after_send, request_refusal, request_of, after_send_request, answered, after_class, after_response, ended_by_poll, sent_by_poll, after_poll}
 use Rattle.stun_agent.specs.Statistics.{Statistics, Tally, counted, LeavesOutstanding, IsNotFull, request_sent, request_sent_again, request_received, indication_received, response_received}
-use Rattle.stun_agent.specs.Calls.{AgentCall, send, send_request, receive, validate, poll, poll_transmit, cancel_retransmissions, cancel, configure, after_agent_call}
+use Rattle.stun_agent.specs.Calls.{AgentCall, send, send_request, receive, validate, forget, poll, poll_transmit, cancel_retransmissions, cancel, configure, after_agent_call}
 use Rattle.stun_agent.specs.Transactions.{Transaction, repeats, is_over, without, changed, silenced, cancelled, configured, slot_passed, after_slots, round_trip}
 use Rattle.stun_agent.proofs.AnswerLemmas.{answered_there}
 use Rattle.stun_agent.proofs.LookupLemmas.{length-with, length-without, length-changed, found_there}
@@ -138,6 +138,7 @@ still_tells (send bytes to) a h = tells_send bytes to a h
 still_tells (send_request bytes to now) a h = tells_request bytes to now a h
 still_tells (receive moment bytes from) a h = tells_class (class_in bytes) moment bytes from a h
 still_tells (validate address) a h = untouched_tells a.statistics _ _ refl h
+still_tells (forget address) a h = untouched_tells a.statistics _ _ refl h
 still_tells (poll now) a h = tells_poll now a h
 still_tells (poll_transmit now) a h = tells_transmit now a (sent_by_poll now a) h
 still_tells (cancel_retransmissions id) a h = tells_changed silenced id a h

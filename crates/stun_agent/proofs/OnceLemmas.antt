@@ -16,7 +16,7 @@ use Rattle.stun_agent.specs.declared.error.StunError.TheVariants.{AlreadyInProgr
 use Rattle.stun_base.specs.MessageType.{class_in, is_request}
 use Rattle.stun_agent.specs.Agent.{Agent, tallied, with_validated, with_transactions, tally_of_end, tally_of_sent, is_elsewhere, sending_refusal, after_send, request_refusal, request_of, after_send_request, answered, after_class, after_response, ended_by_poll, sent_by_poll, after_poll}
 use Rattle.stun_agent.specs.Statistics.{response_received}
-use Rattle.stun_agent.specs.Calls.{AgentCall, send, send_request, receive, validate, poll, poll_transmit, cancel_retransmissions, cancel, configure, after_agent_call, after_agent_calls, is_id, is_outstanding, begins, ends, takes_request, once, count}
+use Rattle.stun_agent.specs.Calls.{AgentCall, send, send_request, receive, validate, forget, poll, poll_transmit, cancel_retransmissions, cancel, configure, after_agent_call, after_agent_calls, is_id, is_outstanding, begins, ends, takes_request, once, count}
 use Rattle.stun_agent.specs.Transactions.{Transaction, Transactions, IsAscending, at, with, without, changed, silenced, cancelled, configured, is_over, slot_passed, after_slots, round_trip}
 use Rattle.stun_agent.proofs.Ascending.{IsAscending-map, IsAscending-set_value, IsAscending-remove, IsAscending-insert, lookup-remove_other, lookup-insert_other, lookup-insert_same}
 use Rattle.stun_agent.proofs.AnswerLemmas.{answered_there}
@@ -73,6 +73,7 @@ ascending_call (send_request bytes to now) a s =
     ascending_if (is_some (request_refusal a bytes to)) a (after_send_request a bytes to now) s (IsAscending-insert a.transactions (transaction_id_field bytes) (request_of a bytes to now) s)
 ascending_call (receive moment bytes from) a s = ascending_class (class_in bytes) moment bytes from a s
 ascending_call (validate address) a s = s
+ascending_call (forget address) a s = s
 ascending_call (poll now) a s = ascending_poll now a s
 ascending_call (poll_transmit now) a s = ascending_slots now a (sent_by_poll now a) s
 ascending_call (cancel_retransmissions id) a s = ascending_changed silenced id a.transactions s
@@ -213,6 +214,7 @@ balanced_call id (send bytes to) a s = balanced_send (is_some (sending_refusal a
 balanced_call id (send_request bytes to now) a s = balanced_request id a bytes to now
 balanced_call id (receive moment bytes from) a s = balanced_class (class_in bytes) id moment bytes from a s
 balanced_call id (validate address) a s = refl
+balanced_call id (forget address) a s = refl
 balanced_call id (poll now) a s = balanced_poll id now a s
 balanced_call id (poll_transmit now) a s = balanced_slots id now a (sent_by_poll now a)
 balanced_call id (cancel_retransmissions other) a s = balanced_changed silenced id other a.transactions

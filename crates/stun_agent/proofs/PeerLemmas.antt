@@ -1,13 +1,18 @@
--- An address that is there stays there, and no other comes.
+-- An address that is there stays there, and no other comes; one that is forgotten goes, and no other.
 use Rattle.std.proofs.Common.{◌≡◌, Bool, true, false, [], ◌∷◌, refl, sym, ap, subst, ◌∙◌}
-use Rattle.std.specs.Prelude.{not, ◌||◌, ◌↔◌, IsTrue}
+use Rattle.std.specs.Prelude.{cond, not, ◌&&◌, ◌||◌, ◌↔◌, IsTrue}
 use Rattle.std.specs.Bool.{OnFalse}
+use Rattle.std.specs.List.{filter, list_any}
+use Rattle.std.specs.Set.{remove_key}
+use Rattle.std.proofs.lemmas.Map.Views.{any-filter_same}
 use Rattle.std.specs.Ordering.{is_eq, match_ordering, ordering_reverse}
 use Rattle.std.specs.declared.cmp.Ordering.{Ordering}
 use Rattle.std.specs.declared.cmp.Ordering.TheVariants.{Less, Equal, Greater}
 use Rattle.std.specs.declared.net.socket_addr.SocketAddr.{SocketAddr}
+use Rattle.std.specs.declared.net.socket_addr.SocketAddr.TheVariants.{V4, V6}
+use Rattle.std.specs.contracts.net.socket_addr.SocketAddrOrd.TheImpl.{cmp-value}
 use Rattle.stun_base.specs.Address.{address_cmp, same_address}
-use Rattle.stun_agent.specs.Peers.{Peers, is_peer, with_peer}
+use Rattle.stun_agent.specs.Peers.{Peers, is_peer, with_peer, without_peer}
 use Rattle.stun_agent.proofs.AddressLemmas.{address_total, address_exact}
 
 -- what `insert` answers where the address was there
@@ -68,3 +73,55 @@ same_address-told b x y told = by b (same_address x y) refl told
     by false false is h = refl
     by true false is h = let own : same_address x y ≡ true = subst (λ z. same_address x z ≡ true) (h.0 refl) (same_address-own x) in cc
     by false true is h = let no : false ≡ true = h.1 (same_address-exact x y is) in cc
+
+-- ---- forgetting
+turned_is : (r : Ordering) → is_eq (ordering_reverse r) ≡ is_eq r
+turned_is Less = refl
+turned_is Equal = refl
+turned_is Greater = refl
+
+same_address-turned : (a b : SocketAddr) → same_address a b ≡ same_address b a
+same_address-turned a b = ap is_eq (address_total.antisymm a b) ∙ turned_is (address_cmp b a)
+
+-- an address is there no more once it is forgotten, and each other is there as before
+pub is_peer-without_peer : (a b : SocketAddr) (peers : Peers) → is_peer b (without_peer a peers) ≡ (not (same_address b a) && is_peer b peers)
+is_peer-without_peer a b peers =
+    any-filter_same (same_address b) (λ x. not (same_address a x)) (not (same_address b a))
+    (λ x is. ap (λ y. not (same_address a y)) (sym (same_address-exact b x is)) ∙ ap not (same_address-turned a b)) peers
+
+-- a test that no key passes takes none away
+all_kept : (t : SocketAddr → Bool) (peers : Peers) → list_any t peers ≡ false → filter (λ peer. not (t peer)) peers ≡ peers
+all_kept t [] none = refl
+all_kept t (x ∷ xs) none = by (t x) (all_kept t xs) none
+  where
+    by : (b : Bool) → (list_any t xs ≡ false → filter (λ peer. not (t peer)) xs ≡ xs)
+        → (b || list_any t xs) ≡ false → cond (not b) (x ∷ filter (λ peer. not (t peer)) xs) (filter (λ peer. not (t peer)) xs) ≡ (x ∷ xs)
+    by true rest none = cc
+    by false rest none = ap (λ ys. x ∷ ys) (rest none)
+
+-- what is left without the first key that passes a test is what is left without all of them, where it has none
+remove_key-filter : (t : SocketAddr → Bool) (peers : Peers) → list_any t (remove_key t peers) ≡ false → remove_key t peers ≡ filter (λ peer. not (t peer)) peers
+remove_key-filter t [] none = refl
+remove_key-filter t (x ∷ xs) none = by (t x) refl (remove_key-filter t xs) none
+  where
+    by : (b : Bool) → t x ≡ b → (list_any t (remove_key t xs) ≡ false → remove_key t xs ≡ filter (λ peer. not (t peer)) xs)
+        → list_any t (cond b xs (x ∷ remove_key t xs)) ≡ false
+        → cond b xs (x ∷ remove_key t xs) ≡ cond (not b) (x ∷ filter (λ peer. not (t peer)) xs) (filter (λ peer. not (t peer)) xs)
+    by true is rest none = sym (all_kept t xs none)
+    by false is rest none = ap (λ ys. x ∷ ys) (rest (ap (λ b. b || list_any t (remove_key t xs)) (sym is) ∙ none))
+
+-- the order that `SocketAddr` derives
+abbrev pub derived : SocketAddr → SocketAddr → Ordering
+derived = cmp-value.it
+
+by_cases : (a b : SocketAddr) → derived a b ≡ address_cmp a b
+by_cases (V4 a) (V4 b) = refl
+by_cases (V4 a) (V6 b) = refl
+by_cases (V6 a) (V4 b) = refl
+by_cases (V6 a) (V6 b) = refl
+
+-- a set of addresses without the one that is taken out
+pub without_peer-removed : (a : SocketAddr) (old new : Peers) → new ≡ remove_key (λ x. is_eq (derived a x)) old → list_any (λ x. is_eq (derived a x)) new ≡ false → new ≡ without_peer a old
+without_peer-removed a old new removed none =
+    removed ∙ remove_key-filter (λ x. is_eq (derived a x)) old (ap (list_any (λ x. is_eq (derived a x))) (sym removed) ∙ none)
+    ∙ ap (λ (R : SocketAddr → SocketAddr → Ordering). filter (λ x. not (is_eq (R a x))) old) (λ i a b. by_cases a b i)

@@ -13,7 +13,7 @@ use Rattle.stun_agent.specs.declared.error.StunError.{StunError}
 use Rattle.stun_base.specs.MessageType.{class_in}
 use Rattle.stun_agent.specs.Agent.{Agent, tallied, with_validated, with_transactions, tally_of_end, tally_of_sent, sending_refusal, after_send, request_refusal, request_of, after_send_request, answered, after_class, after_response, ended_by_poll, sent_by_poll, after_poll}
 use Rattle.stun_agent.specs.Statistics.{response_received}
-use Rattle.stun_agent.specs.Calls.{AgentCall, send, send_request, receive, validate, poll, poll_transmit, cancel_retransmissions, cancel, configure, after_agent_call, after_agent_calls, is_id, repeats_request, once, allowed, repetitions_until_end, most_allowed}
+use Rattle.stun_agent.specs.Calls.{AgentCall, send, send_request, receive, validate, forget, poll, poll_transmit, cancel_retransmissions, cancel, configure, after_agent_call, after_agent_calls, is_id, repeats_request, once, allowed, repetitions_until_end, most_allowed}
 use Rattle.stun_agent.specs.Timing.{slots}
 use Rattle.stun_agent.specs.Transactions.{Transaction, Transactions, IsAscending, at, with, without, changed, silenced, cancelled, configured, repeats, is_due, slot_passed, after_slot, after_slots, round_trip}
 use Rattle.stun_agent.proofs.Ascending.{lookup-remove_other, lookup-insert_other, lookup-insert_same}
@@ -58,6 +58,7 @@ transport_call (send bytes to) a = transport_if (is_some (sending_refusal a byte
 transport_call (send_request bytes to now) a = transport_if (is_some (request_refusal a bytes to)) a (after_send_request a bytes to now) a.transport refl refl
 transport_call (receive moment bytes from) a = transport_class (class_in bytes) moment bytes from a
 transport_call (validate address) a = refl
+transport_call (forget address) a = refl
 transport_call (poll now) a = transport_poll a (ended_by_poll now a)
 transport_call (poll_transmit now) a =
     transport_sent (with_transactions a (after_slots a.transport now (option_map (λ e. e.0) (sent_by_poll now a)) a.transactions)) (sent_by_poll now a)
@@ -184,6 +185,7 @@ slot_call id (send bytes to) a t s there = slot_send (is_some (sending_refusal a
 slot_call id (send_request bytes to now) a t s there = slot_request id a bytes to now t there
 slot_call id (receive moment bytes from) a t s there = slot_class (class_in bytes) id moment bytes from a t s there
 slot_call id (validate address) a t s there = stays a.transport t t _ there refl
+slot_call id (forget address) a t s there = stays a.transport t t _ there refl
 slot_call id (poll now) a t s there = slot_poll id now a t s there
 slot_call id (poll_transmit now) a t s there = slot_transmit id now a t s there
 slot_call id (cancel_retransmissions other) a t s there = slot_changed silenced a.transport id other a.transactions t refl there

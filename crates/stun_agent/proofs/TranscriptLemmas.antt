@@ -10,7 +10,7 @@ use Rattle.stun_base.specs.MessageType.{class_in}
 use Rattle.stun_agent.specs.declared.error.StunError.{StunError}
 use Rattle.stun_agent.specs.Agent.{Agent, tallied, with_validated, with_transactions, tally_of_end, tally_of_sent, sending_tally, sending_refusal, after_send, request_refusal, after_send_request, answered, after_class, ended_by_poll, sent_by_poll}
 use Rattle.stun_agent.specs.Statistics.{Statistics, Tally, no_tally, counted, counted_in_turn, total, new_statistics, request_sent, request_sent_again, response_received}
-use Rattle.stun_agent.specs.Calls.{AgentCall, send, send_request, receive, validate, poll, poll_transmit, cancel_retransmissions, cancel, configure, after_agent_call, after_agent_calls}
+use Rattle.stun_agent.specs.Calls.{AgentCall, send, send_request, receive, validate, forget, poll, poll_transmit, cancel_retransmissions, cancel, configure, after_agent_call, after_agent_calls}
 use Rattle.stun_agent.specs.Transactions.{Transaction, without, after_slots, round_trip}
 use Rattle.stun_agent.specs.Transcript.{tally_of_message, tally_of, tallies}
 use Rattle.stun_agent.proofs.StatisticsLemmas.{counted-counted-nothing, counted_in_turn-new}
@@ -72,6 +72,7 @@ adds_call (send bytes to) a = adds_send bytes a (sending_refusal a bytes to)
 adds_call (send_request bytes to now) a = adds_request bytes to now a (request_refusal a bytes to)
 adds_call (receive moment bytes from) a = adds_message (class_in bytes) moment bytes from a
 adds_call (validate address) a = adds_nothing a.statistics
+adds_call (forget address) a = adds_nothing a.statistics
 adds_call (poll now) a = adds_end a (ended_by_poll now a)
 adds_call (poll_transmit now) a = adds_transmission now a (sent_by_poll now a)
 adds_call (cancel_retransmissions id) a = adds_nothing a.statistics

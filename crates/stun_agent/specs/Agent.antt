@@ -14,7 +14,7 @@ use Rattle.stun_agent.specs.declared.error.StunError.{StunError}
 use Rattle.stun_agent.specs.declared.error.StunError.TheVariants.{AlreadyInProgress, ProtocolViolation, ParseError}
 use Rattle.stun_agent.specs.Datagrams.{Datagram}
 use Rattle.stun_agent.specs.Integrity.{signing_algorithm}
-use Rattle.stun_agent.specs.Peers.{Peers, with_peer}
+use Rattle.stun_agent.specs.Peers.{Peers, with_peer, without_peer}
 use Rattle.stun_agent.specs.Statistics.{Statistics, Tally, new_statistics, counted, request_sent, request_sent_again, response_sent, indication_sent, request_received, response_received, indication_received, timed_out as one_timed_out, cancelled as one_cancelled}
 use Rattle.stun_agent.specs.Timing.{Settings, default_settings}
 use Rattle.stun_agent.specs.Transactions.{Transaction, Transactions, repeats, new_transaction, at, with, without, first_over, wake_up, next_sent, after_slots, round_trip}
@@ -52,6 +52,10 @@ with_transactions agent all = record agent { transactions = all }
 -- the agent once an address is validated
 abbrev pub with_validated : SocketAddr → Agent → Agent
 with_validated address agent = record agent { peers = with_peer address agent.peers }
+
+-- the agent once an address is validated no more
+abbrev pub without_validated : SocketAddr → Agent → Agent
+without_validated address agent = record agent { peers = without_peer address agent.peers }
 
 -- the agent once a tally is counted
 abbrev pub tallied : Tally → Agent → Agent

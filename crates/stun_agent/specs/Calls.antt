@@ -8,17 +8,18 @@ use Rattle.stun_base.specs.Header.{transaction_id_field}
 use Rattle.stun_base.specs.declared.message_type.MessageClass.{MessageClass}
 use Rattle.stun_base.specs.declared.message_type.MessageClass.TheVariants.{Request, Indication, Success, Error}
 use Rattle.stun_base.specs.MessageType.{class_in}
-use Rattle.stun_agent.specs.Agent.{Agent, with_transactions, with_validated, sending_refusal, after_send, request_refusal, after_send_request, answered, after_message, ended_by_poll, after_poll, sent_by_poll, after_poll_transmit}
+use Rattle.stun_agent.specs.Agent.{Agent, with_transactions, with_validated, without_validated, sending_refusal, after_send, request_refusal, after_send_request, answered, after_message, ended_by_poll, after_poll, sent_by_poll, after_poll_transmit}
 use Rattle.stun_agent.specs.Timing.{Settings}
 use Rattle.stun_agent.specs.Transactions.{at, changed, silenced, cancelled, configured}
 
--- a call: a message is sent, a request is sent, a message comes, an address is validated, both polls, and what the
--- user of a request does to it
+-- a call: a message is sent, a request is sent, a message comes, an address is validated or forgotten, both polls, and
+-- what the user of a request does to it
 pub data AgentCall : Type 0 where
   send : List ℕ → SocketAddr → AgentCall
   send_request : List ℕ → SocketAddr → ℕ → AgentCall
   receive : Option ℕ → List ℕ → SocketAddr → AgentCall
   validate : SocketAddr → AgentCall
+  forget : SocketAddr → AgentCall
   poll : ℕ → AgentCall
   poll_transmit : ℕ → AgentCall
   cancel_retransmissions : ℕ → AgentCall
@@ -31,6 +32,7 @@ after_agent_call (send bytes to) agent = if is_some (sending_refusal agent bytes
 after_agent_call (send_request bytes to now) agent = if is_some (request_refusal agent bytes to) then agent else after_send_request agent bytes to now
 after_agent_call (receive moment bytes from) agent = after_message moment bytes from agent
 after_agent_call (validate address) agent = with_validated address agent
+after_agent_call (forget address) agent = without_validated address agent
 after_agent_call (poll now) agent = after_poll now agent
 after_agent_call (poll_transmit now) agent = after_poll_transmit now agent
 after_agent_call (cancel_retransmissions id) agent = with_transactions agent (changed silenced id agent.transactions)
@@ -57,6 +59,7 @@ begins id (send_request bytes to now) agent = is_none (request_refusal agent byt
 begins id (send bytes to) agent = false
 begins id (receive moment bytes from) agent = false
 begins id (validate address) agent = false
+begins id (forget address) agent = false
 begins id (poll now) agent = false
 begins id (poll_transmit now) agent = false
 begins id (cancel_retransmissions other) agent = false
@@ -77,6 +80,7 @@ ends id (poll now) agent = option_map_or (λ e. is_id id e.0) (ended_by_poll now
 ends id (send bytes to) agent = false
 ends id (send_request bytes to now) agent = false
 ends id (validate address) agent = false
+ends id (forget address) agent = false
 ends id (poll_transmit now) agent = false
 ends id (cancel_retransmissions other) agent = false
 ends id (cancel other) agent = false
@@ -89,6 +93,7 @@ repeats_request id (send bytes to) agent = false
 repeats_request id (send_request bytes to now) agent = false
 repeats_request id (receive moment bytes from) agent = false
 repeats_request id (validate address) agent = false
+repeats_request id (forget address) agent = false
 repeats_request id (poll now) agent = false
 repeats_request id (cancel_retransmissions other) agent = false
 repeats_request id (cancel other) agent = false

@@ -1,6 +1,6 @@
 -- The addresses that an agent has had messages from: a set, as its addresses in their order.
-use Rattle.std.specs.Prelude.{Bool, List}
-use Rattle.std.specs.List.{list_any}
+use Rattle.std.specs.Prelude.{Bool, not, List}
+use Rattle.std.specs.List.{filter, list_any}
 use Rattle.std.specs.declared.net.socket_addr.SocketAddr.{SocketAddr}
 use Rattle.std.specs.BTreeSet.{insert_key}
 use Rattle.stun_base.specs.Address.{address_cmp, same_address}
@@ -15,3 +15,7 @@ is_peer address peers = list_any (same_address address) peers
 -- an address more, at its place, where it is not there yet
 abbrev pub with_peer : SocketAddr → Peers → Peers
 with_peer address peers = insert_key address_cmp peers address
+
+-- an address less, where it is there
+abbrev pub without_peer : SocketAddr → Peers → Peers
+without_peer address peers = filter (λ peer. not (same_address address peer)) peers

@@ -7,7 +7,7 @@ use Rattle.stun_base.specs.declared.message_type.MessageClass.TheVariants.{Reque
 use Rattle.stun_base.specs.MessageType.{class_in}
 use Rattle.stun_agent.specs.Agent.{Agent, sending_refusal, sending_tally, request_refusal, answered, ended_by_poll, tally_of_end, sent_by_poll}
 use Rattle.stun_agent.specs.Statistics.{Tally, no_tally, request_sent, request_sent_again, request_received, response_received, indication_received, new_statistics, counted, total}
-use Rattle.stun_agent.specs.Calls.{AgentCall, send, send_request, receive, validate, poll, poll_transmit, cancel_retransmissions, cancel, configure, after_agent_call, after_agent_calls}
+use Rattle.stun_agent.specs.Calls.{AgentCall, send, send_request, receive, validate, forget, poll, poll_transmit, cancel_retransmissions, cancel, configure, after_agent_call, after_agent_calls}
 use Rattle.stun_agent.specs.Transactions.{round_trip}
 
 -- a response counts where it is taken
@@ -29,6 +29,7 @@ tally_of (send bytes to) agent =
 tally_of (send_request bytes to now) agent = if is_some (request_refusal agent bytes to) then no_tally else request_sent (length bytes)
 tally_of (receive moment bytes from) agent = tally_of_message (class_in bytes) moment bytes from agent
 tally_of (validate address) agent = no_tally
+tally_of (forget address) agent = no_tally
 tally_of (poll now) agent = option_map_or (λ e. tally_of_end e.1) (ended_by_poll now agent) no_tally
 tally_of (poll_transmit now) agent = option_map_or (λ e. request_sent_again (length e.1.bytes)) (sent_by_poll now agent) no_tally
 tally_of (cancel_retransmissions id) agent = no_tally

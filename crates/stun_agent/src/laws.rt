@@ -1,12 +1,12 @@
 //! What holds of an agent whatever is done to it. Moments may go back, and calls may come in any order.
-ghost use Rattle.std.specs.Prelude.{◌≡◌, ◌||◌, ◌↔◌, IsTrue, true, Ok};
+ghost use Rattle.std.specs.Prelude.{◌≡◌, ◌&&◌, ◌||◌, ◌↔◌, IsTrue, true, not, Ok};
 ghost use Rattle.std.specs.declared.net.socket_addr.SocketAddr.{SocketAddr};
 ghost use Rattle.stun_base.specs.Address.{same_address};
 ghost use Rattle.stun_agent.specs.Laws.{IsNeverEarly, WaitsAsTold, IgnoresUnknown, IgnoresElsewhere, EndsAlike, EndsOnce, IsTransmittedAtMost, KeepsCount};
 ghost use Rattle.stun_agent.specs.Statistics.{new_statistics};
 ghost use Rattle.stun_agent.specs.Transcript.{CountsCalls, CountsNothing};
 ghost use Rattle.stun_agent.specs.Timing.{settings_of, default_settings};
-ghost use Rattle.stun_agent.specs.Peers.{Peers, is_peer, with_peer};
+ghost use Rattle.stun_agent.specs.Peers.{Peers, is_peer, with_peer, without_peer};
 
 use crate::agent::StunAgentPollRet;
 use crate::error::{NoRoom, StunError};
@@ -81,6 +81,13 @@ pub fn validating_adds_one_peer()
         ≡ (same_address other address || is_peer other peers) }
     ensures exact { (address other : SocketAddr)
         → (same_address address other ≡ true) ↔ (address ≡ other) }
+{}
+
+/// Forgetting an address takes it from the peers and no other.
+pub fn forgetting_removes_one_peer()
+    ensures { (address other : SocketAddr) (peers : Peers)
+        → is_peer other (without_peer address peers)
+        ≡ (not (same_address other address) && is_peer other peers) }
 {}
 
 /// Settings of which nothing is said are those of RFC 8489, section 6.2.1.

@@ -1,7 +1,7 @@
 //! Receiving: responses end their requests, and senders are validated.
-ghost use Rattle.std.specs.Prelude.{◌≡◌, ◌||◌, not, IsTrue, IsOk, IfOk, OnOk, OnErr, Some, None};
+ghost use Rattle.std.specs.Prelude.{◌≡◌, ◌||◌, length, not, IsTrue, IsOk, IfOk, OnOk, OnErr, Some, None};
 ghost use Rattle.std.specs.Option.{is_some};
-ghost use Rattle.stun_agent.specs.Agent.{with_validated, answered, takes_message, after_message, after_response};
+ghost use Rattle.stun_agent.specs.Agent.{with_validated, without_validated, answered, takes_message, after_message, after_response};
 ghost use Rattle.stun_agent.specs.Peers.{is_peer};
 
 use crate::agent::StunAgent;
@@ -31,6 +31,22 @@ impl<A: Allocator + Copy> StunAgent<A> {
         Ok(())
     }
 
+    /// How many addresses are noted as validated, so that a caller can bound them. It does not walk and does not allocate.
+    pub fn validated_peer_count(&self) -> usize
+        ensures { result ≡ length self.now.peers }
+    {
+        self.peers.len()
+    }
+
+    /// Forgets that messages from an address were taken, whoever noted it. Other addresses, requests and statistics stay as
+    /// they are. A request to it that is outstanding stays so, and its response notes the address again. It does not
+    /// allocate.
+    pub fn forget_validated_peer(&mut self, addr: SocketAddr)
+        ensures { self.new ≡ without_validated addr self.old }
+    {
+        self.peers.remove(&addr);
+    }
+
     /// Takes a message from an address, and tells whether it was taken.
     ///
     /// A response is taken where a request of its transaction is outstanding and went to the very address that the
@@ -43,7 +59,8 @@ impl<A: Allocator + Copy> StunAgent<A> {
     /// Where an allocation fails to note the address, the agent is as before, and a response's request is still
     /// outstanding. An address that is noted already, and a message that is not taken, do not allocate.
     ///
-    /// No call forgets a noted address: bound from how many addresses you hand in messages.
+    /// A noted address stays until `forget_validated_peer`: bound from how many addresses you hand in messages, or forget
+    /// those that you are done with.
     pub fn handle_stun_message(
         &mut self,
         msg: &Message<'_>,

@@ -1,8 +1,12 @@
 -- What a look-up and a change of the tree map are to the finite map of places.
-use Rattle.std.proofs.Common.{◌≡◌, Option, Some, None, refl, sym, ◌∙◌, ap, subst}
+use Rattle.std.proofs.Common.{◌≡◌, ◌+◌, ℕ, suc, List, [], ◌∷◌, map, length, Bool, true, false, Option, Some, None, refl, sym, ◌∙◌, ap, subst, arith}
 use Rattle.std.specs.Prelude.{cond}
-use Rattle.std.specs.Option.{option_map, IsSome}
-use Rattle.std.specs.Ordering.{is_eq}
+use Rattle.std.specs.List.{AllByRecursion, IsDistinct}
+use Rattle.std.specs.List.Sorted.{IsStrictlySortedBy}
+use Rattle.std.specs.Map.{keys_of}
+use Rattle.std.specs.Option.{is_some, option_map, IsSome}
+use Rattle.std.specs.Ordering.{eq_by_cmp, is_eq}
+use Rattle.std.proofs.lemmas.Map.Keys.{IsDistinct-from_sorted, IsDistinct-head, IsDistinct-tail}
 use Rattle.std.specs.declared.cmp.Ordering.{Ordering}
 use Rattle.std.specs.FinMap as fin
 use Rattle.std.specs.BTreeMap as tree
@@ -65,3 +69,27 @@ places_seen-at m n a places old new change is found updates seen =
 
 pub places_seen-none : {A : Type 0} (m : BTreeMap SocketAddr (Place A)) (a : SocketAddr) (places : PlacesSeen) (change : PlaceSeen → PlaceSeen) → places_seen m.entries ≡ places → None ≡ tree.get_by (derived a) m → places ≡ at_place (fin.get places a) places a change
 places_seen-none m a places change is found = ap (λ o. at_place o places a change) (found_there m a places None is found)
+
+-- ---- how many there are
+none_found : {A : Type 0} (q : SocketAddr) (es : List (SocketAddr × Place A)) → AllByRecursion (λ x. eq_by_cmp address_cmp q x ≡ false) (keys_of es)
+    → is_some (fin.find address_cmp q (map (λ e. (e.0, place_seen e.1)) es)) ≡ false
+none_found q [] apart = refl
+none_found q (e ∷ es) apart =
+    ap (λ b. is_some (cond b (Some (place_seen e.1)) (fin.find address_cmp q (map (λ e. (e.0, place_seen e.1)) es)))) apart.0 ∙ none_found q es apart.1
+
+one_more : (b : Bool) (n m : ℕ) → b ≡ false → n ≡ m → cond b n (n + 1) ≡ suc m
+one_more true n m there is = cc
+one_more false n m there is = omega (arith, is)
+
+len_distinct : {A : Type 0} (es : List (SocketAddr × Place A)) → IsDistinct (eq_by_cmp address_cmp) (keys_of es) → fin.len (places_seen es) ≡ length es
+len_distinct [] distinct = fin.len-empty address_cmp PlaceSeen
+len_distinct (e ∷ es) distinct =
+    fin.len-insert address_total (places_seen es) e.0 (place_seen e.1)
+    ∙ one_more _ _ _
+    (ap is_some (fin.get-from_entries address_total (map (λ e. (e.0, place_seen e.1)) es) e.0) ∙ none_found e.0 es (IsDistinct-head (eq_by_cmp address_cmp) e.0 (keys_of es) distinct))
+    (len_distinct es (IsDistinct-tail (eq_by_cmp address_cmp) e.0 (keys_of es) distinct))
+
+-- the finite map has as many addresses as the tree map has entries
+pub len-places_seen : {A : Type 0} (es : List (SocketAddr × Place A)) → IsStrictlySortedBy derived (keys_of es) → fin.len (places_seen es) ≡ length es
+len-places_seen es sorted =
+    len_distinct es (IsDistinct-from_sorted address_cmp (keys_of es) (subst (λ (R : SocketAddr → SocketAddr → Ordering). IsStrictlySortedBy R (keys_of es)) derived_is sorted))

@@ -16,6 +16,8 @@ pub mod Seen
 pub mod Server
 -- a whole server, and what validating a message answers and leaves (section 9.2.4)
 pub mod Validation
+-- a user who is handed in with a message
+pub mod Handed
 -- the places of all addresses
 pub mod Places
 -- when what is kept for an address is forgotten

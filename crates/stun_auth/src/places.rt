@@ -143,6 +143,13 @@ impl<A: Allocator + Copy> Places<A> {
         }
     }
 
+    /// How many addresses have a place.
+    pub(crate) fn len(&self) -> usize
+        ensures { result ≡ map.len self.now }
+    {
+        self.by_address.len()
+    }
+
     /// The place of an address.
     pub(crate) fn get(&self, address: SocketAddr) -> Option<&Place<A>>
         ensures { option_map place_seen (option_copied result) ≡ map.get self.now address }

@@ -7,6 +7,7 @@ ghost use Rattle.std.specs.Cmp.Lexicographic.{slice_cmp};
 ghost use Rattle.std.specs.Option.{option_copied};
 ghost use Rattle.std.specs.String.{string_bytes, string_cmp};
 ghost use Rattle.stun_auth.specs.Algorithms.{contains};
+ghost use Rattle.stun_auth.specs.Handed.{just};
 ghost use Rattle.stun_auth.specs.Registered.{key_at, key_if, name_with_hash, new_registered, with_user, without_user};
 ghost use Rattle.stun_auth.specs.code.Users.{AllHaveKeys, passwords_seen};
 
@@ -215,6 +216,16 @@ impl<A: Allocator + Copy> Registry<A> {
                 Err(AllocError)
             }
         }
+    }
+
+    /// The same realm and algorithms, with one user alone.
+    pub(crate) fn with_just(&self, credentials: LongTermCredentials<A>) -> Result<Self, AllocError>
+        ensures { IfOk result (λ users. users ≡ just self.now (Some credentials)) }
+    {
+        let mut users = Registry::new(*self.realm.allocator(), self.realm.clone()?);
+        users.set_supported(self.supported);
+        users.add_user(credentials)?;
+        Ok(users)
     }
 
     /// Removes a user and the user's keys.

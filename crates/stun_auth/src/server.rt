@@ -125,6 +125,14 @@ impl<A: Allocator + Copy> LongTermServerAuth<A> {
         self.feature
     }
 
+    /// How many addresses something is kept of, so that a caller can bound them: a message from one more may add one, and
+    /// only `forget`, `forget_expired` and `forget_expired_within` take any away. It does not walk and does not allocate.
+    pub fn address_count(&self) -> usize
+        ensures { result ≡ map.len self.now.places }
+    {
+        self.places.len()
+    }
+
     /// The last nonce that was made for an address, whether it has expired or not.
     pub fn nonce_for_client(&self, address: SocketAddr) -> Option<&str>
         ensures { option_copied result ≡ option_map (λ (p : PlaceSeen). p.nonce)

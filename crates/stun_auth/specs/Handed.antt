@@ -1,0 +1,60 @@
+-- A user who is handed in with a message, for a server that keeps no list of its users (RFC 8489, section 9.2.4).
+use Rattle.std.specs.Prelude.{ℕ, List, if◌then◌else◌, Option, Some, None}
+use Rattle.std.specs.Option.{option_and_then, option_map}
+use Rattle.std.specs.FinMap as map
+use Rattle.stun_base.specs.Credentials.{NameAndPassword}
+use Rattle.stun_base.specs.MessageType.{is_response}
+use Rattle.stun_auth.specs.declared.feature.Feature.{Feature}
+use Rattle.stun_auth.specs.declared.named_user.NamedUser.{NamedUser}
+use Rattle.stun_auth.specs.declared.named_user.NamedUser.TheVariants.{ByName, ByHash}
+use Rattle.stun_auth.specs.Feature.{is_possible}
+use Rattle.stun_auth.specs.Reading.{Reading}
+use Rattle.stun_auth.specs.Registered.{Registered, name_cmp, user_named, user_with_hash}
+use Rattle.stun_auth.specs.Seen.{ClientSeen, PlaceSeen}
+use Rattle.stun_auth.specs.Server.{Sight}
+use Rattle.stun_auth.specs.Validation.{ServerSeen}
+
+-- ---- whom a message is judged by
+
+-- by a name, or by the hash of a name at the realm
+pub data Named : Type 0 where
+  by_name : List ℕ → Named
+  by_hash : List ℕ → Named
+
+-- the same as it is told
+abbrev pub named_seen : NamedUser → Named
+named_seen (ByName name) = by_name name.now
+named_seen (ByHash hash) = by_hash hash
+
+-- whom a request or an indication names: by a hash, where that is possible, or else by name
+abbrev pub named_in : Option (List ℕ) → Option (List ℕ) → Feature → Option Named
+named_in (Some hash) username feature = if is_possible feature then Some (by_hash hash) else None
+named_in None username feature = option_map by_name username
+
+-- the client of a place
+abbrev pub named_at : Option PlaceSeen → Option Named
+named_at place = option_map (λ (c : ClientSeen). by_name c.name) (option_and_then (λ (p : PlaceSeen). p.client) place)
+
+-- by whose key a message is judged: of a response the client of its address, of all others the one whom it names
+abbrev pub judged_by : Sight → Reading → Option Named
+judged_by s r = if is_response r.class then named_at s.place else named_in r.userhash r.username s.feature
+
+-- the present user who is meant
+abbrev pub user_of : Registered → Named → Option NameAndPassword
+user_of users (by_name name) = user_named users name
+user_of users (by_hash hash) = user_with_hash users hash
+
+-- ---- a server with other users
+
+-- one user, or nobody
+abbrev pub only_user : Option NameAndPassword → map.FinMap name_cmp (List ℕ)
+only_user None = map.empty
+only_user (Some user) = map.insert map.empty user.username user.password
+
+-- the realm with its algorithms, where this user alone is present, or nobody
+abbrev pub just : Registered → Option NameAndPassword → Registered
+just users user = record users { passwords = only_user user }
+
+-- the server with other users in the place of its own
+abbrev pub with_users : ServerSeen → Registered → ServerSeen
+with_users s users = record s { registered = users }

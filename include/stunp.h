@@ -70,7 +70,8 @@
  *         return written < 0 ? 0 : writer.length;
  *     }
  *
- * An agent of ICE writes a check, and reads one (RFC 8445, sections 7.2.2 and 7.3):
+ * An agent of ICE writes a check, and tells whether a request is one that knows its password, and
+ * of which priority (RFC 8445, sections 7.2.2 and 7.3):
  *
  *     size_t write_check(const char *name, const char *password, uint64_t controlling,
  *                        const uint8_t id[12], uint8_t *out, size_t room) {
@@ -84,7 +85,6 @@
  *     }
  *     int is_check(const uint8_t *bytes, size_t length, const char *password, uint64_t *priority) {
  *         return stunp_check_fingerprint(bytes, length) == STUNP_RIGHT_FINGERPRINT
- *             && stunp_class(bytes, length) == STUNP_REQUEST
  *             && stunp_verify(bytes, length, password, strlen(password)) > 0
  *             && stunp_find_number(bytes, length, STUNP_PRIORITY, priority) == 4;
  *     }
@@ -530,7 +530,8 @@ int64_t stunp_add_fingerprint(uint8_t *buffer, size_t room, size_t length);
  * failed. So a message is written by one call after the other, and stunp_written tells at the
  * end. */
 
-/* Keeps what a call returned: the new length, or the refusal. */
+/* Keeps what a call returned that adds to the message: the new length, or the refusal. So a program
+ * gives a writer calls of its own. */
 static inline void stunp_writer_took(stunp_writer *writer, int64_t answer) {
     if (answer < 0) writer->refusal = answer;
     else writer->length = (size_t)answer;

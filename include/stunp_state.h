@@ -22,6 +22,8 @@
  *   its users: stunp_server_add_user, stunp_server_remove_user
  *   its messages: stunp_server_validate, stunp_server_client, stunp_server_sign,
  *    stunp_write_server_sign
+ *   its messages, with users who are kept elsewhere: stunp_server_named_user,
+ *    stunp_server_validate_of, stunp_server_sign_of, stunp_write_server_sign_of
  *   its addresses: stunp_server_address_count, stunp_server_nonce, stunp_server_remove_client,
  *    stunp_server_forget, stunp_server_forget_expired, stunp_server_forget_expired_within
  *   a client: stunp_client_new, stunp_client_set_credentials, stunp_client_set_algorithms,
@@ -236,6 +238,13 @@ typedef enum stunp_feature {
     STUNP_REQUIRED = 1, /* takes no server that cannot */
     STUNP_DISABLED = 2  /* never hides it */
 } stunp_feature;
+
+/* How a message names its user. */
+typedef enum stunp_naming {
+    STUNP_NAMES_NOBODY = 0,
+    STUNP_BY_NAME = 1, /* USERNAME (section 14.3) */
+    STUNP_BY_HASH = 2  /* USERHASH (section 14.4): the hash that stunp_userhash makes of the name */
+} stunp_naming;
 
 /* What a call returns above zero where that is no length and no algorithm. */
 typedef enum stunp_ending {
@@ -557,6 +566,56 @@ static inline void stunp_write_server_sign(stunp_writer *writer, stunp_server *s
     if (writer->refusal < 0) return;
     stunp_writer_took(writer, stunp_server_sign(server, writer->bytes, writer->room,
                                                 writer->length, to));
+}
+
+/* ---- Its messages, with users who are kept elsewhere, as in a data base: ask whom a message
+ * names, look that user up, and hand the name and the password in. So no list of users is wanted,
+ * and one that the server has is not looked at. The verdict is that of a server that has all of
+ * them, where the user is the one who is named. Where there is no such user, or nobody is named,
+ * stunp_server_validate of a server without users gives that verdict. Hand the same user in where
+ * the answer is signed. */
+
+/* Tells by whose key a message that came from an address is judged: of a response the client of
+ * the address; of a request or an indication the user of the last visible USERHASH, where names
+ * may be hidden, or else of the last visible USERNAME. The name, or its hash of 32 bytes, goes to
+ * the front of `name`, and its length to `*name_length`. It does not look at the digest: whoever
+ * sends can name anyone. Does not allocate.
+ *
+ * Returns STUNP_BY_NAME or STUNP_BY_HASH; or STUNP_NAMES_NOBODY, and writes nothing. Fails:
+ * STUNP_EMPTY_HANDLE; STUNP_BAD_ARGUMENT; STUNP_TRUNCATED, STUNP_NOT_STUN, STUNP_TOO_LARGE;
+ * STUNP_BUFFER_TOO_SMALL, and `*name_length` is then how many bytes there are. */
+int64_t stunp_server_named_user(const stunp_server *server, const uint8_t *message, size_t length,
+                                const stunp_address *from, uint8_t *name, size_t room,
+                                size_t *name_length);
+
+/* Tells who signed a message, as stunp_server_validate of a server that has just this user.
+ *
+ * Returns and fails as that, and with STUNP_NOT_TEXT right after STUNP_TOO_MANY_ADDRESSES. In
+ * place of all that would come after STUNP_NOT_TEXT, STUNP_OUT_OF_MEMORY may come: the keys of the
+ * user are made. */
+int64_t stunp_server_validate_of(stunp_server *server, const uint8_t *message, size_t length,
+                                 const stunp_address *from, uint64_t now, const uint32_t words[16],
+                                 const void *name, size_t name_length, const void *password,
+                                 size_t password_length);
+
+/* Signs a message, as stunp_server_sign of a server that has just this user.
+ *
+ * Returns and fails as that, and with STUNP_NOT_TEXT right after STUNP_EMPTY_HANDLE. In place of
+ * all that would come after STUNP_NOT_TEXT, STUNP_OUT_OF_MEMORY may come: the keys of the user are
+ * made. */
+int64_t stunp_server_sign_of(stunp_server *server, uint8_t *buffer, size_t room, size_t length,
+                             const stunp_address *to, const void *name, size_t name_length,
+                             const void *password, size_t password_length);
+
+/* The same by a writer (stunp.h). */
+static inline void stunp_write_server_sign_of(stunp_writer *writer, stunp_server *server,
+                                              const stunp_address *to, const void *name,
+                                              size_t name_length, const void *password,
+                                              size_t password_length) {
+    if (writer->refusal < 0) return;
+    stunp_writer_took(writer, stunp_server_sign_of(server, writer->bytes, writer->room,
+                                                   writer->length, to, name, name_length,
+                                                   password, password_length));
 }
 
 /* ---- Its addresses: of each that was challenged a nonce is kept, the algorithms that were

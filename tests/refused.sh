@@ -1,7 +1,8 @@
 #!/bin/sh
 # What the headers have a compiler and a linker refuse: exchanged arguments, and a program that was
-# compiled against another release. STUN_C is the archive of stunp.h, LIBRARIES what it needs
-# beside. Without a C compiler nothing is tried, and without STUN_C nothing is linked.
+# compiled against another release. STUN_C is the archive of stunp.h, STUN_STATE that of
+# stunp_state.h, LIBRARIES what they need beside. Without a C compiler nothing is tried, and without
+# an archive nothing is linked to it.
 set -eu
 cd "$(dirname "$0")"
 cc=${CC:-cc}
@@ -46,5 +47,21 @@ if [ -n "${STUN_C-}" ]; then
     links
     wants stunp_release_0_1 links -Dstunp_release_0_2=stunp_release_0_1
     links -Dstunp_release_0_2=stunp_release_0_1 -DSTUNP_ANY_RELEASE
+fi
+
+# The same of stunp_state.h: a transport is no feature.
+printf '#include "stunp_state.h"\nint main(void) {\n    stunp_agent agent = {0};\n' >"$scratch/agent.c"
+printf '    stunp_address at = {{0}, 1, 4};\n    int64_t answer = stunp_agent_new(&agent, WHICH, &at);\n' >>"$scratch/agent.c"
+printf '    stunp_agent_free(&agent);\n    return answer == 0 ? 0 : 1;\n}\n' >>"$scratch/agent.c"
+"$cc" $strict -DWHICH=STUNP_TCP -fsyntax-only "$scratch/agent.c"
+wants enum-conversion "$cc" $strict -DWHICH=STUNP_REQUIRED -fsyntax-only "$scratch/agent.c"
+keeps() {
+    "$cc" $strict -DWHICH=STUNP_TCP "$@" "$scratch/agent.c" ../examples/c/heap.c "$STUN_STATE" "$STUN_C" \
+        ${LIBRARIES-} -o "$scratch/agent" && "$scratch/agent"
+}
+if [ -n "${STUN_C-}" ] && [ -n "${STUN_STATE-}" ]; then
+    keeps
+    wants stunp_state_release_0_1 keeps -Dstunp_state_release_0_2=stunp_state_release_0_1
+    keeps -Dstunp_state_release_0_2=stunp_state_release_0_1 -DSTUNP_ANY_RELEASE
 fi
 echo 'refused: passed'

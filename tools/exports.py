@@ -15,7 +15,7 @@ from pathlib import Path
 # What C passes for a type of Rattle or Rust.
 PASSED = {
     "": "void", "Global": "", "&[u8]": "const uint8_t *, size_t", "&mut [u8]": "uint8_t *, size_t",
-    "u8": "uint8_t", "u16": "uint16_t", "u32": "uint32_t", "u64": "uint64_t", "usize": "size_t", "i64": "int64_t",
+    "u8": "uint8_t", "u16": "uint16_t", "u32": "uint32_t", "u64": "uint64_t", "usize": "size_t", "i64": "int64_t", "bool": "bool",
     "&[u32; 16]": "const uint32_t *", "&[u16]": "const uint16_t *, size_t", "&mut [u16]": "uint16_t *, size_t",
     "AgentHandle": "stunp_agent", "ServerHandle": "stunp_server", "ClientHandle": "stunp_client",
     "Address": "stunp_address", "Timeouts": "stunp_timeouts", "Statistics": "stunp_statistics",
@@ -24,6 +24,7 @@ PASSED = {
 # The enum of a number by its name in Rattle and Rust.
 ENUMS = {"class": "stunp_message_class", "message_class": "stunp_message_class", "algorithm": "stunp_algorithm",
          "transport": "stunp_transport", "feature": "stunp_feature"}
+HANDLES = ("stunp_agent *", "stunp_server *", "stunp_client *")
 wrong, compared = [], 0
 
 def read(*paths):
@@ -54,6 +55,12 @@ def functions_of_rust(text, before, enums):
     parts = lambda listed: re.findall(r"(\w+): (.+?)\s*(?:,\s*(?=\w+:)|,?\s*$)", listed)
     return {name: in_c(result, "", name, enums) + [c for label, kind in parts(listed) for c in in_c(kind, label, name, enums)]
             for name, listed, result in re.findall(before + r"fn (\w+)\(([^)]*)\)(?: -> (\w+))?", text)}
+
+def with_constants(text, functions):
+    """The same, where the handle that a call leaves, by its clause `same`, is const in C."""
+    clauses = dict(re.findall(r'extern "C" fn (\w+)\([^)]*\)[^\n]*\n(.*?)\n\{\n', text, re.DOTALL))
+    return {name: [f"const {kind}" if "ensures same {" in clauses.get(name, "") and kind in HANDLES else kind for kind in kinds]
+            for name, kinds in functions.items()}
 
 def functions_of_header(text):
     """Bytes that are read may have any type in C."""
@@ -87,7 +94,7 @@ def compare_archives():
 def main():
     header = read("include/stunp.h", "include/stunp_state.h")
     crates = read(*(f"crates/stun_c/src/{name}.rt" for name in ("lib", "header", "walk")),
-                  *(f"crates/stun_state/src/{name}.rt" for name in ("lib", "address", "agent")))
+                  *(f"crates/stun_state/src/{name}.rt" for name in ("calls/agent", "calls/server", "calls/client", "calls/release", "address", "agent")))
     enums = enums_of_header(header)
     # An enum that is passed has the size of a u32: no number is below zero or above an int.
     passed = {name: numbers for name, numbers in enums.items() if name in ENUMS.values()}
@@ -96,7 +103,7 @@ def main():
              for name, numbers in passed.items()})
     # The functions that give memory are the program's.
     declared = {name: kinds for name, kinds in functions_of_header(header).items() if name.startswith("stunp_")}
-    defined = functions_of_rust(crates, r'#\[(?:unsafe\(no_mangle\)|no_mangle)\]\s*(?:pub |unsafe )?extern "C" ', enums)
+    defined = with_constants(crates, functions_of_rust(crates, r'#\[(?:unsafe\(no_mangle\)|no_mangle)\]\s*(?:pub |unsafe )?extern "C" ', enums))
     compare("declaration", declared, defined)
     compare("definition", defined, declared)
     imported = "".join(re.findall(r'extern "C" \{(.*?)\n\}', read("examples/rust/main.rs"), re.DOTALL))

@@ -45,7 +45,7 @@ for name in arguments extra; do
     expect "$name: passed" "$out/$name"
     expect "$name: passed" "$out/$name-shared"
 done
-expect "refused: passed" env STUN_C="$out/libstunp.a" LIBRARIES="$libraries" tests/refused.sh
+expect "refused: passed" env STUN_C="$out/libstunp.a" STUN_STATE="$out/libstunp-program.a" LIBRARIES="$libraries" tests/refused.sh
 # These look at the memory that is taken.
 for name in handles hostile many play; do
     ${CC:-cc} $strict "tests/c/$name.c" examples/c/heap.c "$out/libstunp-program.a" $libraries -o "$out/$name"

@@ -175,6 +175,16 @@ impl StunAgent {
         granted(self.0.validated_peer(address));
     }
 
+    /// How many addresses are noted as validated, without a walk.
+    pub fn validated_peer_count(&self) -> usize {
+        self.0.validated_peer_count()
+    }
+
+    /// Forgets that messages from an address were taken, whoever noted it.
+    pub fn forget_validated_peer(&mut self, address: SocketAddr) {
+        self.0.forget_validated_peer(address);
+    }
+
     /// As `handle_stun_message_with_time`, without a moment: no round trip is counted.
     #[must_use = "a message that is not taken is to be dropped"]
     pub fn handle_stun_message(&mut self, message: &Message<'_>, from: SocketAddr) -> bool {

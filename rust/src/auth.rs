@@ -20,7 +20,7 @@ use core::time::Duration;
 pub use crate::exported::stun_auth::auth::{
     Feature, LONG_TERM_RFC8489_NONCE_COOKIE, LongTermClientAuthError,
     LongTermClientAuthErrorReason, LongTermClientValidation, LongTermServerAuthError,
-    LongTermServerAuthErrorReason, LongTermServerValidation,
+    LongTermServerAuthErrorReason, LongTermServerValidation, NamedUser,
 };
 pub use crate::nonce::NonceSecurityBits;
 
@@ -318,6 +318,11 @@ impl LongTermServerAuth {
             .set_nonce_expiry_duration(expiry.max(MINIMUM_NONCE_EXPIRY_DURATION));
     }
 
+    /// How many addresses something is kept of, without a walk.
+    pub fn address_count(&self) -> usize {
+        self.proved.address_count()
+    }
+
     /// The last nonce that was made for an address, whether it has expired or not.
     pub fn nonce_for_client(&self, client: SocketAddr) -> Option<&str> {
         self.proved.nonce_for_client(client)
@@ -453,4 +458,97 @@ impl LongTermServerAuth {
         self.proved
             .validate_incoming_message(&message.0, from, now, &mut source)
     }
+
+    /// By whose key a message from an address is judged: of a response the address's client, of any
+    /// other message the last USERHASH that counts, where hashes are taken, or else the last
+    /// USERNAME. Where both are there the hash decides. `None` where nobody is meant: the verdict
+    /// is then the same whoever the users are. It does not look at the digest.
+    pub fn named_user<'a>(
+        &'a self,
+        message: &'a Message<'_>,
+        from: SocketAddr,
+    ) -> Option<NamedUser<'a>> {
+        self.proved.named_user(&message.0, from)
+    }
+
+    /// A user with the keys of this password at the server's realm, one for each algorithm that is
+    /// supported now: to be handed in with a message, where users are looked up elsewhere. The
+    /// server stays as it is.
+    pub fn prepare_user(&self, credentials: LongTermCredentials) -> LongTermServerUser {
+        LongTermServerUser {
+            proved: granted(self.proved.prepare_user(credentials.0)),
+        }
+    }
+
+    /// Judges a message as the server that has just this user, where a source of random numbers
+    /// makes the nonce. The server's own users are not looked at. Where the user is the one whom
+    /// `named_user` tells, the answer is that of a server that has all users.
+    ///
+    /// # Errors
+    ///
+    /// Those of `validate_incoming_message`.
+    #[cfg(feature = "rand")]
+    #[cfg_attr(docsrs, doc(cfg(feature = "rand")))]
+    pub fn validate_incoming_message_of_with_rng<R: rand_core::RngCore>(
+        &mut self,
+        message: &Message<'_>,
+        from: SocketAddr,
+        now: Instant,
+        rng: &mut R,
+        user: &mut LongTermServerUser,
+    ) -> Result<LongTermServerValidation, LongTermServerAuthError> {
+        let mut source = crate::random::Source(rng);
+        self.proved.validate_incoming_message_of(
+            &message.0,
+            from,
+            now,
+            &mut source,
+            &mut user.proved,
+        )
+    }
+
+    /// The same, where the nonce is made of sixteen random words, which nobody is to guess.
+    ///
+    /// # Errors
+    ///
+    /// Those of `validate_incoming_message`.
+    pub fn validate_incoming_message_of_with_words(
+        &mut self,
+        message: &Message<'_>,
+        from: SocketAddr,
+        now: Instant,
+        words: [u32; 16],
+        user: &mut LongTermServerUser,
+    ) -> Result<LongTermServerValidation, LongTermServerAuthError> {
+        let mut source = WordSource::new(words);
+        self.proved.validate_incoming_message_of(
+            &message.0,
+            from,
+            now,
+            &mut source,
+            &mut user.proved,
+        )
+    }
+
+    /// Signs as the server that has just this user, who is to be the address's client.
+    ///
+    /// # Errors
+    ///
+    /// Those of `sign_outgoing_message`; `IntegrityFailed` where the user is not the client.
+    pub fn sign_outgoing_message_of<W: MessageWrite>(
+        &mut self,
+        message: W,
+        to: SocketAddr,
+        user: &mut LongTermServerUser,
+    ) -> Result<W, StunWriteError> {
+        self.proved
+            .sign_outgoing_message_of(message, to, &mut user.proved)
+    }
 }
+
+/// A user with keys, whom `LongTermServerAuth::prepare_user` makes, to be handed in with a message.
+pub struct LongTermServerUser {
+    proved: proved::LongTermServerUser,
+}
+
+debug!(LongTermServerUser);

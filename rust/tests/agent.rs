@@ -272,6 +272,13 @@ fn addresses_are_validated_by_their_messages_or_by_name() {
         !agent_of(TransportType::Udp).is_validated_peer(local()),
         "agents share nothing"
     );
+    assert_eq!(agent.validated_peer_count(), 3);
+    for left in [2, 2] {
+        agent.forget_validated_peer(there);
+        assert!(!agent.is_validated_peer(there), "it is forgotten");
+        assert_eq!(agent.validated_peer_count(), left);
+    }
+    assert!(agent.is_validated_peer(remote()) && agent.is_validated_peer(local()));
 }
 
 #[test]

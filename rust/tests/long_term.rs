@@ -2,6 +2,7 @@
 use IntegrityAlgorithm::{Sha1, Sha256};
 use seatcrane_stun::Instant;
 use seatcrane_stun::auth::*;
+use seatcrane_stun::types::attribute::Userhash;
 use seatcrane_stun::types::message::*;
 use seatcrane_stun::types::prelude::*;
 use std::net::SocketAddr;
@@ -486,5 +487,73 @@ fn a_realm_that_no_message_has_room_for_is_refused() {
             Err(refusal),
             "{length}"
         );
+    }
+}
+
+/// What a server without users says of a request, to whom the user is handed in whom it names.
+fn verdict_of(
+    server: &mut LongTermServerAuth,
+    request: &Message<'_>,
+    from: SocketAddr,
+    password: &str,
+) -> Result<(IntegrityAlgorithm, Vec<u8>), LongTermServerAuthErrorReason> {
+    let name = match server.named_user(request, from) {
+        Some(NamedUser::ByName(name)) => name.to_string(),
+        Some(NamedUser::ByHash(hash)) => {
+            assert_eq!(hash, Userhash::compute("user", server.realm()));
+            "user".to_string()
+        }
+        None => String::new(),
+    };
+    let mut user = server.prepare_user(LongTermCredentials::new(name, password.to_string()));
+    let now = Instant::ZERO;
+    let verdict = server
+        .validate_incoming_message_of_with_words(request, from, now, WORDS, &mut user)
+        .map_err(|error| error.reason())?;
+    let LongTermServerValidation::Validated(algorithm) = verdict;
+    let answer = Message::builder_success(request, MessageWriteVec::new());
+    assert!(
+        server.sign_outgoing_message(answer, from).is_err(),
+        "the server has no users of its own"
+    );
+    let answer = Message::builder_success(request, MessageWriteVec::new());
+    let answer = server
+        .sign_outgoing_message_of(answer, from, &mut user)
+        .unwrap();
+    Ok((algorithm, answer.finish()))
+}
+
+#[test]
+fn a_user_is_handed_in_with_a_message() {
+    for hidden in [Feature::Disabled, Feature::Auto] {
+        let mut both = Conversation::with_both("pass");
+        both.client.set_anonymous_username(hidden);
+        both.server.set_anonymous_username(hidden);
+        both.server.remove_user("user");
+        assert_eq!(both.server.address_count(), 0);
+        both.is_challenged(Instant::ZERO);
+        assert_eq!(both.server.address_count(), 1);
+        let request = both.request();
+        let request = Message::from_bytes(&request).unwrap();
+        assert_eq!(
+            verdict_of(&mut both.server, &request, both.from, "other"),
+            Err(LongTermServerAuthErrorReason::Unauthorized)
+        );
+        let (algorithm, answer) =
+            verdict_of(&mut both.server, &request, both.from, "pass").unwrap();
+        assert_eq!(algorithm, Sha256);
+        assert_eq!(both.server.client(both.from), Some(("user", Sha256)));
+        assert_eq!(
+            both.read(&answer),
+            Ok(LongTermClientValidation::Validated(Sha256))
+        );
+        let answer = Message::from_bytes(&answer).unwrap();
+        assert_eq!(
+            both.server.named_user(&answer, both.from),
+            Some(NamedUser::ByName("user"))
+        );
+        assert_eq!(both.server.address_count(), 1);
+        both.server.forget(both.from);
+        assert_eq!(both.server.address_count(), 0);
     }
 }

@@ -339,6 +339,9 @@ static void empty_servers(void) {
     want("nonce", stunp_server_nonce(&server, &nowhere, &byte, 1), STUNP_EMPTY_HANDLE);
     want("validate", stunp_server_validate(&server, &byte, 1, &nowhere, 0, some_words), STUNP_EMPTY_HANDLE);
     want("sign", stunp_server_sign(&server, &byte, 1, 2, &nowhere), STUNP_EMPTY_HANDLE);
+    want("named_user", stunp_server_named_user(&server, &byte, 1, &nowhere, &byte, 1, &length), STUNP_EMPTY_HANDLE);
+    want("validate_of", stunp_server_validate_of(&server, &byte, 1, &nowhere, 0, some_words, &byte, 1, "", 0), STUNP_EMPTY_HANDLE);
+    want("sign_of", stunp_server_sign_of(&server, &byte, 1, 2, &nowhere, &byte, 1, "", 0), STUNP_EMPTY_HANDLE);
     stunp_server_free(&server);
     want("outputs", byte == 0xff && length == 7, 1);
     want_same("an address", &from, &nowhere, sizeof from);
@@ -461,6 +464,66 @@ static void writers(void) {
     want("no byte more", (int64_t)answer.length, STUNP_HEADER_LENGTH);
     free_pair(&pair);
     want_no_blocks("writers");
+}
+
+/* A server without users, to which its caller hands the user in whom a message names: as one that has the user. */
+static void users_elsewhere(bool is_hidden) {
+    const uint32_t both = STUNP_SHA1 | STUNP_SHA256;
+    struct pair pair = pair_of(both);
+    stunp_server *server = &pair.server;
+    stunp_address from = address_of(7);
+    struct message plain = message_of(STUNP_REQUEST, 9), request, answer;
+    uint8_t name[32], hash[32], byte = 0xff;
+    size_t length = 99;
+    want("the hash", stunp_userhash("name", 4, "realm", 5, hash, sizeof hash), 32);
+    want("no users", stunp_server_remove_user(server, "name", 4), 0);
+    want("hidden names", stunp_client_set_anonymous_username(&pair.client, is_hidden ? STUNP_AUTO : STUNP_DISABLED), 0);
+    want("names, nowhere", stunp_server_named_user(server, plain.bytes, CUT, &nowhere, name, 4, &length), STUNP_BAD_ARGUMENT);
+    REFUSES_MESSAGES("names", stunp_server_named_user(server, bytes, length, &from, name, 4, &(size_t){0}));
+    want("nobody", stunp_server_named_user(server, plain.bytes, plain.length, &from, name, 0, &length), STUNP_NAMES_NOBODY);
+    want("no length", (int64_t)length, 99);
+    challenge(&pair, &from, 0);
+    request = request_of(&pair, 2);
+    stunp_heap_bound(0);
+    const int64_t named = is_hidden ? STUNP_BY_HASH : STUNP_BY_NAME;
+    const size_t wanted = is_hidden ? sizeof hash : 4;
+    want("no room", stunp_server_named_user(server, request.bytes, request.length, &from, name, wanted - 1, &length), STUNP_BUFFER_TOO_SMALL);
+    want("the length that is wanted", (int64_t)length, (int64_t)wanted);
+    length = 99;
+    want("somebody", stunp_server_named_user(server, request.bytes, request.length, &from, name, wanted, &length), named);
+    want("the length", (int64_t)length, (int64_t)wanted);
+    want_same("who", name, is_hidden ? hash : text("name"), wanted);
+    want("no memory", stunp_server_validate_of(server, request.bytes, request.length, &from, 0, some_words, "name", 4, "password", 8), STUNP_OUT_OF_MEMORY);
+    stunp_heap_bound(SIZE_MAX);
+    want("without users", stunp_server_validate(server, request.bytes, request.length, &from, 0, some_words), STUNP_UNAUTHORIZED);
+    want("of, nowhere", stunp_server_validate_of(server, request.bytes, CUT, &nowhere, 0, some_words, &byte, 1, "", 0), STUNP_BAD_ARGUMENT);
+    REFUSES_MESSAGES("of", stunp_server_validate_of(server, bytes, length, &from, 0, some_words, &byte, 1, "", 0));
+    want("no name", stunp_server_validate_of(server, request.bytes, request.length, &from, 0, some_words, &byte, 1, "", 0), STUNP_NOT_TEXT);
+    want("no password", stunp_server_validate_of(server, request.bytes, request.length, &from, 0, some_words, "name", 4, &byte, 1), STUNP_NOT_TEXT);
+    want("another password", stunp_server_validate_of(server, request.bytes, request.length, &from, 0, some_words, "name", 4, "Password", 8), STUNP_UNAUTHORIZED);
+    want("another user", stunp_server_validate_of(server, request.bytes, request.length, &from, 0, some_words, "Name", 4, "password", 8), STUNP_UNAUTHORIZED);
+    want("the user", stunp_server_validate_of(server, request.bytes, request.length, &from, 0, some_words, "name", 4, "password", 8), STUNP_SHA256);
+    want("is the client", stunp_server_client(server, &from, name, sizeof name, &length), STUNP_SHA256);
+
+    answer = message_of(STUNP_SUCCESS, 2);
+    struct message left = answer;
+    const size_t room = sizeof answer.bytes;
+    want("without the user", stunp_server_sign(server, answer.bytes, room, 20, &from), STUNP_INTEGRITY_FAILED);
+    want("no name", stunp_server_sign_of(server, answer.bytes, 20, 30, &nowhere, &byte, 1, "", 0), STUNP_NOT_TEXT);
+    want("nowhere", stunp_server_sign_of(server, answer.bytes, 20, 30, &nowhere, "name", 4, "password", 8), STUNP_BAD_ARGUMENT);
+    want("another user", stunp_server_sign_of(server, answer.bytes, room, 20, &from, "Name", 4, "password", 8), STUNP_INTEGRITY_FAILED);
+    want("no room", stunp_server_sign_of(server, answer.bytes, 20, 20, &from, "name", 4, "password", 8), STUNP_BUFFER_TOO_SMALL);
+    stunp_heap_bound(0);
+    want("no memory", stunp_server_sign_of(server, answer.bytes, room, 20, &from, "name", 4, "password", 8), STUNP_OUT_OF_MEMORY);
+    stunp_heap_bound(SIZE_MAX);
+    want_same("the message is left", &answer, &left, sizeof answer);
+    stunp_writer writer = stunp_write_on(20, answer.bytes, room);
+    stunp_write_server_sign_of(&writer, server, &from, "name", 4, "password", 8);
+    want("signed", stunp_written(&writer), 0);
+    want("and taken", stunp_client_validate(&pair.client, answer.bytes, writer.length), STUNP_SHA256);
+    want("the server has no users", stunp_server_validate(server, request.bytes, request.length, &from, 0, some_words), STUNP_UNAUTHORIZED);
+    free_pair(&pair);
+    want_no_blocks("users_elsewhere");
 }
 
 /* Signing in each room up to what is enough: too little leaves the message. A realm that no attribute can hold. */
@@ -715,6 +778,8 @@ int main(void) {
     empty_servers();
     servers();
     most_addresses();
+    users_elsewhere(false);
+    users_elsewhere(true);
     writers();
     sign();
     sign_without_memory();

@@ -1,4 +1,4 @@
--- An address that is there stays there, and no other comes; one that is forgotten goes, and no other.
+-- An address that is there stays there, and no other comes; one that is forgotten goes, no other.
 use Rattle.std.proofs.Common.{◌≡◌, Bool, true, false, [], ◌∷◌, refl, sym, ap, subst, ◌∙◌}
 use Rattle.std.specs.Prelude.{cond, not, ◌&&◌, ◌||◌, ◌↔◌, IsTrue}
 use Rattle.std.specs.Bool.{OnFalse}
@@ -84,29 +84,38 @@ same_address-turned : (a b : SocketAddr) → same_address a b ≡ same_address b
 same_address-turned a b = ap is_eq (address_total.antisymm a b) ∙ turned_is (address_cmp b a)
 
 -- an address is there no more once it is forgotten, and each other is there as before
-pub is_peer-without_peer : (a b : SocketAddr) (peers : Peers) → is_peer b (without_peer a peers) ≡ (not (same_address b a) && is_peer b peers)
+pub is_peer-without_peer : (a b : SocketAddr) (peers : Peers)
+    → is_peer b (without_peer a peers) ≡ (not (same_address b a) && is_peer b peers)
 is_peer-without_peer a b peers =
     any-filter_same (same_address b) (λ x. not (same_address a x)) (not (same_address b a))
     (λ x is. ap (λ y. not (same_address a y)) (sym (same_address-exact b x is)) ∙ ap not (same_address-turned a b)) peers
 
 -- a test that no key passes takes none away
-all_kept : (t : SocketAddr → Bool) (peers : Peers) → list_any t peers ≡ false → filter (λ peer. not (t peer)) peers ≡ peers
+all_kept : (t : SocketAddr → Bool) (peers : Peers) → list_any t peers ≡ false
+    → filter (λ peer. not (t peer)) peers ≡ peers
 all_kept t [] none = refl
 all_kept t (x ∷ xs) none = by (t x) (all_kept t xs) none
   where
     by : (b : Bool) → (list_any t xs ≡ false → filter (λ peer. not (t peer)) xs ≡ xs)
-        → (b || list_any t xs) ≡ false → cond (not b) (x ∷ filter (λ peer. not (t peer)) xs) (filter (λ peer. not (t peer)) xs) ≡ (x ∷ xs)
+        → (b || list_any t xs) ≡ false
+        → cond (not b) (x ∷ filter (λ peer. not (t peer)) xs) (filter (λ peer. not (t peer)) xs)
+        ≡ (x ∷ xs)
     by true rest none = cc
     by false rest none = ap (λ ys. x ∷ ys) (rest none)
 
--- what is left without the first key that passes a test is what is left without all of them, where it has none
-remove_key-filter : (t : SocketAddr → Bool) (peers : Peers) → list_any t (remove_key t peers) ≡ false → remove_key t peers ≡ filter (λ peer. not (t peer)) peers
+-- what is left without the first key that passes a test is what is left without all of them, where
+-- none passes that is left
+remove_key-filter : (t : SocketAddr → Bool) (peers : Peers)
+    → list_any t (remove_key t peers) ≡ false
+    → remove_key t peers ≡ filter (λ peer. not (t peer)) peers
 remove_key-filter t [] none = refl
 remove_key-filter t (x ∷ xs) none = by (t x) refl (remove_key-filter t xs) none
   where
-    by : (b : Bool) → t x ≡ b → (list_any t (remove_key t xs) ≡ false → remove_key t xs ≡ filter (λ peer. not (t peer)) xs)
+    by : (b : Bool) → t x ≡ b
+        → (list_any t (remove_key t xs) ≡ false → remove_key t xs ≡ filter (λ peer. not (t peer)) xs)
         → list_any t (cond b xs (x ∷ remove_key t xs)) ≡ false
-        → cond b xs (x ∷ remove_key t xs) ≡ cond (not b) (x ∷ filter (λ peer. not (t peer)) xs) (filter (λ peer. not (t peer)) xs)
+        → cond b xs (x ∷ remove_key t xs)
+        ≡ cond (not b) (x ∷ filter (λ peer. not (t peer)) xs) (filter (λ peer. not (t peer)) xs)
     by true is rest none = sym (all_kept t xs none)
     by false is rest none = ap (λ ys. x ∷ ys) (rest (ap (λ b. b || list_any t (remove_key t xs)) (sym is) ∙ none))
 
@@ -121,7 +130,9 @@ by_cases (V6 a) (V4 b) = refl
 by_cases (V6 a) (V6 b) = refl
 
 -- a set of addresses without the one that is taken out
-pub without_peer-removed : (a : SocketAddr) (old new : Peers) → new ≡ remove_key (λ x. is_eq (derived a x)) old → list_any (λ x. is_eq (derived a x)) new ≡ false → new ≡ without_peer a old
+pub without_peer-removed : (a : SocketAddr) (old new : Peers)
+    → new ≡ remove_key (λ x. is_eq (derived a x)) old
+    → list_any (λ x. is_eq (derived a x)) new ≡ false → new ≡ without_peer a old
 without_peer-removed a old new removed none =
     removed ∙ remove_key-filter (λ x. is_eq (derived a x)) old (ap (list_any (λ x. is_eq (derived a x))) (sym removed) ∙ none)
     ∙ ap (λ (R : SocketAddr → SocketAddr → Ordering). filter (λ x. not (is_eq (R a x))) old) (λ i a b. by_cases a b i)

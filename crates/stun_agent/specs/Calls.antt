@@ -12,8 +12,8 @@ use Rattle.stun_agent.specs.Agent.{Agent, with_transactions, with_validated, wit
 use Rattle.stun_agent.specs.Timing.{Settings}
 use Rattle.stun_agent.specs.Transactions.{at, changed, silenced, cancelled, configured}
 
--- a call: a message is sent, a request is sent, a message comes, an address is validated or forgotten, both polls, and
--- what the user of a request does to it
+-- a call: a message is sent, a request is sent, a message comes, an address is validated or
+-- forgotten, both polls, and what the user of a request does to it
 pub data AgentCall : Type 0 where
   send : List ℕ → SocketAddr → AgentCall
   send_request : List ℕ → SocketAddr → ℕ → AgentCall

@@ -31,16 +31,17 @@ impl<A: Allocator + Copy> StunAgent<A> {
         Ok(())
     }
 
-    /// How many addresses are noted as validated, so that a caller can bound them. It does not walk and does not allocate.
+    /// How many addresses are noted as validated, so that a caller can bound them. It does not walk
+    /// and does not allocate.
     pub fn validated_peer_count(&self) -> usize
         ensures { result ≡ length self.now.peers }
     {
         self.peers.len()
     }
 
-    /// Forgets that messages from an address were taken, whoever noted it. Other addresses, requests and statistics stay as
-    /// they are. A request to it that is outstanding stays so, and its response notes the address again. It does not
-    /// allocate.
+    /// Forgets that messages from an address were taken, whoever noted it. Other addresses,
+    /// requests and statistics stay as they are. A request to it that is outstanding stays so, and
+    /// its response notes the address again. It does not allocate.
     pub fn forget_validated_peer(&mut self, addr: SocketAddr)
         ensures { self.new ≡ without_validated addr self.old }
     {
@@ -59,8 +60,8 @@ impl<A: Allocator + Copy> StunAgent<A> {
     /// Where an allocation fails to note the address, the agent is as before, and a response's request is still
     /// outstanding. An address that is noted already, and a message that is not taken, do not allocate.
     ///
-    /// A noted address stays until `forget_validated_peer`: bound from how many addresses you hand in messages, or forget
-    /// those that you are done with.
+    /// A noted address stays until `forget_validated_peer`: bound from how many addresses you hand
+    /// in messages, or forget those that you are done with.
     pub fn handle_stun_message(
         &mut self,
         msg: &Message<'_>,

@@ -11,6 +11,7 @@ pub mod JudgingLemmas
 pub mod LeastNames
 pub mod ListSteps
 pub mod Maps
+pub mod MeantUser
 pub mod NonceBits
 pub mod NonceLengths
 pub mod NonceTexts

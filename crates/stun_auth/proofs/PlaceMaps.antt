@@ -71,7 +71,8 @@ pub places_seen-none : {A : Type 0} (m : BTreeMap SocketAddr (Place A)) (a : Soc
 places_seen-none m a places change is found = ap (λ o. at_place o places a change) (found_there m a places None is found)
 
 -- ---- how many there are
-none_found : {A : Type 0} (q : SocketAddr) (es : List (SocketAddr × Place A)) → AllByRecursion (λ x. eq_by_cmp address_cmp q x ≡ false) (keys_of es)
+none_found : {A : Type 0} (q : SocketAddr) (es : List (SocketAddr × Place A))
+    → AllByRecursion (λ x. eq_by_cmp address_cmp q x ≡ false) (keys_of es)
     → is_some (fin.find address_cmp q (map (λ e. (e.0, place_seen e.1)) es)) ≡ false
 none_found q [] apart = refl
 none_found q (e ∷ es) apart =
@@ -81,7 +82,8 @@ one_more : (b : Bool) (n m : ℕ) → b ≡ false → n ≡ m → cond b n (n + 
 one_more true n m there is = cc
 one_more false n m there is = omega (arith, is)
 
-len_distinct : {A : Type 0} (es : List (SocketAddr × Place A)) → IsDistinct (eq_by_cmp address_cmp) (keys_of es) → fin.len (places_seen es) ≡ length es
+len_distinct : {A : Type 0} (es : List (SocketAddr × Place A))
+    → IsDistinct (eq_by_cmp address_cmp) (keys_of es) → fin.len (places_seen es) ≡ length es
 len_distinct [] distinct = fin.len-empty address_cmp PlaceSeen
 len_distinct (e ∷ es) distinct =
     fin.len-insert address_total (places_seen es) e.0 (place_seen e.1)
@@ -90,6 +92,7 @@ len_distinct (e ∷ es) distinct =
     (len_distinct es (IsDistinct-tail (eq_by_cmp address_cmp) e.0 (keys_of es) distinct))
 
 -- the finite map has as many addresses as the tree map has entries
-pub len-places_seen : {A : Type 0} (es : List (SocketAddr × Place A)) → IsStrictlySortedBy derived (keys_of es) → fin.len (places_seen es) ≡ length es
+pub len-places_seen : {A : Type 0} (es : List (SocketAddr × Place A))
+    → IsStrictlySortedBy derived (keys_of es) → fin.len (places_seen es) ≡ length es
 len-places_seen es sorted =
     len_distinct es (IsDistinct-from_sorted address_cmp (keys_of es) (subst (λ (R : SocketAddr → SocketAddr → Ordering). IsStrictlySortedBy R (keys_of es)) derived_is sorted))

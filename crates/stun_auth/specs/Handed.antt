@@ -1,7 +1,9 @@
--- A user who is handed in with a message, for a server that keeps no list of its users (RFC 8489, section 9.2.4).
+-- A user who is handed in with a message, for a server that keeps no list of its users (RFC 8489,
+-- section 9.2.4).
 use Rattle.std.specs.Prelude.{ℕ, List, if◌then◌else◌, Option, Some, None}
 use Rattle.std.specs.Option.{option_and_then, option_map}
 use Rattle.std.specs.FinMap as map
+use Rattle.std.specs.declared.net.socket_addr.SocketAddr.{SocketAddr}
 use Rattle.stun_base.specs.Credentials.{NameAndPassword}
 use Rattle.stun_base.specs.MessageType.{is_response}
 use Rattle.stun_auth.specs.declared.feature.Feature.{Feature}
@@ -12,7 +14,7 @@ use Rattle.stun_auth.specs.Reading.{Reading}
 use Rattle.stun_auth.specs.Registered.{Registered, name_cmp, user_named, user_with_hash}
 use Rattle.stun_auth.specs.Seen.{ClientSeen, PlaceSeen}
 use Rattle.stun_auth.specs.Server.{Sight}
-use Rattle.stun_auth.specs.Validation.{ServerSeen}
+use Rattle.stun_auth.specs.Validation.{ServerSeen, sight}
 
 -- ---- whom a message is judged by
 
@@ -35,7 +37,8 @@ named_in None username feature = option_map by_name username
 abbrev pub named_at : Option PlaceSeen → Option Named
 named_at place = option_map (λ (c : ClientSeen). by_name c.name) (option_and_then (λ (p : PlaceSeen). p.client) place)
 
--- by whose key a message is judged: of a response the client of its address, of all others the one whom it names
+-- by whose key a message is judged: of a response the client of its address, of all others the one
+-- whom it names
 abbrev pub judged_by : Sight → Reading → Option Named
 judged_by s r = if is_response r.class then named_at s.place else named_in r.userhash r.username s.feature
 
@@ -43,6 +46,10 @@ judged_by s r = if is_response r.class then named_at s.place else named_in r.use
 abbrev pub user_of : Registered → Named → Option NameAndPassword
 user_of users (by_name name) = user_named users name
 user_of users (by_hash hash) = user_with_hash users hash
+
+-- the one user whom a message means, if present
+abbrev pub meant : ServerSeen → SocketAddr → Reading → Option NameAndPassword
+meant s from r = option_and_then (user_of s.registered) (judged_by (sight s from) r)
 
 -- ---- a server with other users
 

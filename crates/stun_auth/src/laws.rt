@@ -22,6 +22,7 @@ ghost use Rattle.stun_auth.specs.ClientStep.{client_step};
 ghost use Rattle.stun_auth.specs.Feature.{is_possible};
 ghost use Rattle.stun_auth.specs.Forgetting.{after_forgetting, place_kept};
 ghost use Rattle.stun_auth.specs.ForgettingSteps.{after_steps};
+ghost use Rattle.stun_auth.specs.Handed.{just, meant, with_users};
 ghost use Rattle.stun_auth.specs.Joined.{HasAdded, IsReadBack, IsTyped, page_after};
 ghost use Rattle.stun_auth.specs.Nonces.{asks_for_algorithms, asks_for_userhash, nonce_of, security_bits, spelled_bits};
 ghost use Rattle.stun_auth.specs.Reading.{Reading, error_code, reading_of};
@@ -31,7 +32,7 @@ ghost use Rattle.stun_auth.specs.Server.{Sight, stands_at};
 ghost use Rattle.stun_auth.specs.ServerSigning.{after_signing, server_signed};
 ghost use Rattle.stun_auth.specs.ShortTerm.{Secret, short_term_answer};
 ghost use Rattle.stun_auth.specs.Signed.{Added, ClientMaySign, HasRoomFor, IsBuilt, IsSignable, IsSmall, IsText, IsUnsigned, IsWithinLimits, ReadsAs, ServerMaySign, added_by_client, added_by_server, additions_of, error_attribute};
-ghost use Rattle.stun_auth.specs.Validation.{ChangesNothing, ServerSeen, ValidatesAccepted, after_message, answer, needs_nonce, sight, verdict_at};
+ghost use Rattle.stun_auth.specs.Validation.{ChangesNothing, ServerSeen, ValidatesAccepted, after_message, answer, draws, needs_nonce, sight, verdict_at};
 
 use crate::client_answer::{
     LongTermClientAuthError, LongTermClientAuthErrorReason, LongTermClientValidation,
@@ -112,6 +113,21 @@ pub fn messages_that_change_nothing()
         (client : ClientSeen) → s.place ≡ Some place → stands_at now (Some place) ≡ true
         → verdict_at s place r ≡ Ok client → place.client ≡ Some client
         → ChangesNothing s now words r }
+{}
+
+/// A message is judged by the one user whom it means: a server that has just that user, or nobody
+/// where that user is not present, answers it as the server that has all users, from the same
+/// random words, and keeps the same for its address.
+pub fn the_named_user_is_enough()
+    ensures answer { (s : ServerSeen) (from : SocketAddr) (now : ℕ) (words : List ℕ) (r : Reading)
+        → answer (sight (with_users s (just s.registered (meant s from r))) from) now words r
+        ≡ answer (sight s from) now words r }
+    ensures state { (s : ServerSeen) (from : SocketAddr) (now : ℕ) (words : List ℕ) (r : Reading)
+        → after_message (with_users s (just s.registered (meant s from r))) from now words r
+        ≡ with_users (after_message s from now words r) (just s.registered (meant s from r)) }
+    ensures source { (s : ServerSeen) (from : SocketAddr) (now : ℕ) (r : Reading)
+        → draws (sight (with_users s (just s.registered (meant s from r))) from) now r
+        ≡ draws (sight s from) now r }
 {}
 
 /// Forgetting changes each address's place by itself. After it each address that has a nonce has a client, or a nonce whose

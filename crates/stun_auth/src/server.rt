@@ -28,6 +28,7 @@ use stun_base::algorithm::IntegrityAlgorithm;
 use stun_base::credentials::LongTermCredentials;
 use stun_base::instant::Instant;
 
+mod handed;
 mod signing;
 mod validation;
 
@@ -125,8 +126,9 @@ impl<A: Allocator + Copy> LongTermServerAuth<A> {
         self.feature
     }
 
-    /// How many addresses something is kept of, so that a caller can bound them: a message from one more may add one, and
-    /// only `forget`, `forget_expired` and `forget_expired_within` take any away. It does not walk and does not allocate.
+    /// How many addresses something is kept of, so that a caller can bound them: a message from one
+    /// more may add one, and only `forget`, `forget_expired` and `forget_expired_within` take any
+    /// away. It does not walk and does not allocate.
     pub fn address_count(&self) -> usize
         ensures { result ≡ map.len self.now.places }
     {

@@ -1,6 +1,6 @@
 //! A user who is handed in with a message, for a server that looks its users up elsewhere.
 
-ghost use Rattle.std.specs.Prelude.{◌≡◌, Option, None, Some, codes};
+ghost use Rattle.std.specs.Prelude.{Some, codes};
 ghost use Rattle.std.specs.Fmt.{WritesOnOk, WritesStyledOnOk};
 
 use crate::registry::Registry;
@@ -8,10 +8,11 @@ use std::alloc::{Allocator, Global};
 use std::fmt;
 use std::marker::Model;
 
-/// A user with a key for each algorithm that a server supports, which `LongTermServerAuth::prepare_user` makes.
+/// A user with a key for each algorithm that a server supports, which
+/// `LongTermServerAuth::prepare_user` makes.
 ///
-/// Contracts see the realm and the algorithms that the server had then, with this user's password alone. `Debug` shows nothing
-/// of what it holds.
+/// Contracts see the realm and the algorithms that the server had then, with this user's password
+/// alone. `Debug` shows nothing of what it holds.
 #[derive(Drop)]
 pub struct LongTermServerUser<A: Allocator = Global> {
     pub(crate) registry: Registry<A>,

@@ -14,6 +14,8 @@ pub mod Answers
 pub mod Server
 -- what signing makes of a message in a caller's buffer
 pub mod Signing
+-- a verdict in two steps, with a user whom the caller hands in
+pub mod Handed
 -- what the calls on a client answer and leave
 pub mod Client
 -- which calls keep nothing more, and so answer no failed allocation

@@ -11,6 +11,7 @@ mod calls;
 mod client;
 mod codes;
 mod desk;
+mod handed;
 mod handle;
 mod server;
 mod signing;

@@ -249,15 +249,15 @@ pub fn sign(
 
 /// How long a message is once it is signed.
 #[derive(Clone, Copy)]
-struct Measured {
+pub struct Measured {
     /// Its bytes, as far as a `usize` reaches.
-    whole: usize,
+    pub whole: usize,
     /// Whether the length field cannot tell that.
-    is_long: bool,
+    pub is_long: bool,
 }
 
 /// How long a message to an address is once it is signed, where a buffer of `room` bytes has room for it then.
-fn measure(
+pub fn measure(
     server: &LongTermServerAuth<Global>,
     message: &Message<'_>,
     room: usize,
@@ -403,17 +403,12 @@ pub fn validate(
     let from = from.socket()?;
     let message = Message::from_bytes(message)?;
     check_room(&kept.server, kept.most_addresses, from)?;
-    validate_message(
-        &mut kept.server,
-        &message,
-        from,
-        Instant::from_nanos(now),
-        *words,
-    )
+    let moment = Instant::from_nanos(now);
+    validate_message(&mut kept.server, &message, from, moment, *words)
 }
 
 /// Refuses an address of which nothing is kept, where something is of as many as may be.
-fn check_room(
+pub fn check_room(
     server: &LongTermServerAuth<Global>,
     most: usize,
     from: SocketAddr,
@@ -453,7 +448,7 @@ fn validate_message(
 }
 
 /// The algorithm with which a message is accepted.
-fn validated_algorithm(validation: LongTermServerValidation) -> IntegrityAlgorithm
+pub fn validated_algorithm(validation: LongTermServerValidation) -> IntegrityAlgorithm
     ensures { LongTermServerValidation.Validated result ≡ validation }
 {
     match validation {

@@ -1,5 +1,5 @@
-//! A verdict in two steps, for a server that looks its users up elsewhere: who asks, and then the verdict with that user
-//! handed in (RFC 8489, section 9.2.4).
+//! A verdict in two steps, for a server that looks its users up elsewhere: who asks, and then the
+//! verdict with that user handed in (RFC 8489, section 9.2.4).
 //!
 //! ```text
 //! let Some(named) = server.named_user(&message, from) else { .. validate_incoming_message .. };
@@ -58,12 +58,13 @@ fn named_in<'a>(reading: &Reading<'a, '_>, feature: Feature) -> Option<NamedUser
 }
 
 impl<A: Allocator + Copy> LongTermServerAuth<A> {
-    /// By whose key a message from an address is judged, as its verdict reads it: of a response the address's client; of any
-    /// other message the last visible USERHASH, where hashes are taken, or else the last visible USERNAME. Where both are there
-    /// the hash decides. `None` where nobody is meant: the verdict is then the same whoever the users are.
+    /// By whose key a message from an address is judged, as its verdict reads it: of a response the
+    /// address's client; of any other message the last visible USERHASH, where hashes are taken, or
+    /// else the last visible USERNAME. Where both are there the hash decides. `None` where nobody
+    /// is meant: the verdict is then the same whoever the users are.
     ///
-    /// It tells a name whether or not that user is present, and does not look at the digest: whoever sends can name anyone.
-    /// It does not allocate.
+    /// It tells a name whether or not that user is present, and does not look at the digest:
+    /// whoever sends can name anyone. It does not allocate.
     pub fn named_user<'a>(
         &'a self,
         message: &Message<'a>,
@@ -82,8 +83,9 @@ impl<A: Allocator + Copy> LongTermServerAuth<A> {
         }
     }
 
-    /// A user with the keys of this password at the server's realm, one for each algorithm that the server supports now: to be
-    /// handed in with a message. The server stays as it is. Prepare the user anew where the supported algorithms changed.
+    /// A user with the keys of this password at the server's realm, one for each algorithm that the
+    /// server supports now: to be handed in with a message. The server stays as it is. Prepare the
+    /// user anew where the supported algorithms changed.
     ///
     /// The one error is that an allocation fails.
     pub fn prepare_user(
@@ -96,13 +98,15 @@ impl<A: Allocator + Copy> LongTermServerAuth<A> {
         Ok(LongTermServerUser { registry })
     }
 
-    /// Judges a message as `validate_incoming_message` of the server that has just this user: the same answer, the same
-    /// place of the address, the same nonce from the same random words. The server's own users are not looked at and stay
-    /// as they are, and so does the user who is handed in.
+    /// Judges a message as `validate_incoming_message` of the server that has just this user: the
+    /// same answer, the same place of the address, the same nonce from the same random words. The
+    /// server's own users are not looked at and stay as they are, and so does the user who is
+    /// handed in.
     ///
-    /// Where the user is the one whom `named_user` tells, the answer is the one of a server that has all users (law
-    /// `the_named_user_is_enough`); where there is no such user, `validate_incoming_message` of a server without users
-    /// gives that one. Whoever is accepted is then the address's client: hand the same user in where an answer is signed.
+    /// Where the user is the one whom `named_user` tells, the answer is the one of a server that
+    /// has all users (law `the_named_user_is_enough`); where there is no such user,
+    /// `validate_incoming_message` of a server without users gives that one. Whoever is accepted is
+    /// then the address's client: hand the same user in where an answer is signed.
     ///
     /// It refuses as `validate_incoming_message`, `OutOfMemory` included.
     pub fn validate_incoming_message_of<R: Rng>(
@@ -141,10 +145,11 @@ impl<A: Allocator + Copy> LongTermServerAuth<A> {
         answer
     }
 
-    /// Signs as `sign_outgoing_message` of the server that has just this user: where the address has a client, the digest is
-    /// under that user's key, or the refusal is `IntegrityFailed` where the user is not the client. The server's own users are
-    /// not looked at and stay as they are, and so does the user who is handed in. `message_signature_bytes` tells how many
-    /// bytes are added, whoever the users are.
+    /// Signs as `sign_outgoing_message` of the server that has just this user: where the address
+    /// has a client, the digest is under that user's key, or the refusal is `IntegrityFailed` where
+    /// the user is not the client. The server's own users are not looked at and stay as they are,
+    /// and so does the user who is handed in. `message_signature_bytes` tells how many bytes are
+    /// added, whoever the users are.
     pub fn sign_outgoing_message_of<W: MessageWrite>(
         &mut self,
         writer: W,

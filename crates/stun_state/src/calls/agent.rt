@@ -86,6 +86,38 @@ pub extern "C" fn stunp_agent_new_with(
     }
 }
 
+/// What the agent counted.
+#[unsafe(no_mangle)]
+pub extern "C" fn stunp_agent_statistics(
+    alloc: Global,
+    handle: &mut AgentHandle,
+    statistics: &mut Statistics,
+) -> i64
+    ensures empty { IfNone handle.old.agent ((result ≡ code_of Refusal.EmptyHandle)
+        × (handle.new.agent ≡ None)
+        × (statistics.new ≡ statistics.old)) }
+    ensures answer { IfSome handle.old.agent (λ _. result
+        ≡ done_answer (statistics_answer statistics.old)) }
+    ensures told { IfSome handle.old.agent (λ kept. statistics.new ≡ left_by result statistics.old
+        (told_of kept.agent.statistics statistics.old)) }
+    ensures same { handle.new.agent ≡ handle.old.agent }
+{
+    let Some(mut kept) = handle.take(alloc) else {
+        return Refusal::EmptyHandle.code();
+    };
+    let answer = answers::done(agent::tell_statistics(&kept.agent, statistics));
+    handle.put(alloc, kept);
+    answer
+}
+
+/// Frees the agent. The handle is empty then.
+#[unsafe(no_mangle)]
+pub extern "C" fn stunp_agent_clear(alloc: Global, handle: &mut AgentHandle)
+    ensures { handle.new.agent ≡ None }
+{
+    let _agent = handle.take(alloc);
+}
+
 /// Keeps a request and counts it.
 #[unsafe(no_mangle)]
 pub extern "C" fn stunp_agent_send_request(
@@ -141,32 +173,34 @@ pub extern "C" fn stunp_agent_send(
     answer
 }
 
-/// What is to be done at a moment.
+/// Takes a message that came from an address.
 #[unsafe(no_mangle)]
-pub extern "C" fn stunp_agent_poll(
+pub extern "C" fn stunp_agent_handle(
     alloc: Global,
     handle: &mut AgentHandle,
+    message: &[u8],
+    from: &Address,
     now: u64,
-    until: &mut u64,
-    id: &mut [u8],
 ) -> i64
     ensures empty { IfNone handle.old.agent ((result ≡ code_of Refusal.EmptyHandle)
-        × (handle.new.agent ≡ None)
-        × (until.new ≡ until.old) × (id.new ≡ id.old)) }
-    ensures answer { IfSome handle.old.agent (λ kept. result ≡ number_answer
-        (polled (length id.old) (poll_answer now kept.agent))) }
+        × (handle.new.agent ≡ None)) }
+    ensures answer { IfSome handle.old.agent (λ kept. IsOrOutOfMemory result (number_answer
+        (at_address (socket_address from.now) (handled kept.agent message.now)))) }
     ensures state { IfSome handle.old.agent (λ kept. handle.new.agent ≡ Some (record {
-      agent = left_by result kept.agent (after_poll now kept.agent);
+      agent = left_by result kept.agent
+          (kept_after_message kept.agent message.now from.now now);
     })) }
-    ensures until { IfSome handle.old.agent (λ kept. until.new ≡ left_by result until.old
-        (moment_told (poll_answer now kept.agent) until.old)) }
-    ensures id { IfSome handle.old.agent (λ kept. id.new ≡ left_by result id.old
-        (id_told (poll_answer now kept.agent) id.old)) }
+
+    // Where no address is added to those that are kept, no failed allocation is answered.
+    ensures no_memory { IfSome handle.old.agent (λ kept.
+        IsTrue (message_adds_none kept.agent message.now (socket_address from.now)) →
+        result ≡ number_answer
+        (at_address (socket_address from.now) (handled kept.agent message.now))) }
 {
     let Some(mut kept) = handle.take(alloc) else {
         return Refusal::EmptyHandle.code();
     };
-    let answer = answers::number(agent::poll(&mut kept.agent, now, until, id));
+    let answer = answers::number(agent::handle(&mut kept.agent, message, from, now));
     handle.put(alloc, kept);
     answer
 }
@@ -203,123 +237,32 @@ pub extern "C" fn stunp_agent_poll_transmit(
     answer
 }
 
-/// Takes a message that came from an address.
+/// What is to be done at a moment.
 #[unsafe(no_mangle)]
-pub extern "C" fn stunp_agent_handle(
+pub extern "C" fn stunp_agent_poll(
     alloc: Global,
     handle: &mut AgentHandle,
-    message: &[u8],
-    from: &Address,
     now: u64,
+    until: &mut u64,
+    id: &mut [u8],
 ) -> i64
     ensures empty { IfNone handle.old.agent ((result ≡ code_of Refusal.EmptyHandle)
-        × (handle.new.agent ≡ None)) }
-    ensures answer { IfSome handle.old.agent (λ kept. IsOrOutOfMemory result (number_answer
-        (at_address (socket_address from.now) (handled kept.agent message.now)))) }
-    ensures state { IfSome handle.old.agent (λ kept. handle.new.agent ≡ Some (record {
-      agent = left_by result kept.agent
-          (kept_after_message kept.agent message.now from.now now);
-    })) }
-
-    // Where no address is added to those that are kept, no failed allocation is answered.
-    ensures no_memory { IfSome handle.old.agent (λ kept.
-        IsTrue (message_adds_none kept.agent message.now (socket_address from.now)) →
-        result ≡ number_answer
-        (at_address (socket_address from.now) (handled kept.agent message.now))) }
-{
-    let Some(mut kept) = handle.take(alloc) else {
-        return Refusal::EmptyHandle.code();
-    };
-    let answer = answers::number(agent::handle(&mut kept.agent, message, from, now));
-    handle.put(alloc, kept);
-    answer
-}
-
-/// Names an address as one whose messages were taken.
-#[unsafe(no_mangle)]
-pub extern "C" fn stunp_agent_validated_peer(
-    alloc: Global,
-    handle: &mut AgentHandle,
-    peer: &Address,
-) -> i64
-    ensures empty { IfNone handle.old.agent ((result ≡ code_of Refusal.EmptyHandle)
-        × (handle.new.agent ≡ None)) }
-    ensures answer { IfSome handle.old.agent (λ _. IsOrOutOfMemory result (done_answer
-        (done_if_given (socket_address peer.now)))) }
-    ensures state { IfSome handle.old.agent (λ kept. handle.new.agent ≡ Some (record {
-      agent = left_by result kept.agent (kept_after_naming kept.agent peer.now);
-    })) }
-
-    // For an address that is kept already no failed allocation is answered.
-    ensures there { IfSome handle.old.agent (λ kept.
-        IsTrue (naming_adds_none kept.agent (socket_address peer.now)) →
-        result ≡ done_answer (done_if_given (socket_address peer.now))) }
-{
-    let Some(mut kept) = handle.take(alloc) else {
-        return Refusal::EmptyHandle.code();
-    };
-    let answer = answers::done(agent::validated_peer(&mut kept.agent, peer));
-    handle.put(alloc, kept);
-    answer
-}
-
-/// Whether a message from an address was taken, or the address was named as such.
-#[unsafe(no_mangle)]
-pub extern "C" fn stunp_agent_is_validated_peer(
-    alloc: Global,
-    handle: &mut AgentHandle,
-    peer: &Address,
-) -> i64
-    ensures empty { IfNone handle.old.agent ((result ≡ code_of Refusal.EmptyHandle)
-        × (handle.new.agent ≡ None)) }
+        × (handle.new.agent ≡ None)
+        × (until.new ≡ until.old) × (id.new ≡ id.old)) }
     ensures answer { IfSome handle.old.agent (λ kept. result ≡ number_answer
-        (at_address (socket_address peer.now) (known kept.agent))) }
-    ensures same { handle.new.agent ≡ handle.old.agent }
-{
-    let Some(mut kept) = handle.take(alloc) else {
-        return Refusal::EmptyHandle.code();
-    };
-    let answer = answers::number(agent::is_validated_peer(&kept.agent, peer));
-    handle.put(alloc, kept);
-    answer
-}
-
-/// How many addresses are kept from which a message was taken, or which were named.
-#[unsafe(no_mangle)]
-pub extern "C" fn stunp_agent_peer_count(alloc: Global, handle: &mut AgentHandle) -> i64
-    ensures empty { IfNone handle.old.agent ((result ≡ code_of Refusal.EmptyHandle)
-        × (handle.new.agent ≡ None)) }
-    ensures answer { IfSome handle.old.agent (λ kept. result
-        ≡ length_answer (Ok (length kept.agent.peers))) }
-    ensures same { handle.new.agent ≡ handle.old.agent }
-{
-    let Some(kept) = handle.take(alloc) else {
-        return Refusal::EmptyHandle.code();
-    };
-    let answer = answers::length(Ok(kept.agent.validated_peer_count()));
-    handle.put(alloc, kept);
-    answer
-}
-
-/// Forgets that messages from an address were taken, or that it was named.
-#[unsafe(no_mangle)]
-pub extern "C" fn stunp_agent_forget_peer(
-    alloc: Global,
-    handle: &mut AgentHandle,
-    peer: &Address,
-) -> i64
-    ensures empty { IfNone handle.old.agent ((result ≡ code_of Refusal.EmptyHandle)
-        × (handle.new.agent ≡ None)) }
-    ensures answer { IfSome handle.old.agent (λ _. result ≡ done_answer
-        (done_if_given (socket_address peer.now))) }
+        (polled (length id.old) (poll_answer now kept.agent))) }
     ensures state { IfSome handle.old.agent (λ kept. handle.new.agent ≡ Some (record {
-      agent = kept_after_forgetting kept.agent peer.now;
+      agent = left_by result kept.agent (after_poll now kept.agent);
     })) }
+    ensures until { IfSome handle.old.agent (λ kept. until.new ≡ left_by result until.old
+        (moment_told (poll_answer now kept.agent) until.old)) }
+    ensures id { IfSome handle.old.agent (λ kept. id.new ≡ left_by result id.old
+        (id_told (poll_answer now kept.agent) id.old)) }
 {
     let Some(mut kept) = handle.take(alloc) else {
         return Refusal::EmptyHandle.code();
     };
-    let answer = answers::done(agent::forget_peer(&mut kept.agent, peer));
+    let answer = answers::number(agent::poll(&mut kept.agent, now, until, id));
     handle.put(alloc, kept);
     answer
 }
@@ -415,34 +358,91 @@ pub extern "C" fn stunp_agent_configure(
     answer
 }
 
-/// What the agent counted.
+/// Names an address as one whose messages were taken.
 #[unsafe(no_mangle)]
-pub extern "C" fn stunp_agent_statistics(
+pub extern "C" fn stunp_agent_validated_peer(
     alloc: Global,
     handle: &mut AgentHandle,
-    statistics: &mut Statistics,
+    peer: &Address,
 ) -> i64
     ensures empty { IfNone handle.old.agent ((result ≡ code_of Refusal.EmptyHandle)
-        × (handle.new.agent ≡ None)
-        × (statistics.new ≡ statistics.old)) }
-    ensures answer { IfSome handle.old.agent (λ _. result
-        ≡ done_answer (statistics_answer statistics.old)) }
-    ensures told { IfSome handle.old.agent (λ kept. statistics.new ≡ left_by result statistics.old
-        (told_of kept.agent.statistics statistics.old)) }
+        × (handle.new.agent ≡ None)) }
+    ensures answer { IfSome handle.old.agent (λ _. IsOrOutOfMemory result (done_answer
+        (done_if_given (socket_address peer.now)))) }
+    ensures state { IfSome handle.old.agent (λ kept. handle.new.agent ≡ Some (record {
+      agent = left_by result kept.agent (kept_after_naming kept.agent peer.now);
+    })) }
+
+    // For an address that is kept already no failed allocation is answered.
+    ensures there { IfSome handle.old.agent (λ kept.
+        IsTrue (naming_adds_none kept.agent (socket_address peer.now)) →
+        result ≡ done_answer (done_if_given (socket_address peer.now))) }
+{
+    let Some(mut kept) = handle.take(alloc) else {
+        return Refusal::EmptyHandle.code();
+    };
+    let answer = answers::done(agent::validated_peer(&mut kept.agent, peer));
+    handle.put(alloc, kept);
+    answer
+}
+
+/// Whether a message from an address was taken, or the address was named as such.
+#[unsafe(no_mangle)]
+pub extern "C" fn stunp_agent_is_validated_peer(
+    alloc: Global,
+    handle: &mut AgentHandle,
+    peer: &Address,
+) -> i64
+    ensures empty { IfNone handle.old.agent ((result ≡ code_of Refusal.EmptyHandle)
+        × (handle.new.agent ≡ None)) }
+    ensures answer { IfSome handle.old.agent (λ kept. result ≡ number_answer
+        (at_address (socket_address peer.now) (known kept.agent))) }
     ensures same { handle.new.agent ≡ handle.old.agent }
 {
     let Some(mut kept) = handle.take(alloc) else {
         return Refusal::EmptyHandle.code();
     };
-    let answer = answers::done(agent::tell_statistics(&kept.agent, statistics));
+    let answer = answers::number(agent::is_validated_peer(&kept.agent, peer));
     handle.put(alloc, kept);
     answer
 }
 
-/// Frees the agent. The handle is empty then.
+/// How many addresses are kept from which a message was taken, or which were named.
 #[unsafe(no_mangle)]
-pub extern "C" fn stunp_agent_clear(alloc: Global, handle: &mut AgentHandle)
-    ensures { handle.new.agent ≡ None }
+pub extern "C" fn stunp_agent_peer_count(alloc: Global, handle: &mut AgentHandle) -> i64
+    ensures empty { IfNone handle.old.agent ((result ≡ code_of Refusal.EmptyHandle)
+        × (handle.new.agent ≡ None)) }
+    ensures answer { IfSome handle.old.agent (λ kept. result
+        ≡ length_answer (Ok (length kept.agent.peers))) }
+    ensures same { handle.new.agent ≡ handle.old.agent }
 {
-    let _agent = handle.take(alloc);
+    let Some(kept) = handle.take(alloc) else {
+        return Refusal::EmptyHandle.code();
+    };
+    let answer = answers::length(Ok(kept.agent.validated_peer_count()));
+    handle.put(alloc, kept);
+    answer
+}
+
+/// Forgets that messages from an address were taken, or that it was named.
+#[unsafe(no_mangle)]
+pub extern "C" fn stunp_agent_forget_peer(
+    alloc: Global,
+    handle: &mut AgentHandle,
+    peer: &Address,
+) -> i64
+    ensures empty { IfNone handle.old.agent ((result ≡ code_of Refusal.EmptyHandle)
+        × (handle.new.agent ≡ None)) }
+    ensures answer { IfSome handle.old.agent (λ _. result ≡ done_answer
+        (done_if_given (socket_address peer.now))) }
+    ensures state { IfSome handle.old.agent (λ kept. handle.new.agent ≡ Some (record {
+      agent = kept_after_forgetting kept.agent peer.now;
+    })) }
+{
+    let Some(mut kept) = handle.take(alloc) else {
+        return Refusal::EmptyHandle.code();
+    };
+    let answer = answers::done(agent::forget_peer(&mut kept.agent, peer));
+    handle.put(alloc, kept);
+    answer
 }

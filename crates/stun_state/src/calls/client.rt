@@ -108,21 +108,12 @@ pub extern "C" fn stunp_client_set_anonymous_username(
     answer
 }
 
-/// By which algorithm a message would be signed now.
+/// Frees the client. The handle is empty then.
 #[unsafe(no_mangle)]
-pub extern "C" fn stunp_client_signing_algorithm(alloc: Global, handle: &mut ClientHandle) -> i64
-    ensures empty { IfNone handle.old.client ((result ≡ code_of Refusal.EmptyHandle)
-        × (handle.new.client ≡ None)) }
-    ensures answer { IfSome handle.old.client (λ kept. result
-        ≡ pos (algorithm_or_none (signing_algorithm kept.client.state))) }
-    ensures same { handle.new.client ≡ handle.old.client }
+pub extern "C" fn stunp_client_clear(alloc: Global, handle: &mut ClientHandle)
+    ensures { handle.new.client ≡ None }
 {
-    let Some(mut kept) = handle.take(alloc) else {
-        return Refusal::EmptyHandle.code();
-    };
-    let answer = i64::from(client::signing_algorithm(&kept.client));
-    handle.put(alloc, kept);
-    answer
+    let _client = handle.take(alloc);
 }
 
 /// Signs the message at the front of a buffer.
@@ -146,6 +137,23 @@ pub extern "C" fn stunp_client_sign(
         return Refusal::EmptyHandle.code();
     };
     let answer = answers::length(client::sign(&mut kept.client, buffer, length));
+    handle.put(alloc, kept);
+    answer
+}
+
+/// By which algorithm a message would be signed now.
+#[unsafe(no_mangle)]
+pub extern "C" fn stunp_client_signing_algorithm(alloc: Global, handle: &mut ClientHandle) -> i64
+    ensures empty { IfNone handle.old.client ((result ≡ code_of Refusal.EmptyHandle)
+        × (handle.new.client ≡ None)) }
+    ensures answer { IfSome handle.old.client (λ kept. result
+        ≡ pos (algorithm_or_none (signing_algorithm kept.client.state))) }
+    ensures same { handle.new.client ≡ handle.old.client }
+{
+    let Some(mut kept) = handle.take(alloc) else {
+        return Refusal::EmptyHandle.code();
+    };
+    let answer = i64::from(client::signing_algorithm(&kept.client));
     handle.put(alloc, kept);
     answer
 }
@@ -175,12 +183,4 @@ pub extern "C" fn stunp_client_validate(
     let answer = answers::reading(client::validate(&mut kept.client, message));
     handle.put(alloc, kept);
     answer
-}
-
-/// Frees the client. The handle is empty then.
-#[unsafe(no_mangle)]
-pub extern "C" fn stunp_client_clear(alloc: Global, handle: &mut ClientHandle)
-    ensures { handle.new.client ≡ None }
-{
-    let _client = handle.take(alloc);
 }

@@ -5,12 +5,13 @@ ghost use Rattle.std.specs.Prelude.{◌≡◌, length, pos, MatchOption, Some, N
 ghost use Rattle.stun_auth.specs.Forgetting.{after_forgetting, without_place};
 ghost use Rattle.stun_auth.specs.ForgettingSteps.{after_step, next_address};
 ghost use Rattle.stun_state.specs.Addresses.{socket_address, start_for, start_told};
-ghost use Rattle.stun_state.specs.Answers.{after_address, after_start, at_start, done_if_given, text_refusal, texts_refusal, unless_refused};
+ghost use Rattle.stun_state.specs.Answers.{after_address, after_start, at_address, at_start, done_if_given, text_refusal, texts_refusal, unless_refused};
+ghost use Rattle.stun_state.specs.Handed.{kept_after_signing_of, kept_after_validating_of, named_by, naming_answer, naming_length, naming_written, signed_of, validation_number_of};
 ghost use Rattle.stun_auth.specs.Registered.{with_user};
 ghost use Rattle.stun_auth.specs.Validation.{new_server};
 ghost use Rattle.stun_state.specs.Codes.{algorithms_numbered, code_of, feature_numbered};
 ghost use Rattle.stun_state.specs.Memory.{LeavesServer};
-ghost use Rattle.stun_state.specs.Numbers.{OrOutOfMemory, done_answer, found_answer, left_by, length_answer, number_answer};
+ghost use Rattle.stun_state.specs.Numbers.{IsOrOutOfMemory, OrOutOfMemory, done_answer, found_answer, left_by, length_answer, number_answer};
 ghost use Rattle.stun_state.specs.Server as on_server;
 ghost use Rattle.stun_state.specs.Server.{UNBOUNDED, client_at, client_found, kept_after_validating, name_length_of, name_written, nonce_at, nonce_found, nonce_written, step_answer, validation_number, with_expiry, without_client, without_named};
 ghost use Rattle.stun_state.specs.Signing.{buffer_after, kept_after_signing, length_of, signed_for};
@@ -18,7 +19,7 @@ ghost use Rattle.stun_state.specs.Signing.{buffer_after, kept_after_signing, len
 use crate::address::Address;
 use crate::codes::Refusal;
 use crate::handle::server::{Server, ServerHandle};
-use crate::{answers, server};
+use crate::{answers, handed, server};
 use std::alloc::Global;
 
 /// Fills a handle with a server of a realm.
@@ -142,21 +143,12 @@ pub extern "C" fn stunp_server_set_most_addresses(
     0
 }
 
-/// Of how many addresses something is kept.
+/// Frees the server. The handle is empty then.
 #[unsafe(no_mangle)]
-pub extern "C" fn stunp_server_address_count(alloc: Global, handle: &mut ServerHandle) -> i64
-    ensures empty { IfNone handle.old.server ((result ≡ code_of Refusal.EmptyHandle)
-        × (handle.new.server ≡ None)) }
-    ensures answer { IfSome handle.old.server (λ kept. result
-        ≡ length_answer (Ok (map.len kept.server.places))) }
-    ensures same { handle.new.server ≡ handle.old.server }
+pub extern "C" fn stunp_server_clear(alloc: Global, handle: &mut ServerHandle)
+    ensures { handle.new.server ≡ None }
 {
-    let Some(kept) = handle.take(alloc) else {
-        return Refusal::EmptyHandle.code();
-    };
-    let answer = answers::length(Ok(kept.server.address_count()));
-    handle.put(alloc, kept);
-    answer
+    let _server = handle.take(alloc);
 }
 
 /// Registers a user.
@@ -207,6 +199,243 @@ pub extern "C" fn stunp_server_remove_user(
         return Refusal::EmptyHandle.code();
     };
     let answer = answers::done(server::remove_user(&mut kept.server, name));
+    handle.put(alloc, kept);
+    answer
+}
+
+/// Who signed a message that came from an address.
+#[unsafe(no_mangle)]
+pub extern "C" fn stunp_server_validate(
+    alloc: Global,
+    handle: &mut ServerHandle,
+    message: &[u8],
+    from: &Address,
+    now: u64,
+    words: &[u32; 16],
+) -> i64
+    ensures empty { IfNone handle.old.server ((result ≡ code_of Refusal.EmptyHandle)
+        × (handle.new.server ≡ None)) }
+
+    // The number of what the authenticator answers, and what its call leaves.
+    ensures answer { IfSome handle.old.server (λ kept. OrOutOfMemory result
+        handle.old.server handle.new.server
+        (validation_number kept message.now from.now now words.now)
+        (Some (record kept {
+          server = kept_after_validating kept message.now from.now now words.now;
+        }))) }
+
+    // Where nothing of the server changes, as where the same client is accepted again, no failed allocation is answered.
+    ensures unchanged { IfSome handle.old.server (λ kept.
+        LeavesServer kept message.now now words.now (socket_address from.now) →
+        result ≡ validation_number kept message.now from.now now words.now) }
+{
+    let Some(mut kept) = handle.take(alloc) else {
+        return Refusal::EmptyHandle.code();
+    };
+    let answer = answers::algorithm(server::validate(&mut kept, message, from, now, words));
+    handle.put(alloc, kept);
+    answer
+}
+
+/// Who was validated last at an address.
+#[unsafe(no_mangle)]
+pub extern "C" fn stunp_server_client(
+    alloc: Global,
+    handle: &mut ServerHandle,
+    at: &Address,
+    name: &mut [u8],
+    name_length: &mut usize,
+) -> i64
+    ensures empty { IfNone handle.old.server ((result ≡ code_of Refusal.EmptyHandle)
+        × (handle.new.server ≡ None)
+        × (name.new ≡ name.old) × (name_length.new ≡ name_length.old)) }
+    ensures answer { IfSome handle.old.server (λ kept. result ≡ found_answer
+        (client_found kept.server at.now (length name.old))) }
+    ensures name { IfSome handle.old.server (λ kept. name.new
+        ≡ after_address (socket_address at.now) name.old
+        (λ at. name_written name.old (client_at kept.server at))) }
+
+    // Also where the buffer has no room for the name.
+    ensures name_length { IfSome handle.old.server (λ kept. name_length.new
+        ≡ after_address (socket_address at.now) name_length.old
+        (λ at. name_length_of (client_at kept.server at) name_length.old)) }
+    ensures same { handle.new.server ≡ handle.old.server }
+{
+    let Some(mut kept) = handle.take(alloc) else {
+        return Refusal::EmptyHandle.code();
+    };
+    let answer = answers::found(server::client(&kept.server, at, name, name_length));
+    handle.put(alloc, kept);
+    answer
+}
+
+/// Signs the message at the front of a buffer, which goes to an address.
+#[unsafe(no_mangle)]
+pub extern "C" fn stunp_server_sign(
+    alloc: Global,
+    handle: &mut ServerHandle,
+    buffer: &mut [u8],
+    length: usize,
+    to: &Address,
+) -> i64
+    ensures empty { IfNone handle.old.server ((result ≡ code_of Refusal.EmptyHandle)
+        × (handle.new.server ≡ None)
+        × (buffer.new ≡ buffer.old)) }
+    ensures answer { IfSome handle.old.server (λ kept. result
+        ≡ length_answer (length_of (signed_for kept.server buffer.old length to.now))) }
+    ensures written { IfSome handle.old.server (λ kept. buffer.new
+        ≡ buffer_after (signed_for kept.server buffer.old length to.now) buffer.old) }
+    ensures state { IfSome handle.old.server (λ kept. handle.new.server ≡ Some (record kept {
+      server = left_by result kept.server
+          (kept_after_signing kept.server buffer.old length to.now);
+    })) }
+{
+    let Some(mut kept) = handle.take(alloc) else {
+        return Refusal::EmptyHandle.code();
+    };
+    let answer = answers::length(server::sign(&mut kept.server, buffer, length, to));
+    handle.put(alloc, kept);
+    answer
+}
+
+/// By whose key a message that came from an address is judged.
+#[unsafe(no_mangle)]
+pub extern "C" fn stunp_server_named_user(
+    alloc: Global,
+    handle: &mut ServerHandle,
+    message: &[u8],
+    from: &Address,
+    name: &mut [u8],
+    name_length: &mut usize,
+) -> i64
+    ensures empty { IfNone handle.old.server ((result ≡ code_of Refusal.EmptyHandle)
+        × (handle.new.server ≡ None)
+        × (name.new ≡ name.old) × (name_length.new ≡ name_length.old)) }
+    ensures answer { IfSome handle.old.server (λ kept. result ≡ number_answer
+        (at_address (socket_address from.now)
+        (naming_answer kept.server message.now (length name.old)))) }
+    ensures name { IfSome handle.old.server (λ kept. name.new
+        ≡ after_address (socket_address from.now) name.old
+        (λ from. naming_written name.old (named_by kept.server message.now from))) }
+
+    // Also where the buffer has no room for it.
+    ensures name_length { IfSome handle.old.server (λ kept. name_length.new
+        ≡ after_address (socket_address from.now) name_length.old
+        (λ from. naming_length (named_by kept.server message.now from) name_length.old)) }
+    ensures same { handle.new.server ≡ handle.old.server }
+{
+    let Some(kept) = handle.take(alloc) else {
+        return Refusal::EmptyHandle.code();
+    };
+    let named = handed::named_user(&kept.server, message, from, name, name_length);
+    let answer = answers::number(named);
+    handle.put(alloc, kept);
+    answer
+}
+
+/// Who signed a message that came from an address, where the server has just the user of a name and a password.
+#[unsafe(no_mangle)]
+pub extern "C" fn stunp_server_validate_of(
+    alloc: Global,
+    handle: &mut ServerHandle,
+    message: &[u8],
+    from: &Address,
+    now: u64,
+    words: &[u32; 16],
+    name: &[u8],
+    password: &[u8],
+) -> i64
+    ensures empty { IfNone handle.old.server ((result ≡ code_of Refusal.EmptyHandle)
+        × (handle.new.server ≡ None)) }
+    ensures answer { IfSome handle.old.server (λ kept. OrOutOfMemory result
+        handle.old.server handle.new.server
+        (validation_number_of kept message.now from.now now words.now name.now password.now)
+        (Some (record kept {
+          server = kept_after_validating_of kept message.now from.now now words.now
+              name.now password.now;
+        }))) }
+{
+    let Some(mut kept) = handle.take(alloc) else {
+        return Refusal::EmptyHandle.code();
+    };
+    let verdict = handed::validate(alloc, &mut kept, message, from, now, words, name, password);
+    let answer = answers::algorithm(verdict);
+    handle.put(alloc, kept);
+    answer
+}
+
+/// Signs the message at the front of a buffer, which goes to an address, where the server has just the user of a name and a password.
+#[unsafe(no_mangle)]
+pub extern "C" fn stunp_server_sign_of(
+    alloc: Global,
+    handle: &mut ServerHandle,
+    buffer: &mut [u8],
+    length: usize,
+    to: &Address,
+    name: &[u8],
+    password: &[u8],
+) -> i64
+    ensures empty { IfNone handle.old.server ((result ≡ code_of Refusal.EmptyHandle)
+        × (handle.new.server ≡ None)
+        × (buffer.new ≡ buffer.old)) }
+    ensures answer { IfSome handle.old.server (λ kept. IsOrOutOfMemory result (length_answer
+        (length_of (signed_of kept.server buffer.old length to.now name.now password.now)))) }
+    ensures written { IfSome handle.old.server (λ kept. buffer.new ≡ left_by result buffer.old
+        (buffer_after (signed_of kept.server buffer.old length to.now name.now password.now)
+        buffer.old)) }
+    ensures state { IfSome handle.old.server (λ kept. handle.new.server ≡ Some (record kept {
+      server = left_by result kept.server
+          (kept_after_signing_of kept.server buffer.old length to.now name.now password.now);
+    })) }
+{
+    let Some(mut kept) = handle.take(alloc) else {
+        return Refusal::EmptyHandle.code();
+    };
+    let signed = handed::sign(alloc, &mut kept.server, buffer, length, to, name, password);
+    let answer = answers::length(signed);
+    handle.put(alloc, kept);
+    answer
+}
+
+/// Of how many addresses something is kept.
+#[unsafe(no_mangle)]
+pub extern "C" fn stunp_server_address_count(alloc: Global, handle: &mut ServerHandle) -> i64
+    ensures empty { IfNone handle.old.server ((result ≡ code_of Refusal.EmptyHandle)
+        × (handle.new.server ≡ None)) }
+    ensures answer { IfSome handle.old.server (λ kept. result
+        ≡ length_answer (Ok (map.len kept.server.places))) }
+    ensures same { handle.new.server ≡ handle.old.server }
+{
+    let Some(kept) = handle.take(alloc) else {
+        return Refusal::EmptyHandle.code();
+    };
+    let answer = answers::length(Ok(kept.server.address_count()));
+    handle.put(alloc, kept);
+    answer
+}
+
+/// The last nonce that was made for an address.
+#[unsafe(no_mangle)]
+pub extern "C" fn stunp_server_nonce(
+    alloc: Global,
+    handle: &mut ServerHandle,
+    at: &Address,
+    nonce: &mut [u8],
+) -> i64
+    ensures empty { IfNone handle.old.server ((result ≡ code_of Refusal.EmptyHandle)
+        × (handle.new.server ≡ None)
+        × (nonce.new ≡ nonce.old)) }
+    ensures answer { IfSome handle.old.server (λ kept. result ≡ length_answer
+        (nonce_found kept.server at.now (length nonce.old))) }
+    ensures nonce { IfSome handle.old.server (λ kept. nonce.new
+        ≡ after_address (socket_address at.now) nonce.old
+        (λ at. nonce_written nonce.old (nonce_at kept.server at))) }
+    ensures same { handle.new.server ≡ handle.old.server }
+{
+    let Some(mut kept) = handle.take(alloc) else {
+        return Refusal::EmptyHandle.code();
+    };
+    let answer = answers::length(server::nonce(&kept.server, at, nonce));
     handle.put(alloc, kept);
     answer
 }
@@ -305,133 +534,4 @@ pub extern "C" fn stunp_server_forget_expired_within(
     let answer = answers::number(server::forget_expired_within(&mut kept.server, now, from, most));
     handle.put(alloc, kept);
     answer
-}
-
-/// Who was validated last at an address.
-#[unsafe(no_mangle)]
-pub extern "C" fn stunp_server_client(
-    alloc: Global,
-    handle: &mut ServerHandle,
-    at: &Address,
-    name: &mut [u8],
-    name_length: &mut usize,
-) -> i64
-    ensures empty { IfNone handle.old.server ((result ≡ code_of Refusal.EmptyHandle)
-        × (handle.new.server ≡ None)
-        × (name.new ≡ name.old) × (name_length.new ≡ name_length.old)) }
-    ensures answer { IfSome handle.old.server (λ kept. result ≡ found_answer
-        (client_found kept.server at.now (length name.old))) }
-    ensures name { IfSome handle.old.server (λ kept. name.new
-        ≡ after_address (socket_address at.now) name.old
-        (λ at. name_written name.old (client_at kept.server at))) }
-
-    // Also where the buffer has no room for the name.
-    ensures name_length { IfSome handle.old.server (λ kept. name_length.new
-        ≡ after_address (socket_address at.now) name_length.old
-        (λ at. name_length_of (client_at kept.server at) name_length.old)) }
-    ensures same { handle.new.server ≡ handle.old.server }
-{
-    let Some(mut kept) = handle.take(alloc) else {
-        return Refusal::EmptyHandle.code();
-    };
-    let answer = answers::found(server::client(&kept.server, at, name, name_length));
-    handle.put(alloc, kept);
-    answer
-}
-
-/// The last nonce that was made for an address.
-#[unsafe(no_mangle)]
-pub extern "C" fn stunp_server_nonce(
-    alloc: Global,
-    handle: &mut ServerHandle,
-    at: &Address,
-    nonce: &mut [u8],
-) -> i64
-    ensures empty { IfNone handle.old.server ((result ≡ code_of Refusal.EmptyHandle)
-        × (handle.new.server ≡ None)
-        × (nonce.new ≡ nonce.old)) }
-    ensures answer { IfSome handle.old.server (λ kept. result ≡ length_answer
-        (nonce_found kept.server at.now (length nonce.old))) }
-    ensures nonce { IfSome handle.old.server (λ kept. nonce.new
-        ≡ after_address (socket_address at.now) nonce.old
-        (λ at. nonce_written nonce.old (nonce_at kept.server at))) }
-    ensures same { handle.new.server ≡ handle.old.server }
-{
-    let Some(mut kept) = handle.take(alloc) else {
-        return Refusal::EmptyHandle.code();
-    };
-    let answer = answers::length(server::nonce(&kept.server, at, nonce));
-    handle.put(alloc, kept);
-    answer
-}
-
-/// Who signed a message that came from an address.
-#[unsafe(no_mangle)]
-pub extern "C" fn stunp_server_validate(
-    alloc: Global,
-    handle: &mut ServerHandle,
-    message: &[u8],
-    from: &Address,
-    now: u64,
-    words: &[u32; 16],
-) -> i64
-    ensures empty { IfNone handle.old.server ((result ≡ code_of Refusal.EmptyHandle)
-        × (handle.new.server ≡ None)) }
-
-    // The number of what the authenticator answers, and what its call leaves.
-    ensures answer { IfSome handle.old.server (λ kept. OrOutOfMemory result
-        handle.old.server handle.new.server
-        (validation_number kept message.now from.now now words.now)
-        (Some (record kept {
-          server = kept_after_validating kept message.now from.now now words.now;
-        }))) }
-
-    // Where nothing of the server changes, as where the same client is accepted again, no failed allocation is answered.
-    ensures unchanged { IfSome handle.old.server (λ kept.
-        LeavesServer kept message.now now words.now (socket_address from.now) →
-        result ≡ validation_number kept message.now from.now now words.now) }
-{
-    let Some(mut kept) = handle.take(alloc) else {
-        return Refusal::EmptyHandle.code();
-    };
-    let answer = answers::algorithm(server::validate(&mut kept, message, from, now, words));
-    handle.put(alloc, kept);
-    answer
-}
-
-/// Signs the message at the front of a buffer, which goes to an address.
-#[unsafe(no_mangle)]
-pub extern "C" fn stunp_server_sign(
-    alloc: Global,
-    handle: &mut ServerHandle,
-    buffer: &mut [u8],
-    length: usize,
-    to: &Address,
-) -> i64
-    ensures empty { IfNone handle.old.server ((result ≡ code_of Refusal.EmptyHandle)
-        × (handle.new.server ≡ None)
-        × (buffer.new ≡ buffer.old)) }
-    ensures answer { IfSome handle.old.server (λ kept. result
-        ≡ length_answer (length_of (signed_for kept.server buffer.old length to.now))) }
-    ensures written { IfSome handle.old.server (λ kept. buffer.new
-        ≡ buffer_after (signed_for kept.server buffer.old length to.now) buffer.old) }
-    ensures state { IfSome handle.old.server (λ kept. handle.new.server ≡ Some (record kept {
-      server = left_by result kept.server
-          (kept_after_signing kept.server buffer.old length to.now);
-    })) }
-{
-    let Some(mut kept) = handle.take(alloc) else {
-        return Refusal::EmptyHandle.code();
-    };
-    let answer = answers::length(server::sign(&mut kept.server, buffer, length, to));
-    handle.put(alloc, kept);
-    answer
-}
-
-/// Frees the server. The handle is empty then.
-#[unsafe(no_mangle)]
-pub extern "C" fn stunp_server_clear(alloc: Global, handle: &mut ServerHandle)
-    ensures { handle.new.server ≡ None }
-{
-    let _server = handle.take(alloc);
 }

@@ -1,0 +1,12 @@
+-- The memory is enough.
+use Rattle.std.proofs.Common.{take}
+use Rattle.stun_base.specs.MessageType.{class_in, is_response}
+use Rattle.stun_auth.specs.Handed.{with_users}
+use Rattle.stun_auth.specs.Validation.{sight}
+use Rattle.stun_state.proofs.Enough.{server_short}
+use Rattle.stun_state.proofs.handed.sign_short.Goals as goal
+
+pub sign_in-requires-clause-enough : goal.sign_in-requires-clause-enough
+sign_in-requires-clause-enough c =
+    let message = take c.args.count c.args.buffer.now in
+    server_short (sight (with_users c.args.server.now c.args.user.now) c.args.to) (is_response (class_in message)) message 2048 c.requires.short

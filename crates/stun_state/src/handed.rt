@@ -1,0 +1,271 @@
+//! What the exports do with a server's authenticator and a user whom the caller hands in (RFC 8489, section 9.2.4).
+
+ghost use Rattle.std.specs.Prelude.{◌≡◌, ◌≤◌, ◌+◌, ◌-◌, ◌^◌, ◌<◌, ⊤, nat_lt, true, false, length, take, Some, None, Ok, Err, IfOk, IfErr, OnErr, OnOk};
+ghost use Rattle.stun_auth.specs.Additions.{WantsMemory, page_of};
+ghost use Rattle.stun_auth.specs.Handed.{just, with_users};
+ghost use Rattle.stun_auth.specs.Registered.{Registered};
+ghost use Rattle.stun_auth.specs.ServerSigning.{after_signing, server_additions, server_growth, server_signed};
+ghost use Rattle.stun_auth.specs.Validation.{sight};
+ghost use Rattle.stun_base.specs.Header.{BeginsWithHeader};
+ghost use Rattle.stun_base.specs.MessageType.{class_in, is_response};
+ghost use Rattle.stun_types.specs.Limits.{LENGTH_LIMIT as length_limit};
+ghost use Rattle.stun_state.specs.Addresses.{socket_address};
+ghost use Rattle.stun_state.specs.Answers.{OrMemory, after_address, at_address, texts_refusal};
+ghost use Rattle.stun_state.specs.Handed.{handed, kept_after_signing_of, kept_after_validating_of, named_by, naming_answer, naming_length, naming_written, signed_of, validated_of};
+ghost use Rattle.stun_state.specs.Signing.{buffer_after, is_too_long, length_of, message_of, server_signs, signed_by_server};
+ghost use Rattle.stun_state.specs.code.Measured.{IsMeasured};
+
+use crate::address::Address;
+use crate::codes::Refusal;
+use crate::handle::server::Server;
+use crate::server::{check_room, measure, validated_algorithm};
+use crate::signing::{SHORT, base_message, fill, put, writer_of};
+use crate::text::{copied, text};
+use std::alloc::Global;
+use std::net::SocketAddr;
+use stun_auth::auth::{LongTermServerAuth, LongTermServerUser, NamedUser};
+use stun_base::algorithm::IntegrityAlgorithm;
+use stun_base::credentials::LongTermCredentials;
+use stun_base::instant::Instant;
+use stun_base::words::WordSource;
+use stun_types::limits::LENGTH_LIMIT;
+use stun_types::message::Message;
+use stun_types::prelude::*;
+
+/// By whose key a message from an address is judged: 1 by a name, 2 by its hash, which is at the front of the buffer then, or 0 where
+/// nobody is meant; and how long it is, also where the buffer has no room for it.
+pub fn named_user(
+    server: &LongTermServerAuth<Global>,
+    message: &[u8],
+    from: &Address,
+    name: &mut [u8],
+    name_length: &mut usize,
+) -> Result<u32, Refusal>
+    ensures answer { result ≡ at_address (socket_address from.now)
+        (naming_answer server.now message.now (length name.old)) }
+    ensures written { name.new ≡ after_address (socket_address from.now) name.old
+        (λ from. naming_written name.old (named_by server.now message.now from)) }
+    ensures length { name_length.new ≡ after_address (socket_address from.now) name_length.old
+        (λ from. naming_length (named_by server.now message.now from) name_length.old) }
+{
+    let from = from.socket()?;
+    let message = Message::from_bytes(message)?;
+    match server.named_user(&message, from) {
+        Some(NamedUser::ByName(user)) => {
+            *name_length = user.len();
+            fill(name, user.as_bytes())?;
+            Ok(1)
+        }
+        Some(NamedUser::ByHash(hash)) => {
+            *name_length = hash.len();
+            fill(name, &hash)?;
+            Ok(2)
+        }
+        None => Ok(0),
+    }
+}
+
+/// The user of a name and a password, with keys for the server.
+fn prepared(
+    alloc: Global,
+    server: &LongTermServerAuth<Global>,
+    name: &[u8],
+    password: &[u8],
+) -> Result<LongTermServerUser<Global>, Refusal>
+    ensures ok { IfOk result (λ user. user ≡ just server.now.registered
+        (Some (record { username = name.now; password = password.now }))) }
+    ensures accepted { OnOk result (texts_refusal name.now password.now ≡ None) }
+    ensures err { IfErr result (λ refusal. OrMemory result
+        (texts_refusal name.now password.now ≡ Some refusal)
+        (texts_refusal name.now password.now ≡ None)) }
+{
+    let name = text(name)?;
+    let password = text(password)?;
+    let credentials = LongTermCredentials::new(copied(alloc, name)?, copied(alloc, password)?);
+    Ok(server.prepare_user(credentials)?)
+}
+
+/// Who signed a message, where the server has just the user of a name and a password.
+pub fn validate(
+    alloc: Global,
+    kept: &mut Server,
+    message: &[u8],
+    from: &Address,
+    now: u64,
+    words: &[u32; 16],
+    name: &[u8],
+    password: &[u8],
+) -> Result<IntegrityAlgorithm, Refusal>
+    ensures answer { OrMemory result
+        (result ≡ at_address (socket_address from.now)
+        (validated_of kept.old message.now now words.now name.now password.now)) ⊤ }
+    ensures state { OrMemory result
+        (kept.new ≡ record kept.old {
+          server = kept_after_validating_of kept.old message.now from.now now words.now
+              name.now password.now;
+        })
+        (kept.new ≡ kept.old) }
+{
+    let from = from.socket()?;
+    let message = Message::from_bytes(message)?;
+    check_room(&kept.server, kept.most_addresses, from)?;
+    let mut user = prepared(alloc, &kept.server, name, password)?;
+    let mut source = WordSource::new(*words);
+    let moment = Instant::from_nanos(now);
+    match kept
+        .server
+        .validate_incoming_message_of(&message, from, moment, &mut source, &mut user)
+    {
+        Ok(validation) => Ok(validated_algorithm(validation)),
+        Err(error) => Err(Refusal::from(error.reason())),
+    }
+}
+
+/// Signs the message in the first `length` bytes of a buffer, which goes to an address, where the server has just the user of a name
+/// and a password. A refusal leaves the buffer.
+pub fn sign(
+    alloc: Global,
+    server: &mut LongTermServerAuth<Global>,
+    buffer: &mut [u8],
+    length: usize,
+    to: &Address,
+    name: &[u8],
+    password: &[u8],
+) -> Result<usize, Refusal>
+    ensures answer { OrMemory result (result ≡ length_of
+        (signed_of server.old buffer.old length to.now name.now password.now)) ⊤ }
+    ensures written { OrMemory result (buffer.new ≡ buffer_after
+        (signed_of server.old buffer.old length to.now name.now password.now) buffer.old)
+        (buffer.new ≡ buffer.old) }
+    ensures state { OnOk result (server.new ≡ kept_after_signing_of server.old buffer.old length
+        to.now name.now password.now) }
+    ensures refused { OnErr result (server.new ≡ server.old) }
+{
+    let mut user = prepared(alloc, server, name, password)?;
+    sign_with(server, buffer, length, to, &mut user)
+}
+
+/// The same with a user who is prepared. It does not allocate.
+fn sign_with(
+    server: &mut LongTermServerAuth<Global>,
+    buffer: &mut [u8],
+    length: usize,
+    to: &Address,
+    user: &mut LongTermServerUser<Global>,
+) -> Result<usize, Refusal>
+    requires realm { user.old.realm ≡ server.old.registered.realm }
+    requires algorithms { user.old.algorithms ≡ server.old.registered.algorithms }
+    ensures answer { result ≡ length_of (at_address (socket_address to.now)
+        (signed_by_server (with_users server.old user.old) buffer.old length)) }
+    ensures written { buffer.new ≡ buffer_after (at_address (socket_address to.now)
+        (signed_by_server (with_users server.old user.old) buffer.old length)) buffer.old }
+    ensures state { OnOk result (server.new ≡ after_address (socket_address to.now) server.old
+        (λ to. with_users (after_signing (with_users server.old user.old) to
+        (is_response (class_in (take length buffer.old)))) server.old.registered)) }
+    ensures refused { OnErr result (server.new ≡ server.old) }
+{
+    let to = to.socket()?;
+    let message = base_message(buffer, length)?;
+    let measured = measure(server, &message, buffer.len(), to)?;
+    if measured.whole <= SHORT {
+        sign_short(server, buffer, length, to, measured.is_long, user)
+    } else {
+        sign_long(server, buffer, length, to, measured.is_long, user)
+    }
+}
+
+/// Signs a message that is not long then.
+#[inline(never)]
+fn sign_short(
+    server: &mut LongTermServerAuth<Global>,
+    buffer: &mut [u8],
+    count: usize,
+    to: SocketAddr,
+    is_long: bool,
+    user: &mut LongTermServerUser<Global>,
+) -> Result<usize, Refusal>
+    requires measured { let message = take count buffer.old in
+        let response = is_response (class_in message) in
+        let more = server_growth (sight (with_users server.old user.old) to) response in
+        IsMeasured buffer.old count more is_long }
+    requires short { let message = take count buffer.old in
+        length message + server_growth (sight (with_users server.old user.old) to)
+        (is_response (class_in message)) ≤ 2048 }
+    ensures answer { result ≡ length_of (server_signs (with_users server.old user.old)
+        (take count buffer.old) (length buffer.old) to) }
+    ensures written { buffer.new ≡ buffer_after (server_signs (with_users server.old user.old)
+        (take count buffer.old) (length buffer.old) to) buffer.old }
+    ensures state { OnOk result (server.new ≡ with_users (after_signing
+        (with_users server.old user.old) to (is_response (class_in (take count buffer.old))))
+        server.old.registered) }
+    ensures refused { OnErr result (server.new ≡ server.old) }
+{
+    let mut memory = [0; SHORT];
+    let signed = sign_in(server, &buffer[..count], to, is_long, &mut memory, user)?;
+    put(buffer, signed);
+    Ok(signed.len())
+}
+
+/// Signs a message of any length.
+#[inline(never)]
+fn sign_long(
+    server: &mut LongTermServerAuth<Global>,
+    buffer: &mut [u8],
+    count: usize,
+    to: SocketAddr,
+    is_long: bool,
+    user: &mut LongTermServerUser<Global>,
+) -> Result<usize, Refusal>
+    requires measured { let message = take count buffer.old in
+        let response = is_response (class_in message) in
+        let more = server_growth (sight (with_users server.old user.old) to) response in
+        IsMeasured buffer.old count more is_long }
+    ensures answer { result ≡ length_of (server_signs (with_users server.old user.old)
+        (take count buffer.old) (length buffer.old) to) }
+    ensures written { buffer.new ≡ buffer_after (server_signs (with_users server.old user.old)
+        (take count buffer.old) (length buffer.old) to) buffer.old }
+    ensures state { OnOk result (server.new ≡ with_users (after_signing
+        (with_users server.old user.old) to (is_response (class_in (take count buffer.old))))
+        server.old.registered) }
+    ensures refused { OnErr result (server.new ≡ server.old) }
+{
+    let mut memory = [0; LENGTH_LIMIT];
+    let signed = sign_in(server, &buffer[..count], to, is_long, &mut memory, user)?;
+    put(buffer, signed);
+    Ok(signed.len())
+}
+
+/// The signed message, in memory that is enough.
+fn sign_in<'m>(
+    server: &mut LongTermServerAuth<Global>,
+    message: &[u8],
+    to: SocketAddr,
+    is_long: bool,
+    memory: &'m mut [u8],
+    user: &mut LongTermServerUser<Global>,
+) -> Result<&'m [u8], Refusal>
+    requires header { BeginsWithHeader message.now }
+    requires room { length message.now ≤ length memory.old }
+    requires limit { length memory.old ≤ length_limit }
+    requires enough { ¬ (WantsMemory (server_additions (sight (with_users server.old user.old) to)
+        (is_response (class_in message.now))) (page_of message.now)
+        (length memory.old - length message.now)) }
+    ensures ok { IfOk result (λ signed. message_of is_long (server_signed
+        (sight (with_users server.old user.old) to) (is_response (class_in message.now))
+        (page_of message.now)) ≡ Ok signed.now) }
+    ensures grows { IfOk result (λ signed. length signed.now ≡ length message.now
+        + server_growth (sight (with_users server.old user.old) to)
+        (is_response (class_in message.now))) }
+    ensures err { IfErr result (λ refusal. message_of is_long (server_signed
+        (sight (with_users server.old user.old) to) (is_response (class_in message.now))
+        (page_of message.now)) ≡ Err refusal) }
+    ensures state { OnOk result (server.new ≡ with_users (after_signing
+        (with_users server.old user.old) to (is_response (class_in message.now)))
+        server.old.registered) }
+    ensures refused { OnErr result (server.new ≡ server.old) }
+{
+    match server.sign_outgoing_message_of(writer_of(message, memory), to, user) {
+        Ok(signed) => Ok(signed.finish()),
+        Err(error) => Err(Refusal::of_write(error, is_long)),
+    }
+}

@@ -58,6 +58,12 @@ sanitizers() {
     all='-fsanitize=address,undefined -fno-sanitize-recover=all'
     echo 'int main(void) { return 0; }' | "$@" $all - -o "$scratch/empty" 2>/dev/null && echo "$all" || true
 }
+
+# runs COMPILER..: whether what it builds runs.
+runs() {
+    echo 'int main(void) { return 0; }' >"$scratch/empty.c"
+    "$@" "$scratch/empty.c" -o "$scratch/empty" 2>/dev/null && "$scratch/empty" 2>/dev/null
+}
 c99="-std=c99 -D_DEFAULT_SOURCE -O1 -g $strict $(sanitizers "$cc" -x c)"
 [ -z "$has_plus" ] || plus17="-std=c++17 $strict $(sanitizers "$plus" -x c++)"
 
@@ -87,6 +93,41 @@ if [ -n "$has_plus" ]; then
     passes worked "$scratch/worked"
 fi
 
+# Handles that go from thread to thread, plain and under what finds races, where that is there.
+races=''
+threads="-std=c99 -D_DEFAULT_SOURCE -O1 -g $strict -Wno-conversion c/threads.c $heap $archives -pthread"
+"$cc" $c99 -Wno-conversion c/threads.c $heap $archives -pthread -o "$scratch/threads"
+passes threads "$scratch/threads"
+if runs "$cc" -fsanitize=thread; then
+    "$cc" -fsanitize=thread $threads -o "$scratch/threads"
+    quiet "$scratch/threads"
+    races=' ThreadSanitizer'
+fi
+if command -v valgrind >/dev/null; then
+    "$cc" $threads -o "$scratch/threads"
+    quiet valgrind -q --tool=helgrind --error-exitcode=1 "$scratch/threads" 20
+    races="$races helgrind"
+fi
+
+# The headers beside those of other libraries, where these are installed: a request that one writes
+# the other reads.
+neighbours=''
+# neighbour NAME HEADER MACRO OPTION..
+neighbour() {
+    name=$1 macro=$3
+    printf '#include <%s>\nint main(void) { return 0; }\n' "$2" >"$scratch/probe.c"
+    shift 3
+    "$cc" -std=gnu11 "$scratch/probe.c" "$@" -o "$scratch/probe" 2>/dev/null || return 0
+    "$cc" -std=gnu11 -O1 -g -Wall -Wextra -Werror -I../include -I../examples/c -D"$macro" \
+        c/beside.c $heap $archives "$@" -o "$scratch/beside"
+    passes beside "$scratch/beside"
+    neighbours="$neighbours $name"
+}
+flags() { pkg-config --cflags --libs "$1" 2>/dev/null || true; }
+neighbour libnice stun/stunagent.h LIBNICE $(flags nice)
+neighbour coturn turn/ns_turn_msg.h COTURN -lturnclient -lcrypto
+neighbour libre re.h LIBRE $(flags libre)
+
 # What strangers may send to each call: a few seconds of a fuzzer (fuzz/run.sh), or of mutations where there is none.
 fuzz/run.sh 10 >"$scratch/fuzzed"
 
@@ -104,4 +145,6 @@ if [ -n "$proved" ]; then
     asks_for "$bytes|__udivti3|__umodti3|rattle_alloc|rattle_realloc|rattle_dealloc" stun_state
 fi
 
-echo "tests: passed in C${has_plus:+ and C++}; $(tail -n 1 "$scratch/played"); $(tail -n 1 "$scratch/fuzzed")"
+echo "tests: passed in C${has_plus:+ and C++}; threads plain${races:+ and under$races};" \
+    "beside${neighbours:- no other library};" \
+    "$(tail -n 1 "$scratch/played"); $(tail -n 1 "$scratch/fuzzed")"

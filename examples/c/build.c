@@ -1,28 +1,33 @@
-/* Writes a signed Binding request to standard output: build 1|2 USERNAME PASSWORD > MESSAGE */
+/* A signed Binding request: writes one to standard output.
+ *
+ *     build 1|2 USERNAME PASSWORD > MESSAGE
+ *
+ * 1 is MESSAGE-INTEGRITY, and 2 MESSAGE-INTEGRITY-SHA256. Status 0; or 1, and why on standard
+ * error; or 2 for wrong words. */
 #include "stunp.h"
+#include <stdbool.h>
 #include <stdio.h>
-#include <stdlib.h>
 #include <string.h>
 #include <sys/random.h>
 
+static int fails(const char *what, const char *why) {
+    fprintf(stderr, "%s: %s\n", what, why);
+    return 1;
+}
+
 int main(int count, char **words) {
-    uint8_t id[STUNP_ID_LENGTH], message[STUNP_LONGEST_SIGNED];
-    if (count != 4) {
+    uint8_t id[STUNP_ID_LENGTH], bytes[STUNP_LONGEST_SIGNED];
+    if (count != 4 || (strcmp(words[1], "1") != 0 && strcmp(words[1], "2") != 0)) {
         fprintf(stderr, "usage: build 1|2 USERNAME PASSWORD > MESSAGE\n");
         return 2;
     }
-    if (getrandom(id, sizeof id, 0) != sizeof id) {
-        perror("getrandom");
-        return 1;
-    }
-    int64_t answer = stunp_build_signed((uint32_t)strtoul(words[1], NULL, 10), id, sizeof id,
-                                       (const uint8_t *)words[2], strlen(words[2]),
-                                       (const uint8_t *)words[3], strlen(words[3]), message, sizeof message);
-    if (answer < 0) {
-        fprintf(stderr, "refused: %s\n", answer == STUNP_BAD_ARGUMENT ? "the algorithm is 1 or 2"
-                                         : answer == STUNP_NOT_TEXT   ? "the user name is not UTF-8"
-                                                                     : "the user name is too long");
-        return 1;
-    }
-    return fwrite(message, 1, (size_t)answer, stdout) == (size_t)answer ? 0 : 1;
+    const char *name = words[2], *password = words[3];
+    stunp_algorithm algorithm = *words[1] == '1' ? STUNP_SHA1 : STUNP_SHA256;
+    if (getrandom(id, sizeof id, 0) != sizeof id) return fails("getrandom", "no random bytes");
+    int64_t answer = stunp_build_signed(algorithm, id, sizeof id, name, strlen(name), password,
+                                        strlen(password), bytes, sizeof bytes);
+    stunp_writer request = stunp_write_on(answer, bytes, sizeof bytes);
+    if (answer < 0) return fails("refused", stunp_strerror(answer));
+    bool is_out = fwrite(bytes, 1, request.length, stdout) == request.length;
+    return is_out && fflush(stdout) == 0 ? 0 : fails("standard output", "not written");
 }

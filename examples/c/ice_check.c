@@ -1,232 +1,309 @@
-/* Connectivity checks of ICE (RFC 8445, section 7) between two programs with a candidate each: both
- * check the pair, and the controlling one nominates it.
+/* Connectivity checks of ICE (RFC 8445) on a timer: two programs check each pair of their
+ * candidates, of which they may have many, and the controlling one nominates a pair.
  *
  *     ice_check controlling|controlled [OPTION]..
  *
- * --at HOST           the address of the candidate: 127.0.0.1
+ * --at HOST           the address of the candidates: 127.0.0.1
+ * --candidates N      so many of them, each a port: 1. With 71 on both sides there are 5041 pairs
+ * --pace SECONDS      from one check to the next (section 14.2): 0.05
  * --tie-breaker N     in the place of a random one
  * --within SECONDS    gives up after so long: 30
  *
- * Its first line is `HOST PORT UFRAG PASSWORD`, and it reads such a line of the other program from
- * standard input: to bring them across, as SDP does, is the caller's part.
+ * Its first line is `HOST PORT[,PORT].. UFRAG PASSWORD`, and it reads such a line of the other
+ * program from standard input: to bring them across, as SDP does, is the caller's part.
  *
  *     mkfifo one other
  *     ice_check controlling <other | tee one & ice_check controlled <one | tee other
  *
- * Once the pair is nominated it prints `nominated HOST:PORT as ROLE, seen as HOST:PORT` and sends
- * data over it, and it prints `data TEXT` of what comes. Status 0; or 1, and why on standard error;
- * or 2 for wrong words.
- *
- * An agent with more candidates keeps a `struct pair` for each two that may meet, in a list
- * (section 6.1), and checks a pair at once when a check of the other side's comes over it. */
+ * Once a pair is nominated it prints `nominated HOST:PORT as ROLE, seen as HOST:PORT` and sends
+ * data over it, and it prints `data TEXT` of what comes; and at the end `checked N pairs in SECONDS
+ * s, N valid, N failed, N requests sent again`. Status 0; or 1, and why on standard error; or 2 for
+ * wrong words. */
 #define _GNU_SOURCE
-#include "exchange.h"
 #include "heap.h"
+#include "ice.h"
 #include "words.h"
 #include <ctype.h>
+#include <poll.h>
 #include <stdio.h>
 #include <string.h>
 #include <unistd.h>
 
-/* What the priority of our candidate would be if they met it in our check (section 5.1.2.1). */
-enum { PEER_REFLEXIVE = (110 << 24) + (65535 << 8) + 255 };
+enum { MOST_CANDIDATES = 100, MOST_PAIRS = MOST_CANDIDATES * MOST_CANDIDATES };
+enum { MOST_MEMORY = 16 << 20, MOST_WORD = 256, AT_ONCE = 16, MOST_PORTS = 6 * MOST_CANDIDATES };
 
-/* Types that must be understood, and are. */
-static const uint16_t KNOWN[] = {
-    STUNP_USERNAME,   STUNP_MESSAGE_INTEGRITY,  STUNP_MESSAGE_INTEGRITY_SHA256,
-    STUNP_ERROR_CODE, STUNP_UNKNOWN_ATTRIBUTES, STUNP_XOR_MAPPED_ADDRESS,
-    STUNP_PRIORITY,   STUNP_USE_CANDIDATE,
-};
-enum { KNOWN_TYPES = sizeof KNOWN / sizeof *KNOWN };
+/* The longest wait, from one datagram of data to the next, and from the end of what we wait for to
+ * that of answering: they may wait for more. */
+static const uint64_t TICK = SECOND / 20, REPEAT = SECOND / 5, AFTERWARDS = SECOND;
 
-/* Between two checks at least (section 14.2), between two datagrams of data, and from the end of
- * what we wait for to that of answering: they may wait for more. */
-static const uint64_t PACE = SECOND / 20, REPEAT = SECOND / 5, AFTERWARDS = SECOND;
-
-enum { MOST_MEMORY = 1 << 20, MOST_WORD = 256, MOST_NAME = 2 * MOST_WORD + 2 };
-
-struct side {
-    char host[64], port[6], ufrag[MOST_WORD + 1], password[MOST_WORD + 1];
-};
-
+/* Two candidates, ours and theirs (section 6.1.2.6). */
 struct pair {
-    struct exchange exchange;
-    struct side ours, theirs;
-    char name_to_them[MOST_NAME], name_to_us[MOST_NAME];
-    uint64_t tie_breaker;
-    bool is_controlling;
-    bool is_checking, was_controlling, was_nominating; /* by our last check */
-    bool is_valid;                                     /* a check of ours succeeded */
-    bool is_told;                                      /* a check of theirs had USE-CANDIDATE */
-    bool is_nominated, has_data;
-    stunp_address seen; /* our candidate, as they see it */
+    enum { WAITING, CHECKING, VALID, FAILED } state;
+    uint8_t id[STUNP_ID_LENGTH];          /* of our last check, */
+    bool was_controlling, was_nominating; /* in which we were so */
+    bool is_queued;                       /* is to be checked before others */
+    stunp_address seen;                   /* our candidate, as they see it */
 };
 
-static bool fails(const char *why) {
-    fprintf(stderr, "failed: %s\n", why);
+static struct session session;
+static struct exchange ours[MOST_CANDIDATES]; /* a socket and an agent for each candidate */
+static struct remote theirs[MOST_CANDIDATES];
+static int ours_number, theirs_number;
+
+/* The list. Pairs of which a check came are in a queue, and are checked first (section 6.1.4.1). */
+static struct pair pairs[MOST_PAIRS], *queue[MOST_PAIRS];
+static struct pair *told, *nominated; /* by a USE-CANDIDATE of theirs, and by both sides */
+static int pairs_number, next_pair, first_queued, queued, open_pairs, valid_pairs;
+static const char *why = "no time left"; /* a pair failed */
+static bool has_data;
+
+static bool fails(const char *reason) {
+    fprintf(stderr, "failed: %s\n", reason);
     return false;
 }
 
-static bool is_understood(const struct datagram *got) {
-    uint16_t unknown[1];
-    return stunp_unknown_types(got->bytes, got->length, KNOWN, KNOWN_TYPES, unknown, 1) == 0;
+/* ---- The list */
+
+static struct pair *pair_at(int our, int their) { return &pairs[our * theirs_number + their]; }
+
+static bool is_open(const struct pair *pair) {
+    return pair->state == WAITING || pair->state == CHECKING;
 }
 
-static bool is_signed(const struct datagram *got, const char *password) {
-    return stunp_verify(got->bytes, got->length, (const uint8_t *)password, strlen(password))
-           == STUNP_SHA1;
+static void set_state(struct pair *pair, int state) {
+    open_pairs -= is_open(pair);
+    valid_pairs -= pair->state == VALID;
+    pair->state = state;
+    open_pairs += is_open(pair);
+    valid_pairs += state == VALID;
 }
 
-/* ---- A check of ours (section 7.2) */
-
-static void write_check(const struct pair *pair, struct draft *request) {
-    uint32_t role = pair->is_controlling ? STUNP_ICE_CONTROLLING : STUNP_ICE_CONTROLLED;
-    draft_new(request, STUNP_REQUEST, STUNP_BINDING);
-    draft_text(request, STUNP_USERNAME, pair->name_to_them);
-    draft_number(request, STUNP_PRIORITY, PEER_REFLEXIVE, 4);
-    draft_number(request, role, pair->tie_breaker, 8);
-    if (pair->was_nominating) draft_bytes(request, STUNP_USE_CANDIDATE, "", 0);
-    draft_sign(request, pair->theirs.password);
-    draft_fingerprint(request);
+static void fail_pair(struct pair *pair, const char *reason) {
+    why = reason;
+    set_state(pair, FAILED);
 }
 
-/* A valid pair is nominated by another check of it (section 8.1.1). */
-static bool send_check(struct pair *pair) {
-    struct draft request;
-    pair->is_checking = true;
-    pair->was_controlling = pair->is_controlling;
-    pair->was_nominating = pair->is_controlling && pair->is_valid;
-    write_check(pair, &request);
-    int64_t asked = ask(&pair->exchange, &request);
-    return asked == 0 || fails(stunp_strerror(asked));
+/* Has a pair checked before others, unless it is checked just now or was. */
+static void trigger(struct pair *pair) {
+    if (pair->state == CHECKING || pair->state == VALID || pair->is_queued) return;
+    set_state(pair, WAITING);
+    pair->is_queued = true;
+    queue[(first_queued + queued++) % pairs_number] = pair;
 }
 
-/* What an error response asks for: where both had one role, a check in the other one, with another
- * tie-breaker (section 7.2.5.1). */
-static bool read_error(struct pair *pair, const struct datagram *got) {
-    if (stunp_error_code(got->bytes, got->length) != 487) return fails("an error response");
-    pair->is_controlling = !pair->was_controlling;
-    pair->is_valid = false;
-    fill_randomly(&pair->tie_breaker, sizeof pair->tie_breaker);
-    return true;
+/* The pair of a candidate of ours that was checked by a request of this id, or NULL. */
+static struct pair *checked_by(int our, const uint8_t *id) {
+    for (int their = 0; their < theirs_number; their++) {
+        struct pair *pair = pair_at(our, their);
+        if (pair->state == CHECKING && memcmp(pair->id, id, STUNP_ID_LENGTH) == 0) return pair;
+    }
+    return NULL;
 }
 
-/* Takes a response (section 7.2.5). False where the pair fails. What is no answer to our check is
- * dropped, also where another address sent it: then the check fails for want of an answer. So is
- * what has not their digest. */
-static bool read_response(struct pair *pair, const struct datagram *got,
-                          const stunp_header *header) {
-    if (!is_answer(&pair->exchange, got, header) || !is_signed(got, pair->theirs.password))
-        return true;
-    int64_t ended = end_request(&pair->exchange, got);
-    if (ended < 0) return fails(stunp_strerror(ended));
-    pair->is_checking = false;
-    if (!is_understood(got)) return fails("a response that is not understood");
-    if (header->message_class == STUNP_ERROR) return read_error(pair, got);
-    if (!get_address(got, STUNP_XOR_MAPPED_ADDRESS, &pair->seen)) return fails("no mapped address");
-    pair->is_valid = true;
-    pair->is_nominated |= pair->was_nominating && pair->is_controlling;
-    return true;
+/* The pair over which a datagram came, or NULL where it came from no candidate that we know. */
+static struct pair *pair_over(int our, const stunp_address *from) {
+    int their = 0;
+    while (their < theirs_number && !is_same(&theirs[their].at, from)) their++;
+    return their < theirs_number ? pair_at(our, their) : NULL;
 }
 
-/* ---- A check of theirs (section 7.3) */
-
-/* The code that it draws: 200 for a success. Where both have one role, the larger tie-breaker
- * controls (section 7.3.1.1). */
-static uint32_t judge_check(struct pair *pair, const struct datagram *got) {
-    uint32_t our_role = pair->is_controlling ? STUNP_ICE_CONTROLLING : STUNP_ICE_CONTROLLED;
-    uint64_t theirs;
-    if (!has(got, STUNP_USERNAME) || !has(got, STUNP_MESSAGE_INTEGRITY)) return 400;
-    if (!has_text(got, STUNP_USERNAME, pair->name_to_us)) return 401;
-    if (!is_signed(got, pair->ours.password)) return 401;
-    if (!is_understood(got)) return 420;
-    if (!get_number(got, our_role, 8, &theirs)) return 200;
-    if (pair->is_controlling == (pair->tie_breaker >= theirs)) return 487;
-    pair->is_controlling = !pair->is_controlling;
-    return 200;
+/* The pair that is to be checked next, or NULL. Once each was checked, the controlling side checks
+ * the valid one of the highest priority again, to nominate it (section 8.1.1). */
+static struct pair *to_check(void) {
+    if (queued > 0) {
+        struct pair *pair = queue[first_queued];
+        first_queued = (first_queued + 1) % pairs_number;
+        queued--;
+        pair->is_queued = false;
+        return pair;
+    }
+    while (next_pair < pairs_number && pairs[next_pair].state != WAITING) next_pair++;
+    if (next_pair < pairs_number) return &pairs[next_pair];
+    if (!session.is_controlling || nominated != NULL || open_pairs > 0) return NULL;
+    for (int i = 0; i < pairs_number; i++)
+        if (pairs[i].state == VALID) return &pairs[i];
+    return NULL;
 }
 
-static void write_answer(const struct pair *pair, const struct datagram *got,
-                         const stunp_header *header, uint32_t code, struct draft *response) {
-    draft_response(response, code == 200 ? STUNP_SUCCESS : STUNP_ERROR, header);
-    if (code == 200) draft_address(response, STUNP_XOR_MAPPED_ADDRESS, &got->from);
-    else if (code != 420) draft_error(response, code, code == 487 ? "Role Conflict" : "");
-    else
-        response->length = stunp_refuse_unknown(got->bytes, got->length, KNOWN, KNOWN_TYPES,
-                                               response->bytes, sizeof response->bytes);
-    if (code != 400 && code != 401) draft_sign(response, pair->ours.password);
-    draft_fingerprint(response);
+/* ---- Checks of ours (section 7.2) */
+
+static int64_t send_check(struct pair *pair) {
+    uint8_t bytes[MOST_BYTES];
+    int number = (int)(pair - pairs), our = number / theirs_number, their = number % theirs_number;
+    pair->was_controlling = session.is_controlling;
+    pair->was_nominating = session.is_controlling && pair->state == VALID;
+    set_state(pair, CHECKING);
+    stunp_writer check =
+        write_check(&session, (unsigned)our, pair->was_nominating, bytes, sizeof bytes);
+    stunp_id(bytes, check.length, pair->id, sizeof pair->id);
+    return ask(&ours[our], &check, &theirs[their]);
 }
 
-/* Answers a check. One that comes from elsewhere is of another pair. */
-static void answer_check(struct pair *pair, const struct datagram *got, const stunp_header *header) {
-    struct draft response;
-    uint32_t code = judge_check(pair, got);
-    write_answer(pair, got, header, code, &response);
-    tell(&pair->exchange, &response, &got->peer);
-    if (code == 200 && is_same(&got->from, &pair->exchange.to))
-        pair->is_told |= has(got, STUNP_USE_CANDIDATE);
+/* Where both had one role, they check in the other one, with another tie-breaker (section 7.2.5.1),
+ * unless the role changed since. */
+static void read_error(struct pair *pair, const struct datagram *got) {
+    if (stunp_error_code(got->bytes, got->length) != 487) {
+        fail_pair(pair, "an error response");
+        return;
+    }
+    if (session.is_controlling == pair->was_controlling) {
+        session.is_controlling = !pair->was_controlling;
+        fill_randomly(&session.tie_breaker, sizeof session.tie_breaker);
+    }
+    set_state(pair, WAITING);
+    trigger(pair);
 }
 
-/* ---- The pair */
+/* Takes a response (section 7.2.5). What is no answer to our check is dropped, also where another
+ * address sent it: then the check fails for want of an answer. So is what has not their digest. */
+static void read_response(int our, const struct datagram *got, const stunp_header *header) {
+    struct pair *pair = checked_by(our, header->id);
+    if (pair == NULL || !is_answer(&ours[our], got, header) || !is_theirs(&session, got)) return;
+    int64_t ended = end_request(&ours[our], got);
+    if (ended < 0) fail_pair(pair, stunp_strerror(ended));
+    else if (!is_understood(got)) fail_pair(pair, "a response that is not understood");
+    else if (header->message_class == STUNP_ERROR) read_error(pair, got);
+    else if (!get_address(got, STUNP_XOR_MAPPED_ADDRESS, &pair->seen))
+        fail_pair(pair, "no mapped address");
+    else {
+        set_state(pair, VALID);
+        if (pair->was_nominating && session.is_controlling) nominated = pair;
+    }
+}
+
+/* ---- What comes */
+
+/* A check of theirs. One that comes from elsewhere is answered, and is of no pair. */
+static void take_check(int our, const struct datagram *got) {
+    uint8_t bytes[MOST_BYTES];
+    struct pair *pair = pair_over(our, &got->from);
+    uint32_t code = judge_check(&session, got);
+    stunp_writer answer = answer_check(&session, got, code, bytes, sizeof bytes);
+    tell(&ours[our], &answer, &got->peer);
+    if (code != 200 || pair == NULL) return;
+    if (has(got, STUNP_USE_CANDIDATE)) told = pair;
+    trigger(pair);
+}
 
 /* Data may come before the pair is nominated here. */
-static void take_data(struct pair *pair, const struct datagram *got) {
-    if (pair->has_data || !is_same(&got->from, &pair->exchange.to)) return;
-    pair->has_data = true;
+static void take_data(int our, const struct datagram *got) {
+    if (has_data || pair_over(our, &got->from) == NULL) return;
+    has_data = true;
     printf("data ");
     for (size_t i = 0; i < got->length; i++) putchar(isprint(got->bytes[i]) ? got->bytes[i] : '?');
     putchar('\n');
 }
 
-/* Takes a datagram: data, or a message of ICE, each of which has FINGERPRINT. False where the pair
- * fails. */
-static bool take(struct pair *pair, const struct datagram *got) {
+/* Takes a datagram: data, or a message of ICE, each of which has FINGERPRINT. */
+static void take(int our, const struct datagram *got) {
     stunp_header header;
-    if (stunp_is_stun(got->bytes, got->length) == 0) take_data(pair, got);
-    else if (!is_message(got, &header) || !has(got, STUNP_FINGERPRINT)) return true;
-    else if (header.method != STUNP_BINDING) return true;
-    else if (header.message_class != STUNP_REQUEST) return read_response(pair, got, &header);
-    else answer_check(pair, got, &header);
-    return true;
+    if (stunp_is_stun(got->bytes, got->length) == 0) take_data(our, got);
+    else if (!is_message(got, &header) || !has(got, STUNP_FINGERPRINT)) return;
+    else if (header.method != STUNP_BINDING) return;
+    else if (header.message_class == STUNP_REQUEST) take_check(our, got);
+    else read_response(our, got, &header);
 }
 
-static void send_data(struct pair *pair) {
-    struct draft data;
-    data.length = snprintf((char *)data.bytes, sizeof data.bytes, "from %s", pair->ours.ufrag);
-    tell(&pair->exchange, &data, &pair->exchange.peer);
-}
-
-static void print_nominated(const struct pair *pair) {
-    printf("nominated %s as %s", text_of(&pair->exchange.to),
-           pair->is_controlling ? "controlling" : "controlled");
-    printf(", seen as %s\n", text_of(&pair->seen));
-}
-
-/* Checks until the pair is nominated, sends data until some comes, and answers for a while. */
-static bool run(struct pair *pair, uint64_t give_up) {
-    struct datagram got;
-    uint64_t end = give_up, now, next_check = 0, next_data = 0;
-    while ((now = moment()) < end) {
-        bool is_to_check = !pair->is_valid || (pair->is_controlling && !pair->is_nominated);
-        if (is_to_check && !pair->is_checking && now >= next_check) {
-            if (!send_check(pair)) return false;
-            next_check = now + PACE;
+/* Sends again what is due, and ends the checks that nobody answered. Answers the moment from which
+ * on there is more to do, or `until`. */
+static uint64_t go_on(uint64_t now, uint64_t until) {
+    uint8_t id[STUNP_ID_LENGTH];
+    for (int our = 0; our < ours_number; our++) {
+        uint64_t next = until;
+        send_again(&ours[our], now);
+        while (stunp_agent_poll(&ours[our].agent, now, &next, id, sizeof id) > 0) {
+            struct pair *pair = checked_by(our, id);
+            if (pair != NULL) fail_pair(pair, "no answer");
         }
-        if (pair->is_nominated && now >= next_data) {
-            send_data(pair);
+        if (next < until) until = next;
+    }
+    return until;
+}
+
+static const struct remote *remote_of(const struct pair *pair) {
+    return &theirs[(pair - pairs) % theirs_number];
+}
+
+/* The controlled side follows a USE-CANDIDATE, once its own check of the pair succeeded (section
+ * 7.3.1.5). */
+static void follow(void) {
+    static bool is_printed;
+    bool is_to_follow = nominated == NULL && told != NULL && !session.is_controlling;
+    if (is_to_follow && told->state == VALID) nominated = told;
+    if (nominated == NULL || is_printed) return;
+    is_printed = true;
+    printf("nominated %s as %s", text_of(&remote_of(nominated)->at),
+           session.is_controlling ? "controlling" : "controlled");
+    printf(", seen as %s\n", text_of(&nominated->seen));
+}
+
+/* Waits for datagrams, until a moment, and takes some of each socket. */
+static void receive_some(uint64_t now, uint64_t until) {
+    struct pollfd sockets[MOST_CANDIDATES];
+    static struct datagram got;
+    uint64_t wait = until > now ? until - now : 0;
+    struct timespec most = {(time_t)(wait / SECOND), (long)(wait % SECOND)};
+    for (int our = 0; our < ours_number; our++)
+        sockets[our] = (struct pollfd){ours[our].socket, POLLIN, 0};
+    if (ppoll(sockets, (nfds_t)ours_number, &most, NULL) <= 0) return;
+    for (int our = 0; our < ours_number; our++)
+        for (int taken = 0; sockets[our].revents != 0 && taken < AT_ONCE; taken++) {
+            if (!receive(sockets[our].fd, &got)) break;
+            take(our, &got);
+            follow();
+        }
+}
+
+/* ---- The session */
+
+static void send_data(const struct pair *pair) {
+    uint8_t data[MOST_BYTES] = "from ";
+    size_t length = strcspn(session.name_to_us, ":");
+    memcpy(data + 5, session.name_to_us, length);
+    const struct exchange *by = &ours[(pair - pairs) / theirs_number];
+    send_to(by->socket, data, 5 + length, &remote_of(pair)->peer);
+}
+
+static void print_checked(uint64_t nanoseconds) {
+    unsigned long repeated = 0;
+    for (int our = 0; our < ours_number; our++) repeated += ours[our].repeated;
+    printf("checked %d pairs in %.3f s, %d valid, %d failed, %lu requests sent again\n",
+           pairs_number, (double)nanoseconds / SECOND, valid_pairs,
+           pairs_number - valid_pairs - open_pairs, repeated);
+}
+
+/* Checks a pair, where one is to be checked and it is time. Answers false after it told that no
+ * pair can be valid. */
+static bool check_some(uint64_t now, uint64_t pace, uint64_t *next) {
+    struct pair *pair = now >= *next ? to_check() : NULL;
+    if (pair != NULL) {
+        int64_t asked = send_check(pair);
+        if (asked < 0) fail_pair(pair, stunp_strerror(asked));
+        *next = now + pace;
+    }
+    return open_pairs > 0 || valid_pairs > 0 || fails(why);
+}
+
+/* Checks until each pair was checked and one is nominated, sends data until some comes, and answers
+ * for a while. */
+static bool run(uint64_t pace, uint64_t give_up) {
+    uint64_t end = give_up, now, begun = moment(), checked = 0, next_check = 0, next_data = 0;
+    while ((now = moment()) < end) {
+        if (!check_some(now, pace, &next_check)) return false;
+        if (nominated != NULL && now >= next_data) {
+            send_data(nominated);
             next_data = now + REPEAT;
         }
-        bool was_nominated = pair->is_nominated;
-        enum event event = wait_until(&pair->exchange, now + PACE, &got);
-        if (event == NO_ANSWER) return fails("no answer");
-        if (event == DATAGRAM_CAME && !take(pair, &got)) return false;
-        pair->is_nominated |= pair->is_valid && pair->is_told && !pair->is_controlling;
-        if (pair->is_nominated && !was_nominated) print_nominated(pair);
-        if (pair->is_nominated && pair->has_data && end == give_up) end = now + AFTERWARDS;
+        bool is_done = open_pairs == 0;
+        if (is_done && checked == 0) checked = now - begun;
+        if (is_done && nominated != NULL && has_data && end == give_up) end = now + AFTERWARDS;
+        receive_some(now, go_on(now, next_check > now ? next_check : now + TICK));
     }
-    return (pair->is_nominated && pair->has_data) || fails("no time left");
+    if (nominated != NULL && has_data) print_checked(checked);
+    return (nominated != NULL && has_data) || fails("no time left");
 }
+
+/* ---- What is told across */
 
 /* A word of random characters (section 5.3). */
 static void fill_word(char *word, size_t length) {
@@ -237,50 +314,71 @@ static void fill_word(char *word, size_t length) {
     word[length] = 0;
 }
 
-/* Opens our candidate, prints our line, and reads theirs. */
-static bool introduce(struct pair *pair, const char *host, stunp_address *own) {
-    struct side *ours = &pair->ours, *theirs = &pair->theirs;
-    if ((pair->exchange.socket = open_at(host, own)) < 0) return false;
-    fill_word(ours->ufrag, 4);
-    fill_word(ours->password, 24);
-    printf("%s %u %s %s\n", host, (unsigned)own->port, ours->ufrag, ours->password);
-    if (scanf("%63s %5s %256s %256s", theirs->host, theirs->port, theirs->ufrag, theirs->password)
-        != 4)
-        return fails("no line of the other side's");
-    if (!find_peer(theirs->host, theirs->port, &pair->exchange.peer)) return false;
-    pair->exchange.to = address_of(&pair->exchange.peer);
-    snprintf(pair->name_to_them, MOST_NAME, "%s:%s", theirs->ufrag, ours->ufrag);
-    snprintf(pair->name_to_us, MOST_NAME, "%s:%s", ours->ufrag, theirs->ufrag);
+/* Opens a socket and makes an agent for each candidate of ours, and prints our line. */
+static bool open_ours(const char *host, const char *ufrag) {
+    printf("%s ", host);
+    for (int i = 0; i < ours_number; i++) {
+        stunp_address own;
+        ours[i] = (struct exchange){.socket = open_at(host, &own), .remotes = theirs};
+        if (ours[i].socket < 0) return false;
+        int64_t begun = stunp_agent_new(&ours[i].agent, STUNP_UDP, &own);
+        if (begun < 0) return fails(stunp_strerror(begun));
+        printf("%s%u", i == 0 ? "" : ",", (unsigned)own.port);
+    }
+    printf(" %s %s\n", ufrag, session.our_password);
     return true;
 }
 
+/* Reads their line. */
+static bool read_theirs(const char *our_ufrag) {
+    static char host[64], ports[MOST_PORTS + 1], ufrag[MOST_WORD + 1];
+    if (scanf("%63s %600s %256s %256s", host, ports, ufrag, session.their_password) != 4)
+        return fails("no line of the other side's");
+    for (char *rest = ports, *port; (port = strsep(&rest, ",")) != NULL; theirs_number++)
+        if (theirs_number == MOST_CANDIDATES || !find_remote(host, port, &theirs[theirs_number]))
+            return false;
+    snprintf(session.name_to_them, sizeof session.name_to_them, "%s:%s", ufrag, our_ufrag);
+    snprintf(session.name_to_us, sizeof session.name_to_us, "%s:%s", our_ufrag, ufrag);
+    for (int i = 0; i < ours_number; i++) ours[i].remotes_number = theirs_number;
+    pairs_number = open_pairs = ours_number * theirs_number;
+    return true;
+}
+
+static void close_ours(void) {
+    for (int i = 0; i < ours_number; i++) {
+        stunp_agent_free(&ours[i].agent);
+        if (ours[i].socket > 0) close(ours[i].socket);
+    }
+}
+
 int main(int count, char **words) {
-    static struct pair pair;
     const char *host = "127.0.0.1";
-    unsigned long tie_breaker = 0;
-    uint64_t within = 30 * SECOND;
-    stunp_address own;
+    unsigned long tie_breaker = 0, candidates = 1;
+    uint64_t within = 30 * SECOND, pace = SECOND / 20;
+    char ufrag[5];
     const struct option options[] = {
         {"--at", .text = &host},
+        {"--candidates", .number = &candidates, .least = 1, .most = MOST_CANDIDATES},
+        {"--pace", .nanoseconds = &pace, .least = 0, .most = 1},
         {"--tie-breaker", .number = &tie_breaker, .least = 1, .most = UINT64_MAX},
         {"--within", .nanoseconds = &within, .least = 0, .most = 1000000},
         {.name = NULL},
     };
     count = read_options(count, words, options);
-    pair.is_controlling = count == 1 && strcmp(words[0], "controlling") == 0;
-    if (!pair.is_controlling && (count != 1 || strcmp(words[0], "controlled") != 0)) {
-        fprintf(stderr, "usage: ice_check controlling|controlled [--at HOST] [--tie-breaker N] "
-                        "[--within SECONDS]\n");
+    session.is_controlling = count == 1 && strcmp(words[0], "controlling") == 0;
+    if (!session.is_controlling && (count != 1 || strcmp(words[0], "controlled") != 0)) {
+        fprintf(stderr, "usage: ice_check controlling|controlled [--at HOST] [--candidates N] "
+                        "[--pace SECONDS] [--tie-breaker N] [--within SECONDS]\n");
         return 2;
     }
     stunp_heap_bound(MOST_MEMORY);
     setvbuf(stdout, NULL, _IOLBF, 0);
-    fill_randomly(&pair.tie_breaker, sizeof pair.tie_breaker);
-    if (tie_breaker != 0) pair.tie_breaker = tie_breaker;
-    if (!introduce(&pair, host, &own)) return 1;
-    int64_t begun = stunp_agent_new(&pair.exchange.agent, STUNP_UDP, &own);
-    bool is_right = begun == 0 ? run(&pair, moment() + within) : fails(stunp_strerror(begun));
-    stunp_agent_free(&pair.exchange.agent);
-    close(pair.exchange.socket);
+    fill_randomly(&session.tie_breaker, sizeof session.tie_breaker);
+    if (tie_breaker != 0) session.tie_breaker = tie_breaker;
+    fill_word(ufrag, 4);
+    fill_word(session.our_password, 24);
+    ours_number = (int)candidates;
+    bool is_right = open_ours(host, ufrag) && read_theirs(ufrag) && run(pace, moment() + within);
+    close_ours();
     return is_right ? 0 : 1;
 }

@@ -15,6 +15,9 @@
 
 enum { RECEIVE_BUFFER = 4 << 20, WORDS_AT_ONCE = 64, REST = 10000000 /* nanoseconds */ };
 
+/* A port that is free for one family may be taken in the other. */
+enum { MOST_TRIES = 16 };
+
 uint64_t moment(void) {
     struct timespec now;
     if (clock_gettime(CLOCK_BOOTTIME, &now) != 0) clock_gettime(CLOCK_MONOTONIC, &now);
@@ -70,13 +73,13 @@ const char *text_of(const stunp_address *address) {
     return text;
 }
 
-static bool is_link_local_4(const uint8_t octets[4]) {
-    return octets[0] == 169 && octets[1] == 254;
+bool is_same(const stunp_address *one, const stunp_address *other) {
+    return one->length == other->length && one->port == other->port
+           && memcmp(one->octets, other->octets, one->length) == 0;
 }
 
-static bool is_link_local_6(const struct in6_addr *at) {
-    return IN6_IS_ADDR_LINKLOCAL(at)
-           || (IN6_IS_ADDR_V4MAPPED(at) && is_link_local_4(at->s6_addr + 12));
+static bool is_link_local_4(const uint8_t octets[4]) {
+    return octets[0] == 169 && octets[1] == 254;
 }
 
 /* An answer leaves by whatever way leads to the client, which may be another interface than its
@@ -88,7 +91,7 @@ static void forget_interface(struct msghdr *message) {
         struct in_pktinfo four;
         if (one->cmsg_level == IPPROTO_IPV6 && one->cmsg_type == IPV6_PKTINFO) {
             memcpy(&six, CMSG_DATA(one), sizeof six);
-            if (!is_link_local_6(&six.ipi6_addr)) six.ipi6_ifindex = 0;
+            if (!IN6_IS_ADDR_LINKLOCAL(&six.ipi6_addr)) six.ipi6_ifindex = 0;
             memcpy(CMSG_DATA(one), &six, sizeof six);
         } else if (one->cmsg_level == IPPROTO_IP && one->cmsg_type == IP_PKTINFO) {
             memcpy(&four, CMSG_DATA(one), sizeof four);
@@ -111,30 +114,62 @@ static void set(int fd, int level, int name, int value) {
     setsockopt(fd, level, name, &value, sizeof value);
 }
 
-int open_server(unsigned long *port, bool is_shared) {
-    struct timeval second = {1, 0};
+/* A socket of a family on a port, or -1, and errno tells why. */
+static int open_family(int family, unsigned long *port, bool is_shared) {
     /* The port of an IPv6 address is where that of an IPv4 address is. */
-    struct sockaddr_in6 any = {.sin6_family = AF_INET6, .sin6_port = htons((uint16_t)*port)};
+    struct sockaddr_in6 any = {.sin6_family = (sa_family_t)family,
+                               .sin6_port = htons((uint16_t)*port)};
     socklen_t length = sizeof any;
-    int fd = socket(AF_INET6, SOCK_DGRAM, 0);
-    if (fd >= 0) {
-        set(fd, IPPROTO_IPV6, IPV6_V6ONLY, 0);
+    int fd = socket(family, SOCK_DGRAM | SOCK_NONBLOCK | SOCK_CLOEXEC, 0);
+    if (fd < 0) return -1;
+    if (family == AF_INET6) {
+        set(fd, IPPROTO_IPV6, IPV6_V6ONLY, 1);
         set(fd, IPPROTO_IPV6, IPV6_RECVPKTINFO, 1);
-    } else {
-        any.sin6_family = AF_INET;
-        if ((fd = socket(AF_INET, SOCK_DGRAM, 0)) < 0) return fails(fd);
-        set(fd, IPPROTO_IP, IP_PKTINFO, 1);
-    }
-    setsockopt(fd, SOL_SOCKET, SO_RCVTIMEO, &second, sizeof second);
+    } else set(fd, IPPROTO_IP, IP_PKTINFO, 1);
     /* A burst waits here. Who is not root gets no more of it than net.core.rmem_max. */
     set(fd, SOL_SOCKET, SO_RCVBUF, RECEIVE_BUFFER);
     set(fd, SOL_SOCKET, SO_RCVBUFFORCE, RECEIVE_BUFFER);
     if (is_shared) set(fd, SOL_SOCKET, SO_REUSEPORT, 1);
-    if (bind(fd, (struct sockaddr *)&any, length) < 0
-        || getsockname(fd, (struct sockaddr *)&any, &length) < 0)
-        return fails(fd);
-    *port = ntohs(any.sin6_port);
-    return fd;
+    if (bind(fd, (struct sockaddr *)&any, length) == 0
+        && getsockname(fd, (struct sockaddr *)&any, &length) == 0) {
+        *port = ntohs(any.sin6_port);
+        return fd;
+    }
+    int error = errno;
+    close(fd);
+    errno = error;
+    return -1;
+}
+
+/* Both families on one port, or whichever the machine has. */
+static bool open_both(unsigned long *port, bool is_shared, struct listener *listener) {
+    static const int families[MOST_SOCKETS] = {AF_INET6, AF_INET};
+    listener->number = 0;
+    for (int i = 0; i < MOST_SOCKETS; i++) {
+        int fd = open_family(families[i], port, is_shared);
+        if (fd >= 0) listener->sockets[listener->number++] = fd;
+        else if (errno != EAFNOSUPPORT && errno != EADDRNOTAVAIL) return false;
+    }
+    return listener->number > 0;
+}
+
+bool open_server(unsigned long *port, bool is_shared, struct listener *listener) {
+    for (int tries = *port == 0 ? MOST_TRIES : 1; tries > 0; tries--) {
+        unsigned long found = *port;
+        if (open_both(&found, is_shared, listener)) {
+            *port = found;
+            return true;
+        }
+        int error = errno;
+        close_server(listener);
+        errno = error;
+    }
+    perror("socket");
+    return false;
+}
+
+void close_server(const struct listener *listener) {
+    for (int i = 0; i < listener->number; i++) close(listener->sockets[i]);
 }
 
 int open_client(const char *host, const char *port, struct peer *server, stunp_address *own) {
@@ -195,8 +230,9 @@ static void rest_after(const char *what) {
     nanosleep(&rest, NULL);
 }
 
-ssize_t receive_from(int socket, uint8_t *bytes, size_t room, struct peer *peer) {
-    struct iovec data = {bytes, room};
+bool receive(int socket, struct datagram *got) {
+    struct iovec data = {got->bytes, sizeof got->bytes};
+    struct peer *peer = &got->peer;
     struct msghdr message = {.msg_name = &peer->name,
                              .msg_namelen = sizeof peer->name,
                              .msg_iov = &data,
@@ -206,12 +242,14 @@ ssize_t receive_from(int socket, uint8_t *bytes, size_t room, struct peer *peer)
     ssize_t length = recvmsg(socket, &message, 0);
     if (length < 0) {
         if (errno != EINTR && errno != EAGAIN) rest_after("recvmsg");
-        return -1;
+        return false;
     }
     forget_interface(&message);
     peer->name_length = message.msg_namelen;
     peer->here_length = message.msg_controllen;
-    return (message.msg_flags & MSG_TRUNC) != 0 ? -1 : length;
+    got->length = (size_t)length;
+    got->from = address_of(peer);
+    return (message.msg_flags & MSG_TRUNC) == 0;
 }
 
 void send_to(int socket, const uint8_t *bytes, size_t length, const struct peer *peer) {

@@ -28,16 +28,34 @@ struct peer {
     size_t here_length;
 };
 
+/* A datagram that came, and from whom. */
+enum { MOST_BYTES = 4096 };
+struct datagram {
+    uint8_t bytes[MOST_BYTES];
+    size_t length;
+    struct peer peer;
+    stunp_address from;
+};
+
 /* The address of a peer for the library. An IPv4 address that is mapped into IPv6 is IPv4. */
 stunp_address address_of(const struct peer *peer);
+
+bool is_same(const stunp_address *one, const stunp_address *other);
 
 /* An address as `IPv4:PORT` or `[IPv6]:PORT`, until the next call. */
 const char *text_of(const stunp_address *address);
 
-/* A socket on a port for IPv6 and IPv4, or for IPv4 where there is no IPv6. Port 0 becomes the one
- * that was found. A shared port may have more sockets. Waits for a datagram end after a second.
- * Answers -1 after it told why on standard error. */
-int open_server(unsigned long *port, bool is_shared);
+/* The sockets of a server, on one port: of IPv6, of IPv4, or of both where the machine has both. */
+enum { MOST_SOCKETS = 2 };
+struct listener {
+    int sockets[MOST_SOCKETS];
+    int number;
+};
+
+/* Opens them, for epoll: no call waits on them. Port 0 becomes one that was free for each. A shared
+ * port may have more listeners. False after it told why on standard error. */
+bool open_server(unsigned long *port, bool is_shared, struct listener *listener);
+void close_server(const struct listener *listener);
 
 /* Finds a server, and opens a socket of its kind, whose own address it writes. Answers -1 after it
  * told why. */
@@ -51,9 +69,9 @@ enum arrival wait_for(int socket, uint64_t nanoseconds);
  * as by a closed port, or 0. */
 int hard_error(int socket);
 
-/* Takes a datagram, and answers its length, or -1 where none came or there was no room for it.
- * Where the socket fails it rests for a moment, and tells why now and then. */
-ssize_t receive_from(int socket, uint8_t *bytes, size_t room, struct peer *peer);
+/* Takes a datagram. False where none came or there was no room for it. Where the socket fails it
+ * rests for a moment, and tells why now and then. */
+bool receive(int socket, struct datagram *got);
 
 /* Sends a datagram from the address that the peer's came to. What is lost here is as what is lost
  * on the way. */

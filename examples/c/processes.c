@@ -40,35 +40,36 @@ void say(const char *format, ...) {
     if (write(STDOUT_FILENO, line, (size_t)length) < 0) return; /* nobody reads it */
 }
 
-static int serve_alone(unsigned long port, void (*serve)(int socket)) {
-    int fd = open_server(&port, false);
-    if (fd < 0) return 1;
+static int serve_alone(unsigned long port, serve_call *serve) {
+    struct listener listener;
+    if (!open_server(&port, false, &listener)) return 1;
     say("port %lu\n", port);
-    serve(fd);
-    close(fd);
-    return 0;
+    bool is_right = serve(&listener);
+    close_server(&listener);
+    return is_right ? 0 : 1;
 }
 
-int serve_in_processes(unsigned long processes, unsigned long port, void (*serve)(int socket)) {
-    pid_t workers[MOST_PROCESSES], parent = getpid(), reaped;
+/* Answers the number of a new process that serves, or -1. The port is found by the first one. */
+static pid_t start_worker(unsigned long *port, serve_call *serve) {
+    pid_t parent = getpid();
+    struct listener listener;
+    if (!open_server(port, true, &listener)) return -1;
+    pid_t worker = fork();
+    if (worker == 0) {
+        prctl(PR_SET_PDEATHSIG, SIGTERM);
+        if (getppid() != parent) exit(1);
+        exit(serve(&listener) ? 0 : 1);
+    }
+    close_server(&listener);
+    return worker;
+}
+
+/* Waits for a signal, or until a worker ended, and then has all end. One that ended is not waited
+ * for before, so that its number is nobody else's when the others are told. */
+static int end_together(const pid_t *workers, unsigned long processes) {
     siginfo_t ended = {0};
     int status = 0, one;
-    if (processes == 1) return serve_alone(port, serve);
-    for (unsigned long i = 0; i < processes; i++) {
-        int fd = open_server(&port, true);
-        if (fd < 0) return 1;
-        if ((workers[i] = fork()) == 0) {
-            prctl(PR_SET_PDEATHSIG, SIGTERM);
-            if (getppid() != parent) exit(1);
-            serve(fd);
-            exit(0);
-        }
-        close(fd);
-        if (workers[i] < 0) return 1;
-    }
-    say("port %lu\n", port);
-    /* A worker that ended is not waited for here, so that its number is nobody else's when the
-     * others are told. */
+    pid_t reaped;
     while (!is_ending && ended.si_pid == 0) {
         usleep(100000);
         waitid(P_ALL, 0, &ended, WEXITED | WNOHANG | WNOWAIT);
@@ -76,4 +77,13 @@ int serve_in_processes(unsigned long processes, unsigned long port, void (*serve
     for (unsigned long i = 0; i < processes; i++) kill(workers[i], SIGTERM);
     while ((reaped = waitpid(-1, &one, 0)) > 0 || errno == EINTR) status |= reaped > 0 ? one : 0;
     return status != 0 || !is_ending;
+}
+
+int serve_in_processes(unsigned long processes, unsigned long port, serve_call *serve) {
+    pid_t workers[MOST_PROCESSES];
+    if (processes == 1) return serve_alone(port, serve);
+    for (unsigned long i = 0; i < processes; i++)
+        if ((workers[i] = start_worker(&port, serve)) < 0) return 1;
+    say("port %lu\n", port);
+    return end_together(workers, processes);
 }

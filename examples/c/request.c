@@ -1,6 +1,6 @@
 /* request.h: what a message has is asked of the library, call by call. */
+#define _GNU_SOURCE
 #include "request.h"
-#include <string.h>
 
 /* The types that these programs understand, of those that must be. */
 static const uint16_t known[] = {
@@ -11,36 +11,31 @@ static const uint16_t known[] = {
     STUNP_PASSWORD_ALGORITHM, STUNP_USERHASH,
     STUNP_XOR_MAPPED_ADDRESS,
 };
-static const size_t known_length = sizeof known / sizeof *known;
+enum { KNOWN_TYPES = sizeof known / sizeof *known };
 
-static bool has(const uint8_t *bytes, size_t length, uint32_t type) {
+static bool has(const struct datagram *got, uint32_t type) {
     size_t value_length;
-    return stunp_find(bytes, length, type, &value_length) > 0;
+    return stunp_find(got->bytes, got->length, type, &value_length) > 0;
 }
 
-const char *read_message(const uint8_t *bytes, size_t length, struct message *message) {
-    int64_t fingerprint = stunp_check_fingerprint(bytes, length);
+const char *read_message(const struct datagram *got, struct message *message) {
+    int64_t fingerprint = stunp_check_fingerprint(got->bytes, got->length);
     if (fingerprint < 0) return stunp_strerror(fingerprint);
     if (fingerprint > STUNP_RIGHT_FINGERPRINT) return "wrong FINGERPRINT";
-    stunp_header header;
     uint16_t none;
-    stunp_read_header(bytes, length, &header);
     *message = (struct message){
-        .bytes = bytes,
-        .length = length,
-        .kind = header.message_class,
-        .method = header.method,
+        .got = got,
         .has_fingerprint = fingerprint == STUNP_RIGHT_FINGERPRINT,
-        .has_algorithms = has(bytes, length, STUNP_PASSWORD_ALGORITHM)
-                          || has(bytes, length, STUNP_PASSWORD_ALGORITHMS),
-        .unknown_length =
-            (size_t)stunp_unknown_types(bytes, length, known, known_length, &none, 0),
+        .has_algorithms =
+            has(got, STUNP_PASSWORD_ALGORITHM) || has(got, STUNP_PASSWORD_ALGORITHMS),
+        .is_understood =
+            stunp_unknown_types(got->bytes, got->length, known, KNOWN_TYPES, &none, 0) == 0,
     };
-    memcpy(message->id, header.id, sizeof message->id);
+    stunp_read_header(got->bytes, got->length, &message->header);
     return NULL;
 }
 
-static const char *reason_of(int code) {
+static const char *reason_of(uint32_t code) {
     switch (code) {
     case 400: return "Bad Request";
     case 401: return "Unauthenticated";
@@ -49,17 +44,20 @@ static const char *reason_of(int code) {
     }
 }
 
-int64_t begin_answer(const struct message *request, int code, const stunp_address *from,
-                     uint8_t *out, size_t room) {
-    if (code == 420)
-        return stunp_refuse_unknown(request->bytes, request->length, known, known_length, out, room);
-    uint32_t kind = code == 200 ? STUNP_SUCCESS : STUNP_ERROR;
-    int64_t length = stunp_begin(kind, request->method, request->id, STUNP_ID_LENGTH, out, room);
-    if (length < 0) return length;
+/* The 420 is written by a call of its own. */
+static stunp_writer refuse_unknown(const struct datagram *got, uint8_t *out, size_t room) {
+    return stunp_write_on(
+        stunp_refuse_unknown(got->bytes, got->length, known, KNOWN_TYPES, out, room), out, room);
+}
+
+stunp_writer begin_answer(const struct message *request, uint32_t code, uint8_t *out, size_t room) {
+    const stunp_address *from = &request->got->from;
+    if (code == 420) return refuse_unknown(request->got, out, room);
+    stunp_writer writer = stunp_write(code == 200 ? STUNP_SUCCESS : STUNP_ERROR,
+                                      request->header.method, request->header.id, out, room);
     if (code == 200)
-        return stunp_add_xor_mapped_address(out, room, (size_t)length, from->octets, from->length,
-                                           from->port);
-    const char *reason = reason_of(code);
-    return stunp_add_error(out, room, (size_t)length, (uint32_t)code, (const uint8_t *)reason,
-                          strlen(reason));
+        stunp_write_xor_address(&writer, STUNP_XOR_MAPPED_ADDRESS, from->octets, from->length,
+                                from->port);
+    else stunp_write_error(&writer, code, reason_of(code));
+    return writer;
 }

@@ -30,6 +30,7 @@ static const uint64_t REPEAT = SECOND / 2; /* data that does not come back goes 
 
 struct session {
     struct exchange exchange;
+    struct remote server;
     stunp_client client;
     stunp_address peer;
     uint64_t give_up; /* at this moment */
@@ -80,19 +81,17 @@ static enum verdict await(struct session *session, struct datagram *got) {
 
 /* Asks, and anew where a challenge was taken up. `fill` writes what is asked. Answers whether the
  * response, in `got`, is a success. */
-typedef void fill_request(struct draft *request, const struct session *session);
+typedef void fill_request(stunp_writer *request, const struct session *session);
 
 static bool transact(struct session *session, const char *step, uint32_t method, fill_request *fill,
                      struct datagram *got) {
-    struct draft request;
+    uint8_t bytes[MOST_BYTES];
     session->step = step;
     for (int asks = 0; asks < MOST_ASKS; asks++) {
-        draft_new(&request, STUNP_REQUEST, method);
+        stunp_writer request = write_new(STUNP_REQUEST, method, bytes, sizeof bytes);
         fill(&request, session);
-        if (request.length > 0)
-            request.length = stunp_client_sign(&session->client, request.bytes, sizeof request.bytes,
-                                              (size_t)request.length);
-        int64_t asked = ask(&session->exchange, &request);
+        stunp_write_client_sign(&request, &session->client);
+        int64_t asked = ask(&session->exchange, &request, &session->server);
         if (asked < 0) return fails(session, stunp_strerror(asked));
         enum verdict verdict = await(session, got);
         if (verdict != IS_TO_ASK_AGAIN) return verdict == SUCCEEDED;
@@ -101,35 +100,40 @@ static bool transact(struct session *session, const char *step, uint32_t method,
 }
 
 /* The relayed address is of IPv4 where no family is asked for; the number of IPv6 is 2. */
-static void fill_allocate(struct draft *request, const struct session *session) {
-    draft_number(request, STUNP_REQUESTED_TRANSPORT, IPPROTO_UDP << 24, 4);
+static void fill_allocate(stunp_writer *request, const struct session *session) {
+    stunp_write_number(request, STUNP_REQUESTED_TRANSPORT, IPPROTO_UDP << 24, 4);
     if (session->peer.length == 16)
-        draft_number(request, STUNP_REQUESTED_ADDRESS_FAMILY, 2 << 24, 4);
+        stunp_write_number(request, STUNP_REQUESTED_ADDRESS_FAMILY, 2 << 24, 4);
 }
 
-static void fill_peer(struct draft *request, const struct session *session) {
-    draft_address(request, STUNP_XOR_PEER_ADDRESS, &session->peer);
+static void fill_peer(stunp_writer *request, const struct session *session) {
+    const stunp_address *peer = &session->peer;
+    stunp_write_xor_address(request, STUNP_XOR_PEER_ADDRESS, peer->octets, peer->length,
+                            peer->port);
 }
 
-static void fill_channel(struct draft *request, const struct session *session) {
-    draft_number(request, STUNP_CHANNEL_NUMBER, CHANNEL << 16, 4);
+static void fill_channel(stunp_writer *request, const struct session *session) {
+    stunp_write_number(request, STUNP_CHANNEL_NUMBER, CHANNEL << 16, 4);
     fill_peer(request, session);
 }
 
-static void fill_end(struct draft *request, const struct session *session) {
+static void fill_end(stunp_writer *request, const struct session *session) {
     (void)session;
-    draft_number(request, STUNP_LIFETIME, 0, 4);
+    stunp_write_number(request, STUNP_LIFETIME, 0, 4);
 }
 
 /* ---- Data: neither way is signed, and nothing tells whether it came */
 
-typedef void write_data(const struct session *session, const char *text, struct draft *out);
+/* Writes it to the front of a buffer with room for MOST_BYTES. */
+typedef stunp_writer write_data(const struct session *session, const char *text, uint8_t *bytes);
 typedef bool is_data(const struct session *session, const char *text, const struct datagram *got);
 
-static void write_indication(const struct session *session, const char *text, struct draft *out) {
-    draft_new(out, STUNP_INDICATION, STUNP_SEND);
-    draft_address(out, STUNP_XOR_PEER_ADDRESS, &session->peer);
-    draft_text(out, STUNP_DATA, text);
+static stunp_writer write_indication(const struct session *session, const char *text,
+                                     uint8_t *bytes) {
+    stunp_writer out = write_new(STUNP_INDICATION, STUNP_SEND, bytes, MOST_BYTES);
+    fill_peer(&out, session);
+    stunp_write_text(&out, STUNP_DATA, text);
+    return out;
 }
 
 static bool is_indication(const struct session *session, const char *text,
@@ -142,37 +146,40 @@ static bool is_indication(const struct session *session, const char *text,
            && has_text(got, STUNP_DATA, text);
 }
 
-/* The channel's number, a length, and so many bytes (section 12.4). */
-static void write_on_channel(const struct session *session, const char *text, struct draft *out) {
+/* The channel's number, a length, and so many bytes (section 12.4): no message of STUN, but sent
+ * and compared like one. */
+static stunp_writer write_on_channel(const struct session *session, const char *text,
+                                     uint8_t *bytes) {
+    size_t length = strlen(text);
+    const uint8_t header[CHANNEL_HEADER] = {CHANNEL >> 8, CHANNEL & 255, length >> 8 & 255,
+                                            length & 255};
     (void)session;
-    out->length = snprintf((char *)out->bytes, sizeof out->bytes, "....%s", text);
-    size_t length = (size_t)out->length - CHANNEL_HEADER;
-    const uint8_t header[CHANNEL_HEADER] = {CHANNEL >> 8, CHANNEL & 255, (uint8_t)(length >> 8),
-                                            (uint8_t)length};
-    memcpy(out->bytes, header, sizeof header);
+    memcpy(bytes, header, sizeof header);
+    memcpy(bytes + CHANNEL_HEADER, text, length);
+    return (stunp_writer){bytes, MOST_BYTES, CHANNEL_HEADER + length, 0};
 }
 
 static bool is_on_channel(const struct session *session, const char *text,
                           const struct datagram *got) {
-    struct draft wanted;
-    write_on_channel(session, text, &wanted);
-    return got->length >= (size_t)wanted.length /* padding may follow */
-           && memcmp(got->bytes, wanted.bytes, (size_t)wanted.length) == 0;
+    uint8_t bytes[MOST_BYTES];
+    stunp_writer wanted = write_on_channel(session, text, bytes);
+    return got->length >= wanted.length /* padding may follow */
+           && memcmp(got->bytes, bytes, wanted.length) == 0;
 }
 
 /* Sends data to the peer until it comes back. */
 static bool carry(struct session *session, write_data *write, is_data *is, const char *text) {
     struct datagram got;
-    struct draft out;
+    uint8_t bytes[MOST_BYTES];
     session->step = text;
     for (uint64_t next = 0, now; (now = moment()) < session->give_up;) {
         if (now >= next) {
-            write(session, text, &out);
-            tell(&session->exchange, &out, &session->exchange.peer);
+            stunp_writer out = write(session, text, bytes);
+            tell(&session->exchange, &out, &session->server.peer);
             next = now + REPEAT;
         }
         if (wait_until(&session->exchange, next, &got) == DATAGRAM_CAME
-            && is_same(&got.from, &session->exchange.to) && is(session, text, &got)) {
+            && is_same(&got.from, &session->server.at) && is(session, text, &got)) {
             printf("came back: %s\n", text);
             return true;
         }
@@ -216,14 +223,14 @@ static int64_t begin(struct session *session, const stunp_address *own, const ch
     if (answer >= 0)
         answer = stunp_client_set_algorithms(&session->client, STUNP_SHA1 | STUNP_SHA256);
     if (answer < 0) return answer;
-    return stunp_client_set_credentials(&session->client, (const uint8_t *)name, strlen(name),
-                                       (const uint8_t *)password, strlen(password));
+    return stunp_client_set_credentials(&session->client, name, strlen(name), password,
+                                        strlen(password));
 }
 
 int main(int count, char **words) {
     static struct session session;
     struct exchange *exchange = &session.exchange;
-    struct peer peer;
+    struct remote *server = &session.server, peer;
     stunp_address own;
     uint64_t within = 30 * SECOND;
     const struct option options[] = {
@@ -237,10 +244,11 @@ int main(int count, char **words) {
     }
     stunp_heap_bound(MOST_MEMORY);
     session.give_up = moment() + within;
-    if (!find_peer(words[4], words[5], &peer)) return 1;
-    session.peer = address_of(&peer);
-    if ((exchange->socket = open_client(words[0], words[1], &exchange->peer, &own)) < 0) return 1;
-    exchange->to = address_of(&exchange->peer);
+    if (!find_remote(words[4], words[5], &peer)) return 1;
+    session.peer = peer.at;
+    *exchange = (struct exchange){.remotes = server, .remotes_number = 1};
+    if ((exchange->socket = open_client(words[0], words[1], &server->peer, &own)) < 0) return 1;
+    server->at = address_of(&server->peer);
     int64_t begun = begin(&session, &own, words[2], words[3]);
     bool is_right = begun < 0 ? fails(&session, stunp_strerror(begun)) : run(&session);
     stunp_agent_free(&exchange->agent);

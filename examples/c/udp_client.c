@@ -1,4 +1,5 @@
-/* Asks a STUN server over UDP (RFC 8489) at which address it sees this client, and prints it.
+/* A client over UDP (RFC 8489), by an agent, with a name and a password or without: asks a server at
+ * which address it sees this client, and prints it.
  *
  *     udp_client HOST PORT [NAME PASSWORD] [OPTION]..
  *
@@ -50,87 +51,90 @@ static enum end fails(struct asker *asker, int64_t number) {
     return FAILED;
 }
 
-/* A request of a new id, signed where a challenge was taken up. */
+/* A request of a new id, signed where a challenge was taken up. What is lost on the way the agent
+ * has sent again. */
 static enum end ask(struct asker *asker) {
-    uint8_t request[4096], id[STUNP_ID_LENGTH];
+    uint8_t bytes[MOST_BYTES], id[STUNP_ID_LENGTH];
     stunp_address to = address_of(&asker->server);
     if (asker->asks++ == MOST_ASKS) return ASKED_TOO_OFTEN;
     fill_randomly(id, sizeof id);
-    int64_t length = stunp_begin(STUNP_REQUEST, STUNP_BINDING, id, sizeof id, request, sizeof request);
-    if (length > 0 && asker->has_credentials)
-        length = stunp_client_sign(&asker->client, request, sizeof request, (size_t)length);
-    if (length < 0) return fails(asker, length);
-    int64_t kept = stunp_agent_send_request(&asker->agent, request, (size_t)length, &to, moment());
+    stunp_writer request = stunp_write(STUNP_REQUEST, STUNP_BINDING, id, bytes, sizeof bytes);
+    if (asker->has_credentials) stunp_write_client_sign(&request, &asker->client);
+    int64_t kept = stunp_written(&request);
+    if (kept == 0)
+        kept = stunp_agent_send_request(&asker->agent, bytes, request.length, &to, moment());
     if (kept < 0) return fails(asker, kept);
-    send_to(asker->socket, request, (size_t)length,
-            &asker->server); /* what is lost the agent has sent again */
+    send_to(asker->socket, bytes, request.length, &asker->server);
     return ASKING;
 }
 
-static enum end is_refused(struct asker *asker, const uint8_t *bytes, size_t length) {
-    int64_t code = stunp_error_code(bytes, length);
+static enum end is_refused(struct asker *asker, const struct datagram *got) {
+    int64_t code = stunp_error_code(got->bytes, got->length);
     if (code < 0) return fails(asker, code);
     asker->number = code;
     return REFUSED;
 }
 
 /* What a response tells that is to be believed. */
-static enum end read_response(struct asker *asker, const uint8_t *bytes, size_t length) {
-    if (stunp_class(bytes, length) == STUNP_ERROR) return is_refused(asker, bytes, length);
-    int64_t octets = stunp_xor_mapped_address(bytes, length, asker->seen.octets,
-                                             sizeof asker->seen.octets, &asker->seen.port);
+static enum end read_response(struct asker *asker, const struct message *response) {
+    const struct datagram *got = response->got;
+    stunp_address *seen = &asker->seen;
+    if (response->header.message_class == STUNP_ERROR) return is_refused(asker, got);
+    int64_t octets = stunp_xor_mapped_address(got->bytes, got->length, seen->octets,
+                                              sizeof seen->octets, &seen->port);
     if (octets < 0) return fails(asker, octets);
-    asker->seen.length = (uint16_t)octets;
+    seen->length = octets == 4 ? 4 : 16;
     return ANSWERED;
 }
 
 /* Whether a message is a response to an outstanding request, from the address that was asked. */
-static bool is_an_answer(struct asker *asker, const struct message *message,
-                         const stunp_address *from) {
+static bool is_an_answer(const struct asker *asker, const struct message *message) {
+    const stunp_header *header = &message->header;
     stunp_address asked;
-    return (message->kind == STUNP_SUCCESS || message->kind == STUNP_ERROR)
-           && message->method == STUNP_BINDING
-           && stunp_agent_is_outstanding(&asker->agent, message->id, sizeof message->id, &asked) == 1
-           && asked.length == from->length && asked.port == from->port
-           && memcmp(asked.octets, from->octets, asked.length) == 0;
+    return (header->message_class == STUNP_SUCCESS || header->message_class == STUNP_ERROR)
+           && header->method == STUNP_BINDING
+           && stunp_agent_is_outstanding(&asker->agent, header->id, STUNP_ID_LENGTH, &asked) == 1
+           && is_same(&asked, &message->got->from);
 }
 
 /* Judges a datagram: asks the authenticator before the agent, and drops what is no answer, has a
  * wrong FINGERPRINT, or is forged. What has an attribute that it would have to understand ends the
  * request all the same (section 6.3.3). */
-static enum end judge(struct asker *asker, const uint8_t *bytes, size_t length,
-                      const stunp_address *from) {
+static enum end judge(struct asker *asker, const struct datagram *got) {
     struct message message;
     int64_t verdict = 0;
-    if (read_message(bytes, length, &message) != NULL || !is_an_answer(asker, &message, from))
-        return ASKING;
-    if (asker->has_credentials) verdict = stunp_client_validate(&asker->client, bytes, length);
+    if (read_message(got, &message) != NULL || !is_an_answer(asker, &message)) return ASKING;
+    if (asker->has_credentials)
+        verdict = stunp_client_validate(&asker->client, got->bytes, got->length);
     if (verdict == STUNP_INTEGRITY_FAILED) return ASKING;
     if (verdict == STUNP_UNSUPPORTED_FEATURE) return UNSUPPORTED;
-    if (verdict == STUNP_UNAUTHORIZED) return is_refused(asker, bytes, length);
+    if (verdict == STUNP_UNAUTHORIZED) return is_refused(asker, got);
     if (verdict < 0) return fails(asker, verdict);
-    int64_t taken = stunp_agent_handle(&asker->agent, bytes, length, from, moment());
+    int64_t taken =
+        stunp_agent_handle(&asker->agent, got->bytes, got->length, &got->from, moment());
     if (taken < 0) return fails(asker, taken);
-    if (message.unknown_length > 0) return NOT_UNDERSTOOD;
-    return stunp_is_resend(verdict) ? ask(asker) : read_response(asker, bytes, length);
+    if (!message.is_understood) return NOT_UNDERSTOOD;
+    return stunp_is_resend(verdict) ? ask(asker) : read_response(asker, &message);
 }
 
 /* Sends again what is due, and not all of it where that is much: answers are to be read between.
  * The agent tells the server's address too, but only the peer has the scope of a link-local one. */
 static int64_t send_again(struct asker *asker, uint64_t now) {
-    uint8_t bytes[4096];
+    uint8_t bytes[MOST_BYTES];
     stunp_address to;
     for (int sent = 0; sent < MOST_AT_ONCE; sent++) {
         int64_t due = stunp_agent_poll_transmit(&asker->agent, now, bytes, sizeof bytes, &to);
         if (due <= 0) return due;
-        send_to(asker->socket, bytes, (size_t)due, &asker->server);
+        stunp_writer again = stunp_write_on(due, bytes, sizeof bytes);
+        send_to(asker->socket, bytes, again.length, &asker->server);
     }
     return 0;
 }
 
 /* Asks what is to be sent again, and then what comes next; waits for a datagram until then. */
 static enum end wait_and_receive(struct asker *asker) {
-    uint8_t bytes[4096], id[STUNP_ID_LENGTH];
+    uint8_t id[STUNP_ID_LENGTH];
+    struct datagram got;
     uint64_t now = moment(), until;
     int64_t sent = send_again(asker, now);
     if (sent < 0) return fails(asker, sent);
@@ -142,19 +146,15 @@ static enum end wait_and_receive(struct asker *asker) {
         asker->unreachable = hard_error(asker->socket);
         return asker->unreachable != 0 ? NO_ANSWER : ASKING;
     }
-    struct peer peer;
-    ssize_t length =
-        came == DATAGRAM ? receive_from(asker->socket, bytes, sizeof bytes, &peer) : -1;
-    if (length < 0) return ASKING;
-    stunp_address from = address_of(&peer);
-    return judge(asker, bytes, (size_t)length, &from);
+    if (came != DATAGRAM || !receive(asker->socket, &got)) return ASKING;
+    return judge(asker, &got);
 }
 
 static int64_t take(void *taker, const char *name, const char *password) {
     struct asker *asker = taker;
     asker->has_credentials = true;
-    return stunp_client_set_credentials(&asker->client, (const uint8_t *)name, strlen(name),
-                                       (const uint8_t *)password, strlen(password));
+    return stunp_client_set_credentials(&asker->client, name, strlen(name), password,
+                                        strlen(password));
 }
 
 static int64_t begin(struct asker *asker, const stunp_address *own, int count, char **words,

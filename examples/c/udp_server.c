@@ -1,5 +1,7 @@
-/* A STUN server on UDP (RFC 8489), IPv4 and IPv6. It tells who asks the address that it sees, and
- * where it has a realm and users, it answers nobody else (section 9.2.4).
+/* A STUN server on UDP (RFC 8489), with users, two sockets by epoll, workers, and bounds.
+ *
+ * It tells who asks the address that it sees, over IPv4 and IPv6, and where it has a realm and
+ * users, it answers nobody else (section 9.2.4).
  *
  *     udp_server PORT [REALM [NAME PASSWORD]..] [OPTION]..
  *
@@ -22,11 +24,14 @@
 #include "words.h"
 #include <stdio.h>
 #include <string.h>
+#include <sys/epoll.h>
+#include <unistd.h>
 
 /* Nonces that expired are looked for so often, some at a time and not all in one pause. */
 static const uint64_t PERIOD = 10 * SECOND, PAUSE = SECOND / 50;
 
 enum { AT_ONCE = 256, AT_ONCE_IDLE = 4096 };
+enum { IN_TURN = 64 /* datagrams of one socket */, MOST_WAIT = 1000 /* milliseconds */ };
 enum { MEMORY_FOR_ADDRESS = 512, MEMORY_BESIDE = 16 << 20 }; /* of one process, at most */
 
 static struct {
@@ -81,104 +86,124 @@ static bool has_nonce(const stunp_address *at) {
  * address without a nonce, as after a start of the server or under another port, a request that
  * repeats what was offered is a bad one for the library, which keeps no such offer. It is told that
  * its nonce is stale: a 400 the client would take for a forgery, and ask for ever. */
-static int64_t validate(const struct message *request, const uint8_t *bytes, size_t length,
-                        const stunp_address *from) {
+static int64_t validate(const struct message *request) {
+    const struct datagram *got = request->got;
     uint32_t words[16];
     if (!settings.has_users) return 0;
-    bool is_new = request->has_algorithms && !has_nonce(from);
+    bool is_new = request->has_algorithms && !has_nonce(&got->from);
     draw_words(words);
-    int64_t verdict = stunp_server_validate(&server, bytes, length, from, now(), words);
-    return verdict == STUNP_BAD_REQUEST && is_new && has_nonce(from) ? STUNP_STALE_NONCE : verdict;
+    int64_t verdict =
+        stunp_server_validate(&server, got->bytes, got->length, &got->from, now(), words);
+    bool is_stale = verdict == STUNP_BAD_REQUEST && is_new && has_nonce(&got->from);
+    return is_stale ? STUNP_STALE_NONCE : verdict;
 }
 
 /* The code that a judged request draws: 200 for a success, 0 where there is no answer. */
-static int code_of(int64_t verdict, const struct message *request) {
+static uint32_t code_of(int64_t verdict, const struct message *request) {
     if (verdict == STUNP_BAD_REQUEST) return 400;
     if (verdict == STUNP_UNAUTHORIZED) return 401;
     if (verdict == STUNP_STALE_NONCE) return 438;
     if (verdict < 0) return 0;
-    if (request->unknown_length > 0) return 420;
-    return request->method == STUNP_BINDING ? 200 : 508;
+    if (!request->is_understood) return 420;
+    return request->header.method == STUNP_BINDING ? 200 : 508;
 }
 
-static int64_t write_answer(const struct message *request, int code, const stunp_address *from,
-                            uint8_t *out, size_t room) {
-    int64_t length = begin_answer(request, code, from, out, room);
-    if (length > 0 && settings.has_users && code != 400)
-        length = stunp_server_sign(&server, out, room, (size_t)length, from);
-    if (length > 0 && request->has_fingerprint)
-        length = stunp_add_fingerprint(out, room, (size_t)length);
-    return length;
-}
-
-static size_t drop(const stunp_address *from, const char *why) {
-    if (settings.is_verbose) say("%s dropped: %s\n", text_of(from), why);
-    return 0;
+static stunp_writer write_answer(const struct message *request, uint32_t code, uint8_t *out,
+                                 size_t room) {
+    stunp_writer answer = begin_answer(request, code, out, room);
+    if (settings.has_users && code != 400)
+        stunp_write_server_sign(&answer, &server, &request->got->from);
+    if (request->has_fingerprint) stunp_write_fingerprint(&answer);
+    return answer;
 }
 
 /* Who was validated at an address is what the server tells, and not the USERNAME of a message. */
-static void tell(const stunp_address *from, int code, int64_t verdict) {
+static void tell(const stunp_address *from, uint32_t code, int64_t verdict) {
     char name[513];
     size_t length = 0;
     const char *algorithm = verdict == STUNP_SHA256 ? "SHA256" : "SHA1";
     if (!settings.is_verbose) return;
     if (verdict <= 0) {
-        say("%s %d\n", text_of(from), code);
+        say("%s %u\n", text_of(from), code);
         return;
     }
     stunp_server_client(&server, from, (uint8_t *)name, sizeof name, &length);
-    say("%s %d %s %.*s\n", text_of(from), code, algorithm, (int)length, name);
+    say("%s %u %s %.*s\n", text_of(from), code, algorithm, (int)length, name);
 }
 
 /* Why a request is dropped before it is judged, or NULL. */
 static const char *why_dropped(const struct message *request) {
-    if (request->kind != STUNP_REQUEST) return "not a request";
-    bool is_judged = request->method == STUNP_BINDING || settings.takes_any_method;
+    if (request->header.message_class != STUNP_REQUEST) return "not a request";
+    bool is_judged = request->header.method == STUNP_BINDING || settings.takes_any_method;
     return is_judged ? NULL : "not a Binding request";
 }
 
-/* Writes what is to be sent back for a datagram, and answers its length, or 0 where nothing is. A
- * request is judged, the server says who asked, the answer is signed, and the client is forgotten:
- * no request needs an earlier one, and a client that starts anew at the address of one that is kept
- * would be told no algorithms, and give up. */
-static size_t answer(const uint8_t *bytes, size_t length, const stunp_address *from, uint8_t *out,
-                     size_t room) {
+/* Sends back what a datagram draws, and answers NULL, or why it is dropped. A request is judged,
+ * the server says who asked, the answer is signed, and the client is forgotten: no request needs an
+ * earlier one, and a client that starts anew at the address of one that is kept would be told no
+ * algorithms, and give up. */
+static const char *answer(int socket, const struct datagram *got) {
+    static uint8_t bytes[MOST_BYTES];
     struct message request;
-    const char *why = read_message(bytes, length, &request);
+    const char *why = read_message(got, &request);
     if (why == NULL) why = why_dropped(&request);
-    if (why != NULL) return drop(from, why);
-    make_room(from);
-    int64_t verdict = validate(&request, bytes, length, from);
-    int code = code_of(verdict, &request);
-    if (code != 0) tell(from, code, verdict);
-    int64_t written = code == 0 ? verdict : write_answer(&request, code, from, out, room);
-    if (verdict > 0) keep_place(from);
-    if (verdict > 0) stunp_server_remove_client(&server, from);
-    return written < 0 ? drop(from, stunp_strerror(written)) : (size_t)written;
+    if (why != NULL) return why;
+    make_room(&got->from);
+    int64_t verdict = validate(&request);
+    uint32_t code = code_of(verdict, &request);
+    if (code == 0) return stunp_strerror(verdict);
+    tell(&got->from, code, verdict);
+    stunp_writer answer = write_answer(&request, code, bytes, sizeof bytes);
+    if (verdict > 0) keep_place(&got->from);
+    if (verdict > 0) stunp_server_remove_client(&server, &got->from);
+    if (stunp_written(&answer) < 0) return stunp_strerror(stunp_written(&answer));
+    send_to(socket, bytes, answer.length, &got->peer); /* who gets no answer asks again */
+    return NULL;
 }
 
-static void serve(int socket) {
-    static uint8_t bytes[2048], out[4096];
-    struct peer peer;
-    while (!is_ending) {
-        ssize_t length = receive_from(socket, bytes, sizeof bytes, &peer);
-        forget_now_and_then(length < 0);
-        if (length < 0) continue;
-        stunp_address from = address_of(&peer);
-        size_t answered = answer(bytes, (size_t)length, &from, out, sizeof out);
-        if (answered > 0) send_to(socket, out, answered, &peer); /* who gets no answer asks again */
+/* ---- The sockets */
+
+/* Answers what waits at a socket; some of it, so that the other socket has its turn. */
+static void serve_some(int socket) {
+    static struct datagram got;
+    for (int taken = 0; taken < IN_TURN && receive(socket, &got); taken++) {
+        const char *why = answer(socket, &got);
+        if (why != NULL && settings.is_verbose) say("%s dropped: %s\n", text_of(&got.from), why);
     }
 }
 
+/* An epoll of the sockets, or -1. */
+static int watch(const struct listener *listener) {
+    int queue = epoll_create1(EPOLL_CLOEXEC);
+    for (int i = 0; i < listener->number; i++) {
+        struct epoll_event wanted = {.events = EPOLLIN, .data.fd = listener->sockets[i]};
+        if (epoll_ctl(queue, EPOLL_CTL_ADD, wanted.data.fd, &wanted) != 0) return -1;
+    }
+    return queue;
+}
+
+static bool serve(const struct listener *listener) {
+    struct epoll_event ready[MOST_SOCKETS];
+    int queue = watch(listener);
+    if (queue < 0) perror("epoll");
+    while (queue >= 0 && !is_ending) {
+        int number = epoll_wait(queue, ready, MOST_SOCKETS, MOST_WAIT);
+        for (int i = 0; i < number; i++) serve_some(ready[i].data.fd);
+        forget_now_and_then(number <= 0);
+    }
+    return queue >= 0 && close(queue) == 0;
+}
+
+/* ---- Settings */
+
 static int64_t take(void *taker, const char *name, const char *password) {
-    return stunp_server_add_user(taker, (const uint8_t *)name, strlen(name),
-                                (const uint8_t *)password, strlen(password));
+    return stunp_server_add_user(taker, name, strlen(name), password, strlen(password));
 }
 
 /* The server of a realm and its users. */
 static int64_t begin(const char *realm, int count, char **words) {
     if (!make_places(settings.addresses)) return STUNP_OUT_OF_MEMORY;
-    int64_t answer = stunp_server_new(&server, (const uint8_t *)realm, strlen(realm));
+    int64_t answer = stunp_server_new(&server, realm, strlen(realm));
     if (answer >= 0 && settings.has_sha256)
         answer = stunp_server_set_algorithms(&server, STUNP_SHA1 | STUNP_SHA256);
     if (answer >= 0) answer = stunp_server_set_nonce_expiry(&server, settings.expiry);

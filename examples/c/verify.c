@@ -1,7 +1,21 @@
-/* Says which digest of the message on standard input verifies under a password: verify PASSWORD < MESSAGE */
+/* Which digest of a message verifies under a password: says so of the message on standard input.
+ *
+ *     verify PASSWORD < MESSAGE
+ *
+ * Status 0; or 1 where none does, or 2 for wrong words. */
 #include "stunp.h"
 #include <stdio.h>
-#include <string.h>
+
+static const char *text_of(int64_t verdict) {
+    switch (verdict) {
+    case STUNP_SHA1: return "valid MESSAGE-INTEGRITY";
+    case STUNP_SHA256: return "valid MESSAGE-INTEGRITY-SHA256";
+    case STUNP_NO_INTEGRITY: return "no integrity";
+    case STUNP_MALFORMED_INTEGRITY: return "malformed integrity";
+    case STUNP_INTEGRITY_FAILED: return "invalid";
+    default: return "not a message";
+    }
+}
 
 int main(int count, char **words) {
     static uint8_t message[STUNP_LONGEST_MESSAGE + 1];
@@ -10,25 +24,7 @@ int main(int count, char **words) {
         return 2;
     }
     size_t length = fread(message, 1, sizeof message, stdin);
-    int64_t answer = stunp_verify(message, length, (const uint8_t *)words[1], strlen(words[1]));
-    switch (answer) {
-    case STUNP_SHA1:
-        puts("valid MESSAGE-INTEGRITY");
-        return 0;
-    case STUNP_SHA256:
-        puts("valid MESSAGE-INTEGRITY-SHA256");
-        return 0;
-    case STUNP_NO_INTEGRITY:
-        puts("no integrity");
-        return 1;
-    case STUNP_MALFORMED_INTEGRITY:
-        puts("malformed integrity");
-        return 1;
-    case STUNP_INTEGRITY_FAILED:
-        puts("invalid");
-        return 1;
-    default:
-        puts("not a message");
-        return 1;
-    }
+    int64_t verdict = stunp_verify(message, length, words[1], strlen(words[1]));
+    puts(text_of(verdict));
+    return verdict > 0 ? 0 : 1;
 }

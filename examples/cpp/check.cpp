@@ -1,5 +1,5 @@
-// Shows stunp.hpp: a request that is written, signed, read and verified, and a server and a client
-// that meet in memory. It prints what each says, which examples/check.sh compares.
+// The wrapper for C++17, stunp.hpp: a check of ICE that is written, signed, read and verified, and a
+// server and a client that meet in memory. examples/check.sh compares what it prints.
 #include "stunp.hpp"
 #include <cstdio>
 
@@ -12,7 +12,7 @@ static const std::array<uint32_t, 16> words{3, 1, 4, 1, 5, 9, 2, 6, 5, 3, 5, 8, 
 static void show(const char *what, const char *said) { std::printf("%s: %s\n", what, said); }
 
 static const char *name_of(stunp::algorithm algorithm) {
-    return algorithm == stunp::algorithm::sha1 ? "HMAC-SHA1" : "HMAC-SHA256";
+    return algorithm == STUNP_SHA1 ? "HMAC-SHA1" : "HMAC-SHA256";
 }
 
 template <class Result> const char *name_or_refusal(Result verdict) {
@@ -31,16 +31,18 @@ static void read(stunp::view bytes) {
         std::printf("  0x%04x of %zu bytes\n", attribute.type, attribute.value.size());
     auto name = message.find(STUNP_USERNAME);
     if (name) show("USERNAME", std::string(name->text()).c_str());
+    uint64_t priority = 0;
+    if (stunp::call(stunp_find_number, bytes, STUNP_PRIORITY, &priority) == 4)
+        std::printf("PRIORITY: %llx\n", static_cast<unsigned long long>(priority));
     show("REALM", message.find(STUNP_REALM).text());
     show("under the password", name_or_refusal(message.verify("password")));
     show("under no password", name_or_refusal(message.verify(std::string_view{})));
 }
 
 static void write_and_read() {
-    const std::array<uint8_t, 4> priority{0x6e, 0, 1, 0xff};
-    stunp::writer check(stunp::kind::request, STUNP_BINDING, first_id);
-    check.add(STUNP_USERNAME, "evtj:h6vY").add(STUNP_PRIORITY, priority);
-    check.add(STUNP_USE_CANDIDATE, {}).sign(stunp::algorithm::sha1, "password").fingerprint();
+    stunp::writer check(STUNP_REQUEST, STUNP_BINDING, first_id);
+    check.add(STUNP_USERNAME, "evtj:h6vY").add_number(STUNP_PRIORITY, 0x6e0001ff, 4);
+    check.add(STUNP_USE_CANDIDATE, {}).sign(STUNP_SHA1, "password").fingerprint();
     auto written = check.finish();
     if (!written) return show("not written", written.text());
     read(*written);
@@ -58,11 +60,12 @@ static stunp::writer serve(stunp::server &server, stunp::view request) {
     auto who = server.client(home);
     bool is_known = who && !who->empty();
     if (is_known) show("served", who->c_str());
-    auto kind = is_known ? stunp::kind::success : stunp::kind::error;
+    auto kind = is_known ? STUNP_SUCCESS : STUNP_ERROR;
     stunp::writer answer(kind, STUNP_BINDING, header->id);
     if (is_known) answer.add_address(STUNP_XOR_MAPPED_ADDRESS, home);
     else answer.add_error(401, "Unauthenticated");
-    return answer.sign(server, home);
+    answer.sign(server, home);
+    return answer;
 }
 
 // What the client says of the answer.
@@ -82,16 +85,15 @@ static bool hear(stunp::client &client, const stunp::writer &answer) {
 }
 
 static bool is_served(stunp::client &client, stunp::server &server, stunp::view id) {
-    stunp::writer request(stunp::kind::request, STUNP_BINDING, id);
+    stunp::writer request(STUNP_REQUEST, STUNP_BINDING, id);
     auto bytes = request.sign(client).finish();
     if (!bytes) return show("no request", bytes.text()), false;
     return hear(client, serve(server, *bytes));
 }
 
 static void meet(const char *password) {
-    auto both = stunp::algorithm::both;
-    auto server = stunp::server::make("realm", both);
-    auto client = stunp::client::make("name", password, both);
+    auto server = stunp::server::make("realm", stunp::both);
+    auto client = stunp::client::make("name", password, stunp::both);
     if (!server || !client || !server->add_user("name", "password")) return show("no", "memory");
     if (is_served(*client, *server, first_id)) show("the first request", "served");
     if (is_served(*client, *server, second_id)) show("the second request", "served");
@@ -103,10 +105,13 @@ static void move_handles() {
     auto made = stunp::agent::make(home);
     stunp::agent agent = std::move(*made), other;
     other = std::move(agent);
-    stunp::writer request(stunp::kind::request, STUNP_BINDING, third_id);
+    stunp::writer request(STUNP_REQUEST, STUNP_BINDING, third_id);
     auto bytes = request.finish();
-    show("the agent", stunp::ask(stunp_agent_send_request, other.get(), *bytes, &home, 0u).text());
-    show("what is left", stunp::ask(stunp_agent_send_request, agent.get(), *bytes, &home, 0u).text());
+    auto send = [&](stunp::agent &by) {
+        return stunp::ask(stunp_agent_send_request, by.get(), *bytes, &home, 0u).text();
+    };
+    show("the agent", send(other));
+    show("what is left", send(agent));
     show("a server of no text", stunp::server::make("\xff").text());
     show("an empty realm", stunp::server::make(std::string_view{}).text());
 }

@@ -1,5 +1,5 @@
-// stunp.h and stunp_state.h for C++17, to copy: handles that free themselves, messages that keep
-// their length, views in and results out. Nothing throws, but where C++ itself has no memory left.
+// A wrapper for C++17 over stunp.h and stunp_state.h: handles that free themselves, messages that
+// keep their length, views in and results out. Nothing throws, but where C++ has no memory left.
 #ifndef STUNP_HPP
 #define STUNP_HPP
 
@@ -14,15 +14,13 @@
 
 namespace stunp {
 
-// Bytes that are read during a call: of a text, a vector, an array. The calls of C take no null
-// pointer, which an empty std::string_view or std::vector may have, so an empty view has another.
+// Bytes that are read during a call: of a text, a vector, an array.
 class view {
-    static constexpr uint8_t none = 0;
     const uint8_t *first_;
     size_t size_;
 
   public:
-    view(const uint8_t *first, size_t size) : first_(size == 0 ? &none : first), size_(size) {}
+    view(const uint8_t *first, size_t size) : first_(first), size_(size) {}
     view(std::string_view text)
         : view(reinterpret_cast<const uint8_t *>(text.data()), text.size()) {}
     view(const char *text = "") : view(std::string_view(text)) {}
@@ -57,54 +55,55 @@ template <class T = int64_t> class [[nodiscard]] result {
     const char *text() const { return stunp_strerror(answer_); }
 };
 // Of a call whose value is its answer.
-template <class T = int64_t, class Call, class... Arguments>
-result<T> ask(Call of, Arguments... arguments) {
+template <class T = int64_t, class Call, class... Rest> result<T> ask(Call of, Rest... arguments) {
     int64_t answer = call(of, arguments...);
     return result<T>(answer, T(answer));
 }
 
-enum class kind : uint32_t { request, indication, success, error };
-enum class algorithm : uint32_t { sha1 = STUNP_SHA1, sha256 = STUNP_SHA256, both = 3 };
 using address = stunp_address;
+using algorithm = stunp_algorithm;
+constexpr uint32_t both = uint32_t(STUNP_SHA1) | uint32_t(STUNP_SHA256);
 
 // ---- Handles, which move and are not copied. Each call refuses one that was not made.
-template <class H, void (*Free)(H *)> class handle {
+template <class H, void (*Clear)(H *)> class handle {
     H handle_{};
 
   public:
     handle() = default;
     handle(handle &&other) noexcept : handle_(std::exchange(other.handle_, H{})) {}
     handle &operator=(handle &&other) noexcept { return std::swap(handle_, other.handle_), *this; }
-    ~handle() { Free(&handle_); }
+    ~handle() { Clear(&handle_); }
     H *get() { return &handle_; }
+    const H *get() const { return &handle_; }
 };
 
-struct server : handle<stunp_server, stunp_server_free> {
-    static result<server> make(view realm, algorithm supported = algorithm::sha1) {
+struct server : handle<stunp_server, stunp_server_clear> {
+    static result<server> make(view realm, uint32_t supported = STUNP_SHA1) {
         server made;
         int64_t answer = call(stunp_server_new, made.get(), realm);
-        if (answer == 0) answer = stunp_server_set_algorithms(made.get(), uint32_t(supported));
+        if (answer == 0) answer = stunp_server_set_algorithms(made.get(), supported);
         return result<server>(answer, std::move(made));
     }
-    result<> add_user(view name, view word) { return ask(stunp_server_add_user, get(), name, word); }
+    result<> add_user(view name, view key) { return ask(stunp_server_add_user, get(), name, key); }
     result<algorithm> validate(view message, const address &from, uint64_t now,
                                const std::array<uint32_t, 16> &words) {
         return ask<algorithm>(stunp_server_validate, get(), message, &from, now, words.data());
     }
-    // Who was validated last at an address, or an empty name. One that USERHASH hid may be longer.
-    result<std::string> client(const address &at, size_t longest = 513) {
-        std::vector<uint8_t> name(longest + 1);
+    // Who was validated last at an address, or an empty name. One that USERHASH hid may be long.
+    result<std::string> client(const address &at, size_t room = 513) const {
+        std::vector<uint8_t> name(room);
         size_t length = 0;
-        int64_t by = stunp_server_client(get(), &at, name.data(), longest, &length);
+        int64_t by = stunp_server_client(get(), &at, name.data(), room, &length);
+        if (by == STUNP_BUFFER_TOO_SMALL) return client(at, length);
         return result<std::string>(by, std::string(view(name.data(), length).text()));
     }
 };
 
-struct client : handle<stunp_client, stunp_client_free> {
-    static result<client> make(view name, view password, algorithm supported = algorithm::sha1) {
+struct client : handle<stunp_client, stunp_client_clear> {
+    static result<client> make(view name, view password, uint32_t supported = STUNP_SHA1) {
         client made;
         int64_t answer = stunp_client_new(made.get());
-        if (answer == 0) answer = stunp_client_set_algorithms(made.get(), uint32_t(supported));
+        if (answer == 0) answer = stunp_client_set_algorithms(made.get(), supported);
         if (answer == 0) answer = call(stunp_client_set_credentials, made.get(), name, password);
         return result<client>(answer, std::move(made));
     }
@@ -113,8 +112,8 @@ struct client : handle<stunp_client, stunp_client_free> {
 };
 
 // Its calls are those of C, as `ask(stunp_agent_handle, agent.get(), message, &from, now)`.
-struct agent : handle<stunp_agent, stunp_agent_free> {
-    static result<agent> make(const address &local, uint32_t transport = STUNP_UDP) {
+struct agent : handle<stunp_agent, stunp_agent_clear> {
+    static result<agent> make(const address &local, stunp_transport transport = STUNP_UDP) {
         agent made;
         int64_t answer = stunp_agent_new(made.get(), transport, &local);
         return result<agent>(answer, std::move(made));
@@ -122,34 +121,37 @@ struct agent : handle<stunp_agent, stunp_agent_free> {
 };
 
 // ---- A message that is written. Once a call was refused the others do nothing, so that it is
-// looked at once, by `finish`, whose view is of this object.
+// looked at once, by `finish`, whose view is of this object. It moves, and is not copied.
 class writer {
     std::vector<uint8_t> bytes_;
-    int64_t length_;
-    template <class Call, class... Rest> writer &then(Call more, Rest... rest) {
-        if (length_ < 0) return *this;
-        return length_ = call(more, bytes_.data(), bytes_.size(), size_t(length_), rest...), *this;
+    stunp_writer out_;
+    template <class Call, class... Rest> writer &then(Call write, Rest... rest) {
+        std::apply(write, std::tuple_cat(std::make_tuple(&out_), spread(rest)...));
+        return *this;
     }
 
   public:
-    writer(kind of, uint32_t method, view id, size_t room = 2048) : bytes_(room ? room : 1) {
-        length_ = call(stunp_begin, uint32_t(of), method, id, bytes_.data(), bytes_.size());
+    writer(stunp_message_class of, uint32_t method, view id, size_t room = 2048) : bytes_(room) {
+        int64_t begun = call(stunp_begin, of, method, id, bytes_.data(), room);
+        out_ = stunp_write_on(begun, bytes_.data(), room);
     }
-    writer &add(uint32_t type, view value) { return then(stunp_add, type, value); }
+    writer(writer &&) = default;
+    writer &add(uint32_t type, view value) { return then(stunp_write_bytes, type, value); }
+    writer &add_number(uint32_t type, uint64_t number, size_t size) {
+        return then(stunp_write_number, type, number, size);
+    }
     writer &add_address(uint32_t type, const address &at) {
-        return then(stunp_add_xor_address, type, view(at.octets, at.length), at.port);
+        return then(stunp_write_xor_address, type, view(at.octets, at.length), at.port);
     }
-    writer &add_error(uint32_t code, view why) { return then(stunp_add_error, code, why); }
-    writer &sign(algorithm by, view key) { return then(stunp_sign, uint32_t(by), key); }
-    writer &sign(client &by) {
-        return then([&](auto... message) { return stunp_client_sign(by.get(), message...); });
-    }
+    writer &add_error(uint32_t code, const char *why) { return then(stunp_write_error, code, why); }
+    writer &sign(algorithm by, view key) { return then(stunp_write_integrity, by, key); }
+    writer &sign(const client &by) { return then(stunp_write_client_sign, by.get()); }
     writer &sign(server &by, const address &to) {
-        return then([&](auto... message) { return stunp_server_sign(by.get(), message..., &to); });
+        return then(stunp_write_server_sign, by.get(), &to);
     }
-    writer &fingerprint() { return then(stunp_add_fingerprint); }
+    writer &fingerprint() { return then(stunp_write_fingerprint); }
     result<view> finish() const {
-        return result<view>(length_, view(bytes_.data(), length_ < 0 ? 0 : size_t(length_)));
+        return result<view>(stunp_written(&out_), view(bytes_.data(), out_.length));
     }
 };
 
@@ -170,11 +172,9 @@ struct message {
     }
     result<address> find_address(uint32_t type) const { // of a type whose value is under XOR
         address out{};
-        size_t length = 0;
-        int64_t at = call(stunp_find, bytes, type, &length);
-        if (at > 0) at = call(stunp_read_xor_address, bytes, size_t(at), out.octets, 16u, &out.port);
-        out.length = uint16_t(at);
-        return result<address>(at, out);
+        int64_t octets = call(stunp_find_xor_address, bytes, type, out.octets, 16u, &out.port);
+        out.length = octets == 4 ? 4 : 16;
+        return result<address>(octets, out);
     }
     result<> error_code() const { return ask(stunp_error_code, bytes); }
     result<> fingerprint() const { return ask(stunp_check_fingerprint, bytes); }

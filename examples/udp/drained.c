@@ -44,16 +44,16 @@ static void answer(int server, const struct asker *asker) {
     struct sockaddr_in to = {.sin_family = AF_INET, .sin_addr.s_addr = htonl(INADDR_LOOPBACK)};
     struct sockaddr_storage own;
     socklen_t length = sizeof own;
-    static const uint8_t told[8] = {0, 1, 0x21, 0x13, 0xe1, 0x12, 0xa6, 0x43}; /* 192.0.2.1:1 */
+    static const uint8_t octets[] = {192, 0, 2, 1};
     uint8_t bytes[64];
     getsockname(asker->socket, (struct sockaddr *)&own, &length);
     to.sin_port = ((struct sockaddr_in *)&own)->sin_port;
     for (int i = 0; i < NOISE; i++)
         sendto(server, "noise", 5, 0, (struct sockaddr *)&to, sizeof to);
-    size_t room = sizeof bytes;
-    int64_t at = stunp_begin(STUNP_SUCCESS, STUNP_BINDING, asked + 8, STUNP_ID_LENGTH, bytes, room);
-    at = stunp_add(bytes, room, (size_t)at, STUNP_XOR_MAPPED_ADDRESS, told, sizeof told);
-    sendto(server, bytes, (size_t)at, 0, (struct sockaddr *)&to, sizeof to);
+    stunp_writer told =
+        stunp_write(STUNP_SUCCESS, STUNP_BINDING, asked + 8, bytes, sizeof bytes);
+    stunp_write_xor_address(&told, STUNP_XOR_MAPPED_ADDRESS, octets, sizeof octets, 1);
+    sendto(server, bytes, told.length, 0, (struct sockaddr *)&to, sizeof to);
 }
 
 int main(void) {

@@ -63,8 +63,9 @@ def build_helpers(compiler, folder):
     client = (parts / name for name in ("request.c", "net.c", "words.c", "heap.c"))
     drained = (HERE / "drained.c", *client, STATE, STATELESS, "-o", folder / "drained")
     subprocess.run([compiler, "-O1", *paths, *drained], check=True)
-    places = (parts / "places.c", parts / "net.c", "-o", folder / "crowded")
-    subprocess.run([compiler, "-O1", *paths, HERE / "crowded.c", *places], check=True)
+    places = (*(parts / name for name in ("places.c", "net.c", "heap.c")), STATE, STATELESS)
+    crowded = (HERE / "crowded.c", *places, "-o", folder / "crowded")
+    subprocess.run([compiler, "-O1", *paths, *crowded], check=True)
     faults = (HERE / "faults.c", "-o", folder / "faults.so", "-ldl")
     subprocess.run([compiler, "-O1", "-shared", "-fPIC", *faults], check=True)
 

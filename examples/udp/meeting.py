@@ -22,7 +22,7 @@ Ended = collections.namedtuple("Ended", "status lines err")
 
 
 class Side:
-    """A running program, whose first line is `HOST PORT UFRAG PASSWORD`."""
+    """A running program, whose first line is `HOST PORT[,PORT].. UFRAG PASSWORD`."""
 
     def __init__(self, *words):
         pipes = dict(stdin=subprocess.PIPE, stdout=subprocess.PIPE, stderr=subprocess.PIPE)
@@ -30,8 +30,8 @@ class Side:
         harness.RUNNING.append(self.process)
         line = self.process.stdout.readline().split()
         assert len(line) == 4, f"{words}: {line} {self.process.stderr.read()}"
-        self.host, self.ufrag, self.password = line[0], line[2], line[3]
-        self.address = (self.host, int(line[1]))
+        self.host, self.ports, self.ufrag, self.password = line
+        self.address = (self.host, int(self.ports.split(",")[0]))
 
     def meet(self, address, ufrag, password):
         self.process.stdin.write(f"{address[0]} {address[1]} {ufrag} {password}\n")
@@ -115,9 +115,9 @@ class Wire:
 
 
 def met(first, second):
-    """How two sides end that have each other's own address."""
-    first.meet(second.address, second.ufrag, second.password)
-    second.meet(first.address, first.ufrag, first.password)
+    """How two sides end that have each other's own addresses."""
+    first.meet((second.host, second.ports), second.ufrag, second.password)
+    second.meet((first.host, first.ports), first.ufrag, first.password)
     return first.ended(), second.ended()
 
 

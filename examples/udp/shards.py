@@ -174,8 +174,9 @@ def is_at(line, source):
 
 
 def waits_at(server):
-    """Whether a datagram waits at a stopped server."""
-    lines = pathlib.Path(f"/proc/{server.process.pid}/net/udp6").read_text().splitlines()[1:]
+    """Whether a datagram waits at a stopped server, at a socket of IPv4 or of IPv6."""
+    tables = (pathlib.Path(f"/proc/{server.process.pid}/net/{name}") for name in ("udp", "udp6"))
+    lines = [line for table in tables for line in table.read_text().splitlines()[1:]]
     queues = [fields[4].split(":")[1] for fields in map(str.split, lines) if fields[1].endswith(f":{USERS:04X}")]
     return any(int(queue, 16) for queue in queues)
 

@@ -41,6 +41,7 @@ static struct {
     stunp_client client;
     stunp_agent agent;
     const stunp_address *remote; /* to which alone the agent sends, or NULL */
+    size_t most;                 /* addresses that the server keeps */
     uint64_t now;
 } world;
 
@@ -69,7 +70,7 @@ static void require_rest(size_t from, const char *what) {
 
 /* An answer is a number of the header. */
 static int64_t named(int64_t answer) {
-    require(answer >= STUNP_NO_WAIT, "a refusal without a name");
+    require(answer >= STUNP_TOO_MANY_ADDRESSES, "a refusal without a name");
     return answer;
 }
 
@@ -187,6 +188,62 @@ static void read_plainly(struct bytes m, size_t place) {
     require(number == (size < 0 ? 7 : wanted), "another number");
 }
 
+/* The text and the types that are read of the bytes at a place. */
+static void read_words(struct bytes m, size_t place) {
+    uint16_t types[4] = {7, 7, 7, 7};
+    uint64_t number;
+    size_t length = 77;
+    int64_t at = named(stunp_read_text(m.at, m.length, place, &length));
+    int64_t size = named(stunp_read_types(m.at, m.length, place, types, 3));
+    bool is_none = stunp_read_number(m.at, m.length, place, &number) == STUNP_BAD_ARGUMENT;
+    require((at == STUNP_BAD_ARGUMENT) == is_none && (size == STUNP_BAD_ARGUMENT) == is_none,
+            "a text or types of nothing");
+    require(at < 0 ? length == 77 : at == (int64_t)place + 4 && length <= m.length - place - 4,
+            "a text elsewhere");
+    for (int64_t i = 0; i < 4; i++) {
+        const uint8_t *type = m.at + place + 4 + 2 * i;
+        require(types[i] == (i < size && i < 3 ? type[0] << 8 | type[1] : 7), "another type");
+    }
+    if (at > 0 && size >= 0) require(length == 2 * (size_t)size, "another number of types");
+}
+
+/* What is found by type is what is read at the place of the first one. */
+static void find_values(struct bytes m) {
+    for (size_t i = 0; i < count; i++) {
+        uint8_t octets[2][16] = {{0}};
+        uint16_t ports[2] = {7, 7}, types[2] = {7, 7}, type = found[i].type;
+        uint64_t numbers[2] = {7, 7};
+        size_t lengths[2] = {77, 77}, place = found[first_of(type)].place;
+        require(stunp_find_text(m.at, m.length, type, lengths)
+                        == stunp_read_text(m.at, m.length, place, lengths + 1)
+                    && lengths[0] == lengths[1],
+                "another text is found");
+        require(stunp_find_number(m.at, m.length, type, numbers)
+                        == stunp_read_number(m.at, m.length, place, numbers + 1)
+                    && numbers[0] == numbers[1],
+                "another number is found");
+        require(stunp_find_xor_address(m.at, m.length, type, octets[0], 16, ports)
+                        == stunp_read_xor_address(m.at, m.length, place, octets[1], 16, ports + 1)
+                    && ports[0] == ports[1] && memcmp(octets[0], octets[1], 16) == 0,
+                "another address is found");
+        require(stunp_find_types(m.at, m.length, type, types, 1)
+                        == stunp_read_types(m.at, m.length, place, types + 1, 1)
+                    && types[0] == types[1],
+                "other types are found");
+    }
+}
+
+/* The text of a number is that of the header. */
+static void tell_error(uint8_t setting) {
+    uint8_t text[STUNP_LONGEST_ERROR_TEXT];
+    int64_t number = 2 - (int64_t)(setting % 32), length;
+    const char *wanted = stunp_strerror(number);
+    memset(text, PATTERN, sizeof text);
+    length = stunp_error_text(number, text, sizeof text);
+    require(length > 0 && memcmp(text, wanted, strlen(wanted)) == 0, "another text of an error");
+    require(stunp_error_text(number, NULL, 0) == STUNP_BUFFER_TOO_SMALL, "a text without room");
+}
+
 static void read_values(struct bytes m, int64_t parsed, uint8_t setting) {
     uint8_t octets[2][16];
     uint16_t ports[2] = {7, 7};
@@ -222,6 +279,7 @@ static void read_values(struct bytes m, int64_t parsed, uint8_t setting) {
         require(named(stunp_read_xor_address(m.at, m.length, place, octets[1], 16, ports)) != 0,
                 "an address of no bytes");
         read_plainly(m, place);
+        read_words(m, place);
     }
 }
 
@@ -283,6 +341,8 @@ static void read_all(struct bytes m, uint8_t setting) {
     find(m, parsed);
     read_header(m, parsed);
     read_values(m, parsed, setting);
+    find_values(m);
+    tell_error(setting);
     check_fingerprint(m, parsed);
     read_unknown(m, parsed, setting);
     stunp_cursor anywhere = {setting, (uint32_t)setting << 24 | setting % 5};
@@ -392,6 +452,37 @@ static size_t add_exactly(enum addition which, size_t length, const struct more 
     return end;
 }
 
+/* The same by a writer, in as much room as the setting says: its message stays one, and once a call
+ * failed the others do nothing. */
+static void write_by_writer(struct bytes m, uint8_t setting, const struct more *more) {
+    const stunp_address *at = more->address;
+    size_t room = m.length + 2u * setting;
+    memset(out + room, PATTERN, BEHIND);
+    memcpy(out, m.at, m.length);
+    stunp_writer writer = stunp_write_on((int64_t)m.length, out, room);
+    stunp_write_bytes(&writer, more->type, more->length == 0 ? NULL : more->value, more->length);
+    stunp_write_xor_address(&writer, STUNP_XOR_PEER_ADDRESS, at->octets, at->length, at->port);
+    stunp_write_address(&writer, STUNP_MAPPED_ADDRESS, at->octets, at->length, at->port);
+    stunp_write_number(&writer, STUNP_PRIORITY, more->number, more->size);
+    stunp_write_text(&writer, STUNP_NONCE, "nonce");
+    stunp_write_error(&writer, more->code, "no");
+    stunp_write_integrity(&writer, STUNP_SHA256, "key", 3);
+    stunp_write_fingerprint(&writer);
+    int64_t written = named(stunp_written(&writer));
+    require(writer.length >= m.length && writer.length <= room, "written to another length");
+    require(memcmp(out + room, blank, BEHIND) == 0, "written behind the room");
+    int64_t parsed = stunp_parse(m.at, m.length);
+    require(stunp_parse(out, writer.length) == parsed, "what was written is no message");
+    if (parsed < 0) require(written < 0 && writer.length == m.length, "no message is gone on with");
+    if (written == 0)
+        require(stunp_verify(out, writer.length, "key", 3) == STUNP_SHA256
+                    && stunp_check_fingerprint(out, writer.length) == STUNP_RIGHT_FINGERPRINT,
+                "what a writer signed");
+    stunp_writer before_more = writer;
+    stunp_write_fingerprint(&writer);
+    if (written < 0) require(memcmp(&writer, &before_more, sizeof writer) == 0, "a writer goes on");
+}
+
 static void write_more(struct bytes m, uint8_t setting) {
     static const uint16_t types[] = {STUNP_USERNAME, STUNP_SOFTWARE, STUNP_MESSAGE_INTEGRITY,
                                      STUNP_FINGERPRINT};
@@ -427,6 +518,7 @@ static void write_more(struct bytes m, uint8_t setting) {
     }
     require(add(PLAINLY, length, length + 1, &more) == STUNP_BAD_ARGUMENT,
             "a message longer than its room");
+    write_by_writer(m, setting, &more);
 }
 
 /* A message of a class, a method and an id that are the step's. */
@@ -515,9 +607,17 @@ static int64_t server_hears(const uint8_t *message, size_t length, const stunp_a
     size_t name_length = 77;
     bool is_full = world.server.is_full;
     int64_t parsed = stunp_parse(message, length);
+    int64_t kept = stunp_server_address_count(&world.server);
+    bool is_kept = stunp_server_nonce(&world.server, from, nonce, sizeof nonce) > 0;
+    bool is_too_many = !is_kept && kept >= 0 && (size_t)kept >= world.most;
     int64_t verdict =
         named(stunp_server_validate(&world.server, message, length, from, world.now, words));
     require(verdict != 0 && verdict <= STUNP_SHA256, "another verdict of the server");
+    if (is_full && is_address(from) && parsed == 0)
+        require((verdict == STUNP_TOO_MANY_ADDRESSES) == is_too_many, "another bound");
+    int64_t kept_now = stunp_server_address_count(&world.server);
+    require(kept_now == kept || (kept_now == kept + 1 && !is_kept && !is_too_many),
+            "another number of addresses");
     if (!is_full || !is_address(from) || parsed < 0)
         require(verdict
                     == (!is_full            ? STUNP_EMPTY_HANDLE
@@ -649,18 +749,33 @@ static void agent_hears(struct bytes m, uint8_t setting) {
     if (answer == 1) require(stunp_agent_is_validated_peer(&world.agent, from) == 1, "not a peer");
 }
 
+/* A peer that is named, and one that is forgotten. */
+static void tell_peers(const stunp_address *named_one, const stunp_address *forgotten) {
+    if (named(stunp_agent_validated_peer(&world.agent, named_one)) == 0)
+        require(stunp_agent_is_validated_peer(&world.agent, named_one) == 1, "not named");
+    int64_t peers = named(stunp_agent_peer_count(&world.agent));
+    int64_t was = stunp_agent_is_validated_peer(&world.agent, forgotten);
+    if (named(stunp_agent_forget_peer(&world.agent, forgotten)) < 0) return;
+    require(stunp_agent_is_validated_peer(&world.agent, forgotten) == 0
+                && stunp_agent_peer_count(&world.agent) == peers - was,
+            "not forgotten");
+}
+
 /* What is due, some of it, and what the agent is told of one request. */
 static void agent_is_asked(struct bytes m, uint8_t setting) {
-    const stunp_timeouts timeouts = {setting % 16 * 100000000u, setting % 5 * 1000000000u,
-                                    setting * 10000000u, setting % 9};
-    stunp_statistics statistics;
+    const stunp_timeouts timeouts = {sizeof timeouts - setting / 128, setting % 16 * 100000000u,
+                                     setting % 5 * 1000000000u, setting * 10000000u, setting % 9};
+    stunp_statistics statistics = {.size = sizeof statistics};
     stunp_address to;
     uint8_t id[STUNP_ID_LENGTH] = {0};
     memcpy(id, m.at, m.length < sizeof id ? m.length : sizeof id);
     if (setting & 1) named(stunp_agent_cancel(&world.agent, id, sizeof id));
     if (setting & 2) named(stunp_agent_cancel_retransmissions(&world.agent, id, sizeof id));
-    if (setting & 4) named(stunp_agent_configure(&world.agent, id, sizeof id, &timeouts));
-    if (setting & 8) named(stunp_agent_validated_peer(&world.agent, address_of(setting / 16)));
+    if (setting & 4) {
+        int64_t answer = named(stunp_agent_configure(&world.agent, id, sizeof id, &timeouts));
+        if (setting & 128) require(answer < 0, "time-outs of another size");
+    }
+    if (setting & 8) tell_peers(address_of(setting / 16), address_of(setting / 32));
     require(stunp_agent_cancel(&world.agent, id, m.length % 12) < 0, "an id that is none");
     for (int i = 0; i < 16; i++) {
         fill_out();
@@ -687,6 +802,9 @@ static void agent_is_asked(struct bytes m, uint8_t setting) {
     require(stunp_agent_statistics(&world.agent, &statistics)
                 == (world.agent.is_full ? 0 : STUNP_EMPTY_HANDLE),
             "no statistics");
+    statistics.size = setting;
+    require(setting == sizeof statistics || stunp_agent_statistics(&world.agent, &statistics) < 0,
+            "statistics of another size");
 }
 
 static void go_on(struct bytes m, uint8_t setting) {
@@ -699,6 +817,9 @@ static void set_server(uint8_t setting) {
     named(stunp_server_set_algorithms(&world.server, setting % 5));
     named(stunp_server_set_anonymous_username(&world.server, setting / 5 % 4));
     if (setting & 1) named(stunp_server_set_nonce_expiry(&world.server, (uint64_t)setting << 30));
+    if ((setting & 2) == 0) return;
+    size_t most = setting % 8 == 7 ? SIZE_MAX : setting % 8;
+    if (named(stunp_server_set_most_addresses(&world.server, most)) == 0) world.most = most;
 }
 
 static void set_client(struct bytes m, uint8_t setting) {
@@ -729,6 +850,8 @@ static void forget(uint8_t setting) {
     uint8_t nonce[64];
     const stunp_address *at = address_of(setting);
     stunp_address next = {{0}, 0, 0};
+    int64_t kept = stunp_server_address_count(&world.server);
+    bool is_kept = stunp_server_nonce(&world.server, at, nonce, sizeof nonce) > 0;
     uint64_t moment = setting & 1 ? world.now : UINT64_MAX;
     switch (setting / 2 % 4) {
     case 0: named(stunp_server_remove_client(&world.server, at)); break;
@@ -742,15 +865,16 @@ static void forget(uint8_t setting) {
         break;
     default:
         if (named(stunp_server_forget(&world.server, at)) == 0)
-            require(stunp_server_nonce(&world.server, at, nonce, sizeof nonce) == 0,
-                    "a forgotten address has a nonce");
+            require(stunp_server_nonce(&world.server, at, nonce, sizeof nonce) == 0
+                        && stunp_server_address_count(&world.server) == kept - is_kept,
+                    "a forgotten address is kept");
     }
 }
 
 /* Frees a handle or more, and makes those that are empty anew. */
 static void make_handles(struct bytes m, uint8_t setting) {
-    const stunp_timeouts timeouts = {500000000u * (setting / 8u % 4), UINT64_MAX, setting,
-                                    1 + setting % 8};
+    const stunp_timeouts timeouts = {sizeof timeouts, 500000000u * (setting / 8u % 4), UINT64_MAX,
+                                     setting, 1 + setting % 8};
     if (setting & 1) stunp_server_free(&world.server);
     if (setting & 2) stunp_client_free(&world.client);
     if (setting & 4) stunp_agent_free(&world.agent);
@@ -764,6 +888,7 @@ static void make_handles(struct bytes m, uint8_t setting) {
                      : stunp_agent_new(&world.agent, setting / 32 % 2, addresses),
     };
     bool are_full[] = {world.server.is_full, world.client.is_full, world.agent.is_full};
+    if (answers[0] == 0) world.most = SIZE_MAX;
     if (answers[2] == 0) world.remote = setting & 16 ? address_of(setting) : NULL;
     for (int i = 0; i < 3; i++) {
         require(were_full[i] == (named(answers[i]) == STUNP_FULL_HANDLE), "a full handle is filled");

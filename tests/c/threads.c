@@ -1,0 +1,221 @@
+/* Handles that go from thread to thread: made in main and handed to threads by a queue with a mutex,
+ * and one set of them through four threads in turn. And the memory of heap.c, of which four threads
+ * take at once. check.sh runs it plain, and under ThreadSanitizer and helgrind where they are there.
+ *
+ *     threads [ROUNDS] */
+#include "fixture.h"
+#include <pthread.h>
+
+enum { THREADS = 4, SETS = 6, LONGEST = 200 };
+
+static uint32_t rounds = 200;
+
+/* Handles of each kind, which go together. Their bytes are copied, and the copy before is
+ * forgotten. */
+struct set {
+    struct pair pair;
+    stunp_agent agent;
+    uint32_t number, uses;
+};
+
+static struct set make_set(uint32_t number) {
+    struct set set = {.pair = pair_of(STUNP_SHA1 | STUNP_SHA256), .number = number};
+    stunp_address local = address_of(1);
+    want("stunp_agent_new", stunp_agent_new(&set.agent, STUNP_UDP, &local), 0);
+    return set;
+}
+
+static void free_set(struct set *set) {
+    free_pair(&set->pair);
+    stunp_agent_free(&set->agent);
+}
+
+/* A request that is sent again once, and answered. */
+static void use_agent(stunp_agent *agent, uint32_t number, uint64_t now) {
+    struct message request = message_of(STUNP_REQUEST, number);
+    struct message answer = message_of(STUNP_SUCCESS, number);
+    stunp_address peer = address_of(2), to;
+    uint8_t again[64];
+    want("sent", stunp_agent_send_request(agent, request.bytes, request.length, &peer, now), 0);
+    now += SECOND / 2;
+    int64_t length = stunp_agent_poll_transmit(agent, now, again, sizeof again, &to);
+    want("sent again", length, (int64_t)request.length);
+    want_same("the same", again, request.bytes, request.length);
+    want("ended", stunp_agent_handle(agent, answer.bytes, answer.length, &peer, now), 1);
+}
+
+/* The server challenges the client the first time, and validates it from then on. */
+static void use(struct set *set) {
+    stunp_address from = address_of(100 + set->number);
+    uint64_t now = set->uses * SECOND;
+    if (set->uses == 0) challenge(&set->pair, &from, now);
+    else validate(&set->pair, &from, now, STUNP_SHA256);
+    use_agent(&set->agent, set->uses, now);
+    set->uses++;
+}
+
+static void start_all(pthread_t threads[THREADS], void *(*work)(void *), int numbers[THREADS]) {
+    for (int i = 0; i < THREADS; i++) {
+        numbers[i] = i;
+        want("pthread_create", pthread_create(&threads[i], NULL, work, &numbers[i]), 0);
+    }
+}
+
+static void run_all(void *(*work)(void *)) {
+    pthread_t threads[THREADS];
+    int numbers[THREADS];
+    start_all(threads, work, numbers);
+    for (int i = 0; i < THREADS; i++) want("pthread_join", pthread_join(threads[i], NULL), 0);
+}
+
+/* ---- A queue, from which each thread takes the next set, and to whose end it gives it back. */
+
+static struct {
+    pthread_mutex_t mutex;
+    pthread_cond_t changed;
+    struct set sets[SETS], done[SETS];
+    int first, number, done_number;
+} queue = {.mutex = PTHREAD_MUTEX_INITIALIZER, .changed = PTHREAD_COND_INITIALIZER};
+
+static void put(const struct set *set) {
+    pthread_mutex_lock(&queue.mutex);
+    if (set->uses == rounds) queue.done[queue.done_number++] = *set;
+    else queue.sets[(queue.first + queue.number++) % SETS] = *set;
+    pthread_cond_broadcast(&queue.changed);
+    pthread_mutex_unlock(&queue.mutex);
+}
+
+/* Takes the next set. False once all are done. */
+static bool take(struct set *set) {
+    pthread_mutex_lock(&queue.mutex);
+    while (queue.number == 0 && queue.done_number < SETS)
+        pthread_cond_wait(&queue.changed, &queue.mutex);
+    bool is_taken = queue.number > 0;
+    if (is_taken) {
+        *set = queue.sets[queue.first];
+        queue.first = (queue.first + 1) % SETS;
+        queue.number--;
+    }
+    pthread_mutex_unlock(&queue.mutex);
+    return is_taken;
+}
+
+static void *work_queue(void *number) {
+    struct set set;
+    while (take(&set)) {
+        use(&set);
+        put(&set);
+    }
+    return number;
+}
+
+static void through_a_queue(void) {
+    for (uint32_t i = 0; i < SETS; i++) {
+        struct set set = make_set(i);
+        put(&set);
+    }
+    run_all(work_queue);
+    want("all are done", queue.done_number, SETS);
+    for (int i = 0; i < SETS; i++) free_set(&queue.done[i]);
+    want_no_blocks("through a queue");
+}
+
+/* ---- One set that each thread uses in its turn. Main made it, and the last thread frees it. */
+
+static struct {
+    pthread_mutex_t mutex;
+    pthread_cond_t changed;
+    struct set set;
+    uint32_t turn;
+} baton = {.mutex = PTHREAD_MUTEX_INITIALIZER, .changed = PTHREAD_COND_INITIALIZER};
+
+static void *work_in_turn(void *number) {
+    uint32_t own = (uint32_t) * (int *)number;
+    for (uint32_t i = 0; i < rounds; i++) {
+        pthread_mutex_lock(&baton.mutex);
+        while (baton.turn != i * THREADS + own) pthread_cond_wait(&baton.changed, &baton.mutex);
+        use(&baton.set);
+        if (++baton.turn == rounds * THREADS) free_set(&baton.set);
+        pthread_cond_broadcast(&baton.changed);
+        pthread_mutex_unlock(&baton.mutex);
+    }
+    return number;
+}
+
+static void in_turn(void) {
+    baton.set = make_set(SETS);
+    run_all(work_in_turn);
+    want("turns", baton.turn, rounds * THREADS);
+    want_no_blocks("in turn");
+}
+
+/* ---- The memory. */
+
+static size_t bound;
+static struct {
+    size_t asked, refused;
+} counts[THREADS];
+
+static void fill(rattle_allocation block, size_t from, size_t to, int own) {
+    for (size_t i = from; i < to; i++) ((uint8_t *)block.at)[i] = (uint8_t)(own + (int)i);
+}
+
+static void look_at(rattle_allocation block, size_t to, int own) {
+    for (size_t i = 0; i < to; i++)
+        want("a byte", ((uint8_t *)block.at)[i], (uint8_t)(own + (int)i));
+}
+
+/* Takes a block, has it grow and shrink, and gives it back; refused or not. */
+static void *work_memory(void *number) {
+    int own = *(int *)number;
+    for (size_t i = 0; i < 10 * rounds; i++) {
+        size_t length = 1 + i * 7 % LONGEST, other = 1 + i * 11 % (2 * LONGEST);
+        rattle_allocation block = rattle_alloc(length, 8);
+        counts[own].asked += 1u + block.is_ok;
+        counts[own].refused += !block.is_ok;
+        if (!block.is_ok) continue;
+        fill(block, 0, length, own);
+        size_t kept = length < other ? length : other;
+        rattle_allocation more = rattle_realloc(block.at, kept, other, 8);
+        counts[own].refused += !more.is_ok;
+        if (more.is_ok) fill(more, kept, other, own);
+        look_at(more.is_ok ? more : block, more.is_ok ? other : length, own);
+        want("within the bound", stunp_heap_bytes() <= bound, true);
+        rattle_dealloc(more.is_ok ? more.at : block.at);
+    }
+    return number;
+}
+
+/* How many are refused of all that are asked for, with so much room. */
+static size_t refused_within(size_t bytes) {
+    size_t before = stunp_heap_asked(), asked = 0, refused = 0;
+    memset(counts, 0, sizeof counts);
+    bound = bytes;
+    stunp_heap_bound(bound);
+    run_all(work_memory);
+    for (int i = 0; i < THREADS; i++) asked += counts[i].asked, refused += counts[i].refused;
+    want("each is counted", (int64_t)(stunp_heap_asked() - before), (int64_t)asked);
+    want_no_blocks("memory");
+    return refused;
+}
+
+/* With room for all, none is refused but the one that is to be; and with less, no bound is
+ * passed. */
+static void memory(void) {
+    want("none is refused", (int64_t)refused_within(THREADS * 3 * LONGEST), 0);
+    stunp_heap_refuse(THREADS * rounds);
+    want("one is refused", (int64_t)refused_within(THREADS * 3 * LONGEST), 1);
+    stunp_heap_refuse(0);
+    refused_within(2 * LONGEST);
+    stunp_heap_bound(SIZE_MAX);
+}
+
+int main(int words_count, char **words) {
+    if (words_count > 1) rounds = (uint32_t)strtoul(words[1], NULL, 10);
+    want("rounds", rounds > 1, true);
+    through_a_queue();
+    in_turn();
+    memory();
+    puts("threads: passed");
+    return 0;
+}

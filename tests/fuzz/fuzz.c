@@ -788,26 +788,13 @@ static void tell_peers(const stunp_address *named_one, const stunp_address *forg
             "not forgotten");
 }
 
-/* What is due, some of it, and what the agent is told of one request. */
-static void agent_is_asked(struct bytes m, uint8_t setting) {
-    const stunp_timeouts timeouts = {sizeof timeouts - setting / 128, setting % 16 * 100000000u,
-                                     setting % 5 * 1000000000u, setting * 10000000u, setting % 9};
-    stunp_statistics statistics = {.size = sizeof statistics};
+/* Takes what is due, some of it. */
+static void send_again(size_t room) {
     stunp_address to;
-    uint8_t id[STUNP_ID_LENGTH] = {0};
-    memcpy(id, m.at, m.length < sizeof id ? m.length : sizeof id);
-    if (setting & 1) named(stunp_agent_cancel(&world.agent, id, sizeof id));
-    if (setting & 2) named(stunp_agent_cancel_retransmissions(&world.agent, id, sizeof id));
-    if (setting & 4) {
-        int64_t answer = named(stunp_agent_configure(&world.agent, id, sizeof id, &timeouts));
-        if (setting & 128) require(answer < 0, "time-outs of another size");
-    }
-    if (setting & 8) tell_peers(address_of(setting / 16), address_of(setting / 32));
-    require(stunp_agent_cancel(&world.agent, id, m.length % 12) < 0, "an id that is none");
     for (int i = 0; i < 16; i++) {
         fill_out();
-        int64_t length = named(
-            stunp_agent_poll_transmit(&world.agent, world.now, out, ROOM / 4 + setting * 2, &to));
+        int64_t length =
+            named(stunp_agent_poll_transmit(&world.agent, world.now, out, room, &to));
         require_rest(length < 0 ? 0 : (size_t)length, "behind a transmission");
         if (length <= 0) break;
         require(stunp_class(out, (size_t)length) == STUNP_REQUEST && is_address(&to),
@@ -815,6 +802,12 @@ static void agent_is_asked(struct bytes m, uint8_t setting) {
         require(stunp_agent_is_outstanding(&world.agent, out + ID_AT, STUNP_ID_LENGTH, &to) == 1,
                 "what is over is sent again");
     }
+}
+
+/* Takes what ended, some of it. */
+static void end_requests(void) {
+    uint8_t id[STUNP_ID_LENGTH];
+    stunp_address to;
     for (int i = 0; i < 16; i++) {
         uint64_t until = 77;
         int64_t answer = named(stunp_agent_poll(&world.agent, world.now, &until, id, sizeof id));
@@ -826,6 +819,25 @@ static void agent_is_asked(struct bytes m, uint8_t setting) {
         require(stunp_agent_is_outstanding(&world.agent, id, sizeof id, &to) == 0,
                 "what is over is outstanding");
     }
+}
+
+/* What the agent is told of one request, and what is due and what ended then. */
+static void agent_is_asked(struct bytes m, uint8_t setting) {
+    const stunp_timeouts timeouts = {sizeof timeouts - setting / 128, setting % 16 * 100000000u,
+                                     setting % 5 * 1000000000u, setting * 10000000u, setting % 9};
+    stunp_statistics statistics = {.size = sizeof statistics};
+    uint8_t id[STUNP_ID_LENGTH] = {0};
+    memcpy(id, m.at, m.length < sizeof id ? m.length : sizeof id);
+    if (setting & 1) named(stunp_agent_cancel(&world.agent, id, sizeof id));
+    if (setting & 2) named(stunp_agent_cancel_retransmissions(&world.agent, id, sizeof id));
+    if (setting & 4) {
+        int64_t answer = named(stunp_agent_configure(&world.agent, id, sizeof id, &timeouts));
+        if (setting & 128) require(answer < 0, "time-outs of another size");
+    }
+    if (setting & 8) tell_peers(address_of(setting / 16), address_of(setting / 32));
+    require(stunp_agent_cancel(&world.agent, id, m.length % 12) < 0, "an id that is none");
+    send_again(ROOM / 4 + setting * 2);
+    end_requests();
     require(stunp_agent_statistics(&world.agent, &statistics)
                 == (world.agent.is_full ? 0 : STUNP_EMPTY_HANDLE),
             "no statistics");

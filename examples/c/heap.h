@@ -9,8 +9,8 @@ extern "C" {
 #endif
 
 /* The three functions are those of stunp_state.h. An allocation is refused where malloc refuses it,
- * above the bound, at an alignment beyond that of malloc, and where stunp_heap_refuse said so; the call
- * of the library then answers STUNP_OUT_OF_MEMORY. */
+ * above the bound, at an alignment beyond that of malloc, and where stunp_heap_refuse said so; the
+ * call of the library then fails with STUNP_OUT_OF_MEMORY. */
 
 /* From now on no more than so many bytes are held at once. SIZE_MAX at first. */
 void stunp_heap_bound(size_t bytes);

@@ -1,5 +1,6 @@
-/* A client over UDP (RFC 8489), by an agent, with a name and a password or without: asks a server at
- * which address it sees this client, and prints it.
+/* A client over UDP (RFC 8489), by an agent, with a name and a password or without.
+ *
+ * It asks a server at which address it sees this client, and prints it.
  *
  *     udp_client HOST PORT [NAME PASSWORD] [OPTION]..
  *

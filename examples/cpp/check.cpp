@@ -1,5 +1,5 @@
-// The wrapper for C++17, stunp.hpp: a check of ICE that is written, signed, read and verified, and a
-// server and a client that meet in memory. examples/check.sh compares what it prints.
+// The wrapper for C++17, stunp.hpp: a check of ICE that is written, signed, read and verified, and
+// a server and a client that meet in memory. examples/check.sh compares what it prints.
 #include "stunp.hpp"
 #include <cstdio>
 

@@ -585,8 +585,12 @@ static size_t signed_length(int64_t answer, size_t room, size_t length) {
     return (size_t)answer;
 }
 
+/* A user who is kept elsewhere, and handed in. */
+#define HANDED TEXT("name"), TEXT("word")
+
 /* The server's answer to a request with this id, in `out`, and its length, or 0. */
-static size_t answer_to(const uint8_t *id, int64_t verdict, const stunp_address *to, size_t room) {
+static size_t answer_to(const uint8_t *id, int64_t verdict, const stunp_address *to, size_t room,
+                        bool is_handed) {
     uint32_t code = verdict == STUNP_BAD_REQUEST ? 400 : verdict == STUNP_STALE_NONCE ? 438 : 401;
     fill_out();
     int64_t length = stunp_begin(verdict > 0 ? STUNP_SUCCESS : STUNP_ERROR, STUNP_BINDING, id,
@@ -598,11 +602,29 @@ static size_t answer_to(const uint8_t *id, int64_t verdict, const stunp_address 
         length = stunp_add_error(out, room, (size_t)length, code, TEXT("no"));
     if (length < 0) return 0;
     memcpy(before, out, ROOM);
-    return signed_length(stunp_server_sign(&world.server, out, room, (size_t)length, to), room,
-                         (size_t)length);
+    int64_t answer =
+        is_handed ? stunp_server_sign_of(&world.server, out, room, (size_t)length, to, HANDED)
+                  : stunp_server_sign(&world.server, out, room, (size_t)length, to);
+    return signed_length(answer, room, (size_t)length);
 }
 
-static int64_t server_hears(const uint8_t *message, size_t length, const stunp_address *from) {
+/* By whose key a message is judged: whoever it names, in as much room as there is. */
+static void ask_who(const uint8_t *message, size_t length, const stunp_address *from, size_t room) {
+    uint8_t name[256];
+    size_t name_length = 77;
+    memset(name, PATTERN, sizeof name);
+    int64_t by = named(stunp_server_named_user(&world.server, message, length, from, name, room,
+                                               &name_length));
+    require(by <= STUNP_BY_HASH, "named in another way");
+    if (by == STUNP_BY_NAME || by == STUNP_BY_HASH) require(name_length <= room, "a long name");
+    else require(by == STUNP_BUFFER_TOO_SMALL ? name_length > room : name_length == 77, "a name");
+    if (by == STUNP_BY_HASH) require(name_length == STUNP_USERHASH_LENGTH, "another hash");
+    for (size_t i = by > 0 ? name_length : 0; i < sizeof name; i++)
+        if (i >= room || by <= 0) require(name[i] == PATTERN, "behind a name");
+}
+
+static int64_t server_hears(const uint8_t *message, size_t length, const stunp_address *from,
+                            bool is_handed) {
     uint8_t name[1024], nonce[64];
     size_t name_length = 77;
     bool is_full = world.server.is_full;
@@ -610,8 +632,11 @@ static int64_t server_hears(const uint8_t *message, size_t length, const stunp_a
     int64_t kept = stunp_server_address_count(&world.server);
     bool is_kept = stunp_server_nonce(&world.server, from, nonce, sizeof nonce) > 0;
     bool is_too_many = !is_kept && kept >= 0 && (size_t)kept >= world.most;
-    int64_t verdict =
-        named(stunp_server_validate(&world.server, message, length, from, world.now, words));
+    ask_who(message, length, from, length % 64);
+    int64_t verdict = named(
+        is_handed
+            ? stunp_server_validate_of(&world.server, message, length, from, world.now, words, HANDED)
+            : stunp_server_validate(&world.server, message, length, from, world.now, words));
     require(verdict != 0 && verdict <= STUNP_SHA256, "another verdict of the server");
     if (is_full && is_address(from) && parsed == 0)
         require((verdict == STUNP_TOO_MANY_ADDRESSES) == is_too_many, "another bound");
@@ -647,10 +672,11 @@ static int64_t client_hears(const uint8_t *message, size_t length) {
 static void to_server(struct bytes m, uint8_t setting) {
     stunp_header header;
     const stunp_address *from = address_of(setting);
-    int64_t verdict = server_hears(m.at, m.length, from);
+    bool is_handed = (setting & 8) != 0;
+    int64_t verdict = server_hears(m.at, m.length, from, is_handed);
     if (stunp_read_header(m.at, m.length, &header) < 0 || !is_address(from)) return;
-    size_t length =
-        answer_to(header.id, verdict, from, setting % 2 == 0 ? ROOM / 2 : (size_t)setting);
+    size_t room = setting % 2 == 0 ? ROOM / 2 : (size_t)setting;
+    size_t length = answer_to(header.id, verdict, from, room, is_handed);
     if (length > 0 && setting % 4 < 2) client_hears(out, length);
 }
 
@@ -681,10 +707,11 @@ static void exchange(struct bytes m, uint8_t setting) {
     if (setting & 64) is_request_changed = change(m, length);
     uint8_t *at = pages + pages_length - length;
     memcpy(at, out, length);
-    int64_t verdict = server_hears(at, length, from);
+    bool is_handed = (setting & 16) != 0;
+    int64_t verdict = server_hears(at, length, from, is_handed);
     if (is_request_changed) require(verdict <= 0, "a changed request is validated");
     if (!is_address(from) || !is_both_full) return;
-    length = answer_to(id, verdict, from, ROOM / 2);
+    length = answer_to(id, verdict, from, ROOM / 2, is_handed);
     if (length == 0) return;
     bool is_answer_changed = setting & 128 && change(m, length);
     at = pages + pages_length - length;
@@ -761,26 +788,13 @@ static void tell_peers(const stunp_address *named_one, const stunp_address *forg
             "not forgotten");
 }
 
-/* What is due, some of it, and what the agent is told of one request. */
-static void agent_is_asked(struct bytes m, uint8_t setting) {
-    const stunp_timeouts timeouts = {sizeof timeouts - setting / 128, setting % 16 * 100000000u,
-                                     setting % 5 * 1000000000u, setting * 10000000u, setting % 9};
-    stunp_statistics statistics = {.size = sizeof statistics};
+/* Takes what is due, some of it. */
+static void send_again(size_t room) {
     stunp_address to;
-    uint8_t id[STUNP_ID_LENGTH] = {0};
-    memcpy(id, m.at, m.length < sizeof id ? m.length : sizeof id);
-    if (setting & 1) named(stunp_agent_cancel(&world.agent, id, sizeof id));
-    if (setting & 2) named(stunp_agent_cancel_retransmissions(&world.agent, id, sizeof id));
-    if (setting & 4) {
-        int64_t answer = named(stunp_agent_configure(&world.agent, id, sizeof id, &timeouts));
-        if (setting & 128) require(answer < 0, "time-outs of another size");
-    }
-    if (setting & 8) tell_peers(address_of(setting / 16), address_of(setting / 32));
-    require(stunp_agent_cancel(&world.agent, id, m.length % 12) < 0, "an id that is none");
     for (int i = 0; i < 16; i++) {
         fill_out();
-        int64_t length = named(
-            stunp_agent_poll_transmit(&world.agent, world.now, out, ROOM / 4 + setting * 2, &to));
+        int64_t length =
+            named(stunp_agent_poll_transmit(&world.agent, world.now, out, room, &to));
         require_rest(length < 0 ? 0 : (size_t)length, "behind a transmission");
         if (length <= 0) break;
         require(stunp_class(out, (size_t)length) == STUNP_REQUEST && is_address(&to),
@@ -788,6 +802,12 @@ static void agent_is_asked(struct bytes m, uint8_t setting) {
         require(stunp_agent_is_outstanding(&world.agent, out + ID_AT, STUNP_ID_LENGTH, &to) == 1,
                 "what is over is sent again");
     }
+}
+
+/* Takes what ended, some of it. */
+static void end_requests(void) {
+    uint8_t id[STUNP_ID_LENGTH];
+    stunp_address to;
     for (int i = 0; i < 16; i++) {
         uint64_t until = 77;
         int64_t answer = named(stunp_agent_poll(&world.agent, world.now, &until, id, sizeof id));
@@ -799,6 +819,25 @@ static void agent_is_asked(struct bytes m, uint8_t setting) {
         require(stunp_agent_is_outstanding(&world.agent, id, sizeof id, &to) == 0,
                 "what is over is outstanding");
     }
+}
+
+/* What the agent is told of one request, and what is due and what ended then. */
+static void agent_is_asked(struct bytes m, uint8_t setting) {
+    const stunp_timeouts timeouts = {sizeof timeouts - setting / 128, setting % 16 * 100000000u,
+                                     setting % 5 * 1000000000u, setting * 10000000u, setting % 9};
+    stunp_statistics statistics = {.size = sizeof statistics};
+    uint8_t id[STUNP_ID_LENGTH] = {0};
+    memcpy(id, m.at, m.length < sizeof id ? m.length : sizeof id);
+    if (setting & 1) named(stunp_agent_cancel(&world.agent, id, sizeof id));
+    if (setting & 2) named(stunp_agent_cancel_retransmissions(&world.agent, id, sizeof id));
+    if (setting & 4) {
+        int64_t answer = named(stunp_agent_configure(&world.agent, id, sizeof id, &timeouts));
+        if (setting & 128) require(answer < 0, "time-outs of another size");
+    }
+    if (setting & 8) tell_peers(address_of(setting / 16), address_of(setting / 32));
+    require(stunp_agent_cancel(&world.agent, id, m.length % 12) < 0, "an id that is none");
+    send_again(ROOM / 4 + setting * 2);
+    end_requests();
     require(stunp_agent_statistics(&world.agent, &statistics)
                 == (world.agent.is_full ? 0 : STUNP_EMPTY_HANDLE),
             "no statistics");

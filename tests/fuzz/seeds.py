@@ -43,6 +43,8 @@ def sequences():
     meet = step("EXCHANGE", 0)
     change = step("EXCHANGE", 65, b"\0\x30\1") + step("EXCHANGE", 130, b"\0\x20\1")
     yield meet * 4
+    handed = step("EXCHANGE", 16)
+    yield handed * 4 + meet * 2 + step("USERS", 4) + handed * 3
     yield step("SERVER_IS_SET", 3) + step("CLIENT_IS_SET", 8) + meet * 3 + change + meet
     late = step("TIME", 255) * 6
     yield meet * 2 + late + meet * 3 + step("FORGET", 2) + step("FORGET", 5) + meet * 2

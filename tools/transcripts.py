@@ -114,7 +114,8 @@ def first_minute():
 
 def block_after(text, words):
     """The indented block after a paragraph that ends with these words."""
-    return re.sub(r"(?m)^    ", "", re.search(re.escape(words) + r"\n\n((?:(?:    .*)?\n)+)", text).group(1)).strip() + "\n"
+    end = r"\s+".join(map(re.escape, words.split()))
+    return re.sub(r"(?m)^    ", "", re.search(end + r"\n\n((?:(?:    .*)?\n)+)", text).group(1)).strip() + "\n"
 
 
 def readme():

@@ -20,13 +20,14 @@ use Rattle.stun_proto.specs.declared.replay.call.ServerCall.{ServerCall}
 use Rattle.stun_proto.specs.declared.replay.call.ServerCall.TheVariants as Call
 use Rattle.stun_proto.specs.Headline.{ValidatesEachCall}
 use Rattle.stun_proto.specs.Isolation.{IsIsolated}
-use Rattle.stun_proto.specs.Replies.{ValidatesByReplies, message_read}
+use Rattle.stun_proto.specs.Replies.{message_read}
 use Rattle.stun_proto.specs.ServerLoop.{AreMade, BuiltAreWrittenSo, CallsAreServed, IfMessage, IsMade, Told, signed_or_refused, told}
 use Rattle.stun_proto.specs.Serving.{Reply, Done, TooShort, after_call, after_calls, is_too_short, places_unless, replies, reply, reply_of_answer, reply_of_signing, reply_unless}
 use Rattle.stun_proto.specs.Signing.{if_signed, next_if_written, refusal_at}
 use Rattle.stun_proto.proofs.AcceptingLemmas.{validates_accepted}
+use Rattle.stun_proto.proofs.Digests.{digest_held}
 use Rattle.stun_proto.proofs.IsolationLemmas.{is_isolated}
-use Rattle.stun_proto.proofs.RepliesLemmas.{validates_by_replies}
+use Rattle.stun_proto.proofs.RepliesLemmas.{ValidatesByReplies, validates_by_replies}
 use Rattle.stun_proto.proofs.SigningLemmas.{ends_anew}
 
 -- what is said of reply and server together
@@ -158,5 +159,6 @@ calls_are_validated law start last calls given made =
       replied = replied;
       validated = subst (ValidatesByReplies message_read start calls) (sym replied)
           (validates_by_replies start calls (validates_accepted law start calls));
+      digest = digest_held;
       isolated = subst (IsIsolated start calls) (sym replied) (is_isolated start calls);
     }

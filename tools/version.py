@@ -12,6 +12,7 @@ PLACES = (
     ("rust/capi/Cargo.toml", r'(?m)^version = "(.*)"', False),
     ("rust/checks/Cargo.toml", r'(?m)^version = "(.*)"', False),
     ("crates/stun_inspect/src/usage.rt", r'VERSION: &str = "stun_inspect (.*)\\n"', False),
+    ("crates/stun_inspect/specs/Run.antt", r'codes "stun_inspect ([0-9.]*)"', False),
     ("CHANGELOG.md", r"(?m)^## (.*)", False),
     ("README.md", r"\| Version \| ([0-9.]+[0-9])", False),
     ("include/stunp.h", r"#define STUNP_VERSION (\d+)", True),

@@ -346,8 +346,12 @@ def try_headers(runs, what, message):
     wants("another link", packets.pcap(147, [b"", b"1"]), 1, unread(2, "of another link, of type 147"))
     heading, *_, ending = of_capture([message])
     for length in range(len(message) - 1, 19, -7):
-        given = packets.pcap(101, [packets.ipv4(datagram)[:28 + length]], whole=len(datagram) + 20)
-        wants("snapped", given, 1, [f"{heading}, cut, at byte 24", "not a message: truncated", "", ending])
+        snapped, whole = packets.ipv4(datagram)[:28 + length], len(datagram) + 20
+        blocks = packets.section() + packets.interface(101)
+        for given, place in ((packets.pcap(101, [snapped], whole=whole), 24),
+                             (blocks + packets.enhanced(snapped, 1, whole=whole), len(blocks))):
+            wanted = [f"{heading}, cut, at byte {place}", "not a message: truncated", "", ending]
+            wants("snapped", given, 1, wanted)
 
 
 def ends_anywhere(runs, what, messages, parts, fronts):
@@ -385,7 +389,8 @@ def try_damage(runs, what, messages):
             (packets.block(0x0A0D0D0A, bytes(16)), "a section has no order of bytes")):
         error = f"bad capture after packet 1, at byte {len(front)}: {error}"
         runs.wants(what, ["decode"], front + damaged, 2, of_capture(messages[:1]), error)
-    other = packets.section(">") + packets.interface(101, ">") + packets.enhanced(frames[1], 2, ">")
+    ethernet = packets.LINKS["Ethernet"][1](frames[1])
+    other = packets.section(">") + packets.interface(1, ">") + packets.enhanced(ethernet, 2, ">")
     runs.wants(f"{what}, two sections", ["decode"], front + other, 0, of_capture(messages[:2]))
     simple = packets.block(3, struct.pack("<I", len(frames[0])) + frames[0])
     given = b"".join(blocks[:2]) + simple

@@ -33,7 +33,7 @@ PrintsDigits bytes status before after = PrintsText (encode_lower bytes ++ 10 �
 abbrev pub Answers : Command → Option (List ℕ) → Result Status Failure → Option (List ℕ) → Option (List ℕ) → Type 0
 Answers Help given result before after = IfOk result (λ status. status ≡ Good)
 Answers Version given result before after =
-    IfOk result (λ status. PrintsText (codes "stun_inspect 0.1.0" ++ 10 ∷ []) status before after)
+    IfOk result (λ status. PrintsText (codes "stun_inspect 0.2.0" ++ 10 ∷ []) status before after)
 Answers Decode given result before after =
     IfSome given (λ input. IfOk result (λ status. is_raw input ≡ true → PrintsDecoded input status before after))
 Answers (Verify who) given result before after =

@@ -204,7 +204,14 @@ extern "C" {
  *
  * To refuse, return is_ok false: `at` is not read then, and the old block of rattle_realloc stays
  * as it is. They must return, so no longjmp and no exception leaves them, and they make no call
- * on a handle. Each thread that has a handle calls them, also while another one does. */
+ * on a handle. Each thread that has a handle calls them, also while another one does.
+ *
+ * The toolchain that builds the archive fixes these three names, so two archives of it in one
+ * program share them. To give one its own, rename them in a copy of it, and where they are
+ * defined:
+ *
+ *   objcopy --redefine-sym rattle_alloc=mine_alloc --redefine-sym rattle_realloc=mine_realloc \
+ *    --redefine-sym rattle_dealloc=mine_dealloc libstunp_state.a mine.a */
 typedef struct { bool is_ok; void *at; } rattle_allocation;
 rattle_allocation rattle_alloc(size_t length, size_t alignment);
 rattle_allocation rattle_realloc(void *at, size_t kept, size_t length, size_t alignment);

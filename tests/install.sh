@@ -86,6 +86,19 @@ messages='stunp'
 "$cc" c/arguments.c $(flags $messages) -o "$scratch/arguments"
 prints 'arguments: passed' "$scratch/arguments"
 if command -v pkg-config >/dev/null; then checked="$checked, pkg-config"; fi
+# The memory functions under other names, by the recipe of stunp_state.h.
+if command -v objcopy >/dev/null; then
+    renamed=''
+    for name in alloc realloc dealloc; do
+        renamed="$renamed --redefine-sym rattle_$name=mine_$name"
+        strict="$strict -Drattle_$name=mine_$name"
+    done
+    objcopy $renamed "$root/usr/lib/libstunp_state.a" "$scratch/renamed.a"
+    "$cc" $strict -DOWN_MEMORY c/installed.c "$scratch/renamed.a" $(flags $messages) \
+        -o "$scratch/renamed"
+    prints "$version" "$scratch/renamed"
+    checked="$checked, renamed memory"
+fi
 
 if command -v cmake >/dev/null; then
     mkdir "$scratch/project"

@@ -16,8 +16,7 @@
 -- undisturbed, asks                        IsUndisturbed, IsAimedAt, Asks       Schedule
 
 -- ---- the library of the toolchain
-pub use Rattle.std.specs.Prelude.{ℕ, ◌≡◌, ◌≤◌, ◌+◌, ◌-◌, ◌↔◌, ◌⊎◌, false}
-pub use Rattle.std.specs.Prelude.{List, ◌∷◌, ◌++◌, filter, length, slice_get, take, Some, None}
+pub use Rattle.std.specs.Prelude.{ℕ, false, List, filter, length, slice_get, take, Some, None}
 pub use Rattle.std.specs.List.{AllByRecursion}
 pub use Rattle.std.specs.Option.{IsSome}
 pub use Rattle.std.specs.Global.{Vec}

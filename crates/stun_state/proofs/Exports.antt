@@ -1,9 +1,11 @@
 -- From what a call answers and leaves to the number that its export answers and what is kept.
-use Rattle.std.proofs.Common.{◌≡◌, ◌∙◌, ℕ, ℤ, pos, min, false, true, int_lt, if◌then◌else◌, Option, Some, IfSome, Result, Ok, Err, OnOk, OnErr, refl, sym, subst, ap, inl, inr}
+use Rattle.std.proofs.Common.{◌≡◌, ◌∙◌, ℕ, ℤ, List, pos, min, false, true, int_lt, if◌then◌else◌, Option, Some, IfSome, Result, Ok, Err, OnOk, OnErr, refl, sym, subst, ap, inl, inr}
+use Rattle.std.specs.Prelude.{⊤}
 use lib.Dec.{leb-suc-zero}
 use Rattle.stun_state.specs.Answers.{ForRefusal, OrMemory}
 use Rattle.stun_state.specs.Codes.{code_of}
 use Rattle.stun_state.specs.Numbers.{OrOutOfMemory, left_by, length_answer}
+use Rattle.stun_state.specs.Signing.{buffer_after, length_of}
 use Rattle.stun_state.specs.declared.codes.Refusal.{Refusal}
 use Rattle.stun_state.specs.declared.codes.Refusal.TheVariants.{Truncated, NotStun, TooLarge, IntegrityFailed, BadArgument, NotText, TextTooLong, BufferTooSmall, NotAllowed, Closed, AttributeExists, MessageTooLong, MissingAttribute, MalformedAttribute, OutOfMemory, EmptyHandle, FullHandle, AlreadyInProgress, ProtocolViolation, Unauthorized, BadRequest, StaleNonce, UnsupportedFeature, NoWait, TooManyAddresses}
 
@@ -90,3 +92,50 @@ left_length E wrap (Ok n) told before now after handle is kept ok err same =
     ∙ ap (λ b. if b then before else after) (not_below (min n 9223372036854775807))))
 left_length E wrap (Err refusal) told before now after handle is kept ok err same =
     kept ∙ ap wrap (same err ∙ sym (ap (λ z. left_by z before after) is ∙ ap (λ b. if b then before else after) (below refusal)))
+
+-- a message that is not signed leaves the buffer
+unwritten : (refusal : Refusal) (signed : Result (List ℕ) Refusal) (before after : List ℕ)
+    → Err refusal ≡ length_of signed → after ≡ buffer_after signed before → after ≡ before
+unwritten refusal (Ok bytes) before after is written = absurd (cc)
+unwritten refusal (Err other) before after is written = written
+
+unwritten_by : (refusal : Refusal) (signed : Result (List ℕ) Refusal) (before after : List ℕ)
+    → ForRefusal refusal (Err refusal ≡ length_of signed) ⊤
+    → ForRefusal refusal (after ≡ buffer_after signed before) (after ≡ before) → after ≡ before
+unwritten_by Truncated signed before after is written = unwritten Truncated signed before after is written
+unwritten_by NotStun signed before after is written = unwritten NotStun signed before after is written
+unwritten_by TooLarge signed before after is written = unwritten TooLarge signed before after is written
+unwritten_by IntegrityFailed signed before after is written = unwritten IntegrityFailed signed before after is written
+unwritten_by BadArgument signed before after is written = unwritten BadArgument signed before after is written
+unwritten_by NotText signed before after is written = unwritten NotText signed before after is written
+unwritten_by TextTooLong signed before after is written = unwritten TextTooLong signed before after is written
+unwritten_by BufferTooSmall signed before after is written = unwritten BufferTooSmall signed before after is written
+unwritten_by NotAllowed signed before after is written = unwritten NotAllowed signed before after is written
+unwritten_by Closed signed before after is written = unwritten Closed signed before after is written
+unwritten_by AttributeExists signed before after is written = unwritten AttributeExists signed before after is written
+unwritten_by MessageTooLong signed before after is written = unwritten MessageTooLong signed before after is written
+unwritten_by MissingAttribute signed before after is written = unwritten MissingAttribute signed before after is written
+unwritten_by MalformedAttribute signed before after is written = unwritten MalformedAttribute signed before after is written
+unwritten_by OutOfMemory signed before after is written = written
+unwritten_by EmptyHandle signed before after is written = unwritten EmptyHandle signed before after is written
+unwritten_by FullHandle signed before after is written = unwritten FullHandle signed before after is written
+unwritten_by AlreadyInProgress signed before after is written = unwritten AlreadyInProgress signed before after is written
+unwritten_by ProtocolViolation signed before after is written = unwritten ProtocolViolation signed before after is written
+unwritten_by Unauthorized signed before after is written = unwritten Unauthorized signed before after is written
+unwritten_by BadRequest signed before after is written = unwritten BadRequest signed before after is written
+unwritten_by StaleNonce signed before after is written = unwritten StaleNonce signed before after is written
+unwritten_by UnsupportedFeature signed before after is written = unwritten UnsupportedFeature signed before after is written
+unwritten_by NoWait signed before after is written = unwritten NoWait signed before after is written
+unwritten_by TooManyAddresses signed before after is written = unwritten TooManyAddresses signed before after is written
+
+-- what is in the buffer after a call that signs, where an allocation may fail
+pub left_buffer : (answer : Result ℕ Refusal) (signed : Result (List ℕ) Refusal) (told : ℤ) (before after : List ℕ)
+    → told ≡ length_answer answer → OrMemory answer (answer ≡ length_of signed) ⊤
+    → OrMemory answer (after ≡ buffer_after signed before) (after ≡ before)
+    → after ≡ left_by told before (buffer_after signed before)
+left_buffer (Ok n) signed told before after told_is is written =
+    written ∙ sym (ap (λ z. left_by z before (buffer_after signed before)) told_is
+    ∙ ap (λ b. if b then before else buffer_after signed before) (not_below (min n 9223372036854775807)))
+left_buffer (Err refusal) signed told before after told_is is written =
+    unwritten_by refusal signed before after is written ∙ sym (ap (λ z. left_by z before (buffer_after signed before)) told_is
+    ∙ ap (λ b. if b then before else buffer_after signed before) (below refusal))

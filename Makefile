@@ -1,11 +1,40 @@
-.PHONY: help rust rust-c
+# The words of this repository. Only `prove`, `c` and `check` need the toolchain (rt).
+.PHONY: help rust rust-c prove c check bench install release verify-release
 
 help:
-	@echo "make rust    export the library as plain Rust to target/export, and try it"
-	@echo "make rust-c  after it, build its calls for C, and test them"
+	@echo "make rust     export the proved sources as plain Rust to target/export, and run its tests"
+	@echo "make rust-c   after it, build its calls for C to target/c, and test them"
+	@echo "make c        prove and build the archives for C (minutes)"
+	@echo "make install  install archives, headers and programs that are built; PREFIX=/usr/local"
+	@echo "make prove    prove everything, and run all tests (rt ci)"
+	@echo "make check    what the gate runs (.ci/run)"
+	@echo "make bench    speed, over the archives that make c built"
+	@echo "make release  release/ from what is built; LOG=FILE is what .ci/run printed"
 
 rust:
 	@tools/rust.sh
 
 rust-c:
 	@tools/rust_c.sh udp
+
+c:
+	cd crates/stun_c && rt lib
+	cd crates/stun_state && rt lib
+
+install:
+	@$(MAKE) --no-print-directory -C include install
+
+prove:
+	rt ci
+
+check:
+	.ci/run
+
+bench:
+	bench/run.sh
+
+release:
+	@python3 tools/release.py release "$(LOG)"
+
+verify-release:
+	@python3 tools/release.py --verify release

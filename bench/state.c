@@ -84,7 +84,8 @@ void rattle_dealloc(void *at) { free(at); }
 static stunp_agent agent;
 static struct message messages[MOST_TIMES];
 
-static void prepare_agent(uint32_t size, uint32_t transmissions, stunp_message_class class, uint32_t first) {
+static void prepare_agent(uint32_t size, uint32_t transmissions, stunp_message_class class,
+    uint32_t first) {
     stunp_address local = address_of(1), none = {{0}, 0, 0}, to = address_of(0);
     stunp_timeouts timeouts = {sizeof timeouts, SECOND / 2, UINT64_MAX, 8 * SECOND, transmissions};
     if (stunp_agent_new_with(&agent, STUNP_UDP, &local, &none, &timeouts) < 0) fail("no agent");
@@ -151,7 +152,8 @@ static void prepare_server(uint32_t size, bool is_strong) {
     challenge(0, &error);
     if (!stunp_is_resend(stunp_client_validate(&client, error.bytes, error.length))) fail("no request");
     signed_request = message_of(STUNP_REQUEST, 2);
-    stunp_writer writer = stunp_write_on(STUNP_HEADER_LENGTH, signed_request.bytes, sizeof signed_request.bytes);
+    stunp_writer writer = stunp_write_on(STUNP_HEADER_LENGTH, signed_request.bytes,
+        sizeof signed_request.bytes);
     stunp_write_client_sign(&writer, &client);
     if (stunp_written(&writer) < 0) fail("not signed");
     signed_request.length = writer.length;
@@ -247,7 +249,8 @@ static void prepare(enum call call, uint32_t size) {
     case VALIDATES_SHA256: case PARSES_SHA256: case ANSWERS_SHA256: case ASKS_SHA256: prepare_server(size, true); break;
     case VERIFIES:
         signed_request = message_of(STUNP_REQUEST, 2);
-        signed_request.length = (size_t)stunp_sign(signed_request.bytes, 512, 20, STUNP_SHA1, "pass", 4);
+        signed_request.length = (size_t)stunp_sign(signed_request.bytes, 512, 20, STUNP_SHA1,
+            "pass", 4);
         break;
     default:
         prepare_agent(size, call == ENDS_ONE ? 1 : 7, call == RESPONDS ? STUNP_SUCCESS : STUNP_REQUEST, call == SENDS_LAST ? size : 0);

@@ -81,7 +81,7 @@ class File:
 
     def __init__(self, path, root):
         self.path, self.module = path, module_of(path, root)
-        self.imports, self.definitions = Imports(), []
+        self.imports, self.passed_on, self.definitions = Imports(), Imports(), []
         with open(path) as opened:
             lines = opened.read().split("\n")
         paragraph, first = [], 0
@@ -100,6 +100,8 @@ class File:
         for line in paragraph:
             if line.startswith(("use ", "pub use ")):
                 self.imports.read(line.removeprefix("pub ")[4:])
+                if line.startswith("pub "):
+                    self.passed_on.read(line[8:])
                 rest = []
             elif not line.startswith(("pub mod ", "mod ")):
                 rest.append(line)
@@ -124,10 +126,16 @@ class Repository:
                 for name in definition.names:
                     self.named[(read.module, name)] = definition
 
+    def defined(self, name):
+        """The definition of a module's name, also where the module passes it on by `pub use`."""
+        while name and name not in self.named and name[0] in self.files:
+            name = self.files[name[0]].passed_on.names.get(name[1])
+        return self.named.get(name)
+
     def meaning(self, module, imports, word):
         """The definition that a word stands for, if it is one of ours."""
         for name in (word, word.rstrip("."), word.split(".")[0], word.rsplit(".", 1)[0]):
-            found = self.named.get((module, name)) or self.named.get(imports.names.get(name))
+            found = self.named.get((module, name)) or self.defined(imports.names.get(name))
             if found:
                 return found
         front, _, back = word.partition(".")

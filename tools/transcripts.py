@@ -2,7 +2,10 @@
 """Runs what the documents show and compares what is printed.
 
     tools/transcripts.py FOLDER ..        each transcript of README.md and docs, with the programs of these folders
-    tools/transcripts.py --first-minute   the first command of README.md, in a fresh clone of this repository, before any proof
+    tools/transcripts.py --first-minute   the command of README.md that needs no proof, in a fresh clone of this repository
+    tools/transcripts.py --c ARCHIVE ..   the program in C of README.md, with these archives and flags, on that request
+    tools/transcripts.py --rust FOLDER    the command of README.md after `make rust`, and its lines of Rust, with the exported
+                                          crate of that folder
 
 A transcript is an indented block: a line `$ COMMAND`, further lines of a here-document up to its end word, and then what the
 command prints, up to the next `$` or the end of the block. Commands run in a folder that has `request.bin`, the request of
@@ -95,7 +98,7 @@ def run_all(folders):
 
 def first_minute():
     with open(os.path.join(TOP, "README.md")) as opened:
-        commands = re.search(r"## See it run in a minute\n\n((?:    .*\n)+)", opened.read()).group(1)
+        commands = block_after(opened.read(), "not proved yet:")
     with tempfile.TemporaryDirectory() as scratch:
         clone = os.path.join(scratch, "clone")
         if subprocess.run(["git", "clone", "-q", TOP, clone], capture_output=True).returncode != 0:
@@ -103,13 +106,69 @@ def first_minute():
             shutil.copytree(TOP, clone, ignore=shutil.ignore_patterns("out", ".git"))
         ran = subprocess.run(["sh", "-ec", commands], cwd=clone, timeout=900, capture_output=True, text=True)
     if ran.stdout != "valid MESSAGE-INTEGRITY\n":
-        print("transcripts: the first command of README.md printed:\n%s%s" % (ran.stdout, ran.stderr), file=sys.stderr)
+        print("transcripts: the command of README.md printed:\n%s%s" % (ran.stdout, ran.stderr), file=sys.stderr)
         return False
-    print("transcripts: the first command of README.md prints what README.md says")
+    print("transcripts: the command of README.md that needs no proof prints what README.md says")
+    return True
+
+
+def block_after(text, words):
+    """The indented block after a paragraph that ends with these words."""
+    return re.sub(r"(?m)^    ", "", re.search(re.escape(words) + r"\n\n((?:(?:    .*)?\n)+)", text).group(1)).strip() + "\n"
+
+
+def readme():
+    with open(os.path.join(TOP, "README.md")) as opened:
+        return opened.read()
+
+
+def prints(wanted, command, **how):
+    ran = subprocess.run(command, capture_output=True, text=True, timeout=900, **how)
+    if ran.returncode == 0 and ran.stdout == wanted:
+        return True
+    print("transcripts: %s printed:\n%s%s" % (command, ran.stdout, ran.stderr), file=sys.stderr)
+    return False
+
+
+def in_c(archives):
+    with tempfile.TemporaryDirectory() as scratch:
+        source, program = os.path.join(scratch, "check.c"), os.path.join(scratch, "check")
+        with open(source, "w") as opened:
+            opened.write(block_after(readme(), "behind handles."))
+        compiler = [os.environ.get("CC", "cc"), "-Wall", "-Wextra", "-Werror", "-I" + os.path.join(TOP, "include"), source]
+        with open(os.path.join(TOP, "crates/stun_tool/stdin")) as digits:
+            request = os.path.join(scratch, "request.bin")
+            with open(request, "wb") as binary:
+                binary.write(bytes.fromhex("".join(digits.read().split())))
+        if not prints("", compiler + archives + ["-o", program]):
+            return False
+        with open(request, "rb") as binary:
+            if not prints("valid\n", [program], stdin=binary):
+                return False
+    print("transcripts: the program in C of README.md prints valid")
+    return True
+
+
+def in_rust(folder):
+    command = block_after(readme(), "section 2.1.").split("\n", 1)
+    if command[0] != "make rust" or not prints("valid HMAC-SHA1\n", ["sh", "-ec", command[1]], cwd=TOP):
+        return False
+    source = os.path.join(folder, "examples", "readme.rs")
+    lines = block_after(readme(), "in `Cargo.toml`:")
+    try:
+        with open(source, "w") as opened:
+            opened.write(lines + "\nfn main() {\n    println!(\"{}\", is_signed(b\"no message\", \"password\"));\n}\n")
+        if not prints("false\n", ["cargo", "run", "--quiet", "--example", "readme"], cwd=folder):
+            return False
+    finally:
+        os.remove(source)
+    print("transcripts: the command and the lines of Rust of README.md do what README.md says")
     return True
 
 
 if __name__ == "__main__":
     if not sys.argv[1:]:
         sys.exit(__doc__)
-    sys.exit(0 if (first_minute() if sys.argv[1] == "--first-minute" else run_all(sys.argv[1:])) else 1)
+    modes = {"--first-minute": lambda _: first_minute(), "--c": in_c, "--rust": lambda words: in_rust(words[0])}
+    mode = modes.get(sys.argv[1])
+    sys.exit(0 if (mode(sys.argv[2:]) if mode else run_all(sys.argv[1:])) else 1)

@@ -61,14 +61,16 @@ static void make_agents(void) {
     want("another transport", stunp_agent_new(&agent, OTHER, &local), STUNP_BAD_ARGUMENT);
     want("another length", stunp_agent_new(&agent, STUNP_UDP, &nowhere), STUNP_BAD_ARGUMENT);
     want("no local address", stunp_agent_new(&agent, STUNP_UDP, &none), STUNP_BAD_ARGUMENT);
-    want("new_with, no transport", stunp_agent_new_with(&agent, OTHER, &local, &remote, &timeouts), STUNP_BAD_ARGUMENT);
+    want("new_with, no transport", stunp_agent_new_with(&agent, OTHER, &local, &remote,
+         &timeouts), STUNP_BAD_ARGUMENT);
     want("new_with, local", stunp_agent_new_with(&agent, STUNP_TCP, &nowhere, &remote, &timeouts), STUNP_BAD_ARGUMENT);
     want("new_with, remote", stunp_agent_new_with(&agent, STUNP_TCP, &local, &nowhere, &timeouts), STUNP_BAD_ARGUMENT);
     want("still empty", agent.is_full, 0);
     want_no_blocks("refused agents");
     want("new", stunp_agent_new(&agent, STUNP_UDP, &local), 0);
     want("new again", stunp_agent_new(&agent, OTHER, &nowhere), STUNP_FULL_HANDLE);
-    want("new_with again", stunp_agent_new_with(&agent, OTHER, &nowhere, &nowhere, &timeouts), STUNP_FULL_HANDLE);
+    want("new_with again", stunp_agent_new_with(&agent, OTHER, &nowhere, &nowhere, &timeouts),
+         STUNP_FULL_HANDLE);
     stunp_agent_free(&agent);
     stunp_agent_free(&agent);
     want("empty again", agent.is_full, 0);
@@ -119,7 +121,8 @@ static void agents(void) {
     want("silence, a long id", stunp_agent_cancel_retransmissions(&agent, request.bytes, ID + 1), STUNP_BAD_ARGUMENT);
     want("configure, no id", stunp_agent_configure(&agent, id, 0, &timeouts), STUNP_BAD_ARGUMENT);
     want("is_outstanding, a short id", stunp_agent_is_outstanding(&agent, id, ID - 1, &peer), STUNP_BAD_ARGUMENT);
-    want("send_request", stunp_agent_send_request(&agent, request.bytes, request.length, &remote, 0), 0);
+    want("send_request", stunp_agent_send_request(&agent, request.bytes, request.length, &remote,
+         0), 0);
     want("another address, and again", stunp_agent_send_request(&agent, request.bytes, 20, &other, 0), STUNP_PROTOCOL_VIOLATION);
     want("no room for an id", stunp_agent_poll(&agent, 40 * SECOND, &until, id, ID - 1), STUNP_BUFFER_TOO_SMALL);
     want("no room at all", stunp_agent_poll_transmit(&agent, SECOND, out, 0, &peer), STUNP_BUFFER_TOO_SMALL);
@@ -149,7 +152,8 @@ static void defaults(bool are_named) {
     uint8_t out[64], id[ID];
     uint64_t until = 0;
     want("new", are_named ? stunp_agent_new_with(&agent, STUNP_UDP, &local, &none, &timeouts) : stunp_agent_new(&agent, STUNP_UDP, &local), 0);
-    want("send_request", stunp_agent_send_request(&agent, request.bytes, request.length, &remote, 0), 0);
+    want("send_request", stunp_agent_send_request(&agent, request.bytes, request.length, &remote,
+         0), 0);
     for (int i = 0; i < 7; i++) {
         want("poll", stunp_agent_poll(&agent, until, &until, id, ID), 0);
         want("due", (int64_t)until, (int64_t)due[i] * 1000000);
@@ -163,14 +167,16 @@ static void defaults(bool are_named) {
 /* A poll waits an hour at most, 0 transmissions are one, and without a bound each wait doubles, however long. */
 static void waits(void) {
     const uint64_t hour = 3600 * SECOND;
-    const stunp_timeouts once = {SIZE, SECOND, SECOND, 3 * hour, 0}, unbounded = {SIZE, hour, UINT64_MAX, SECOND, 3};
+    const stunp_timeouts once = {SIZE, SECOND, SECOND, 3 * hour, 0}, unbounded = {SIZE, hour,
+        UINT64_MAX, SECOND, 3};
     stunp_agent agent = {0};
     stunp_address local = address_of(1), remote = address_of(2), to;
     struct message request = message_of(STUNP_REQUEST, 1);
     uint8_t out[64], id[ID];
     uint64_t until = 0;
     want("new_with", stunp_agent_new_with(&agent, STUNP_UDP, &local, &remote, &once), 0);
-    want("send_request", stunp_agent_send_request(&agent, request.bytes, request.length, &remote, 0), 0);
+    want("send_request", stunp_agent_send_request(&agent, request.bytes, request.length, &remote,
+         0), 0);
     for (uint64_t now = 0; now < 3 * hour; now = until) {
         want("sent once", stunp_agent_poll_transmit(&agent, now, out, sizeof out, &to), 0);
         want("poll", stunp_agent_poll(&agent, now, &until, id, ID), 0);
@@ -179,7 +185,8 @@ static void waits(void) {
     want("timed out", stunp_agent_poll(&agent, 3 * hour, &until, id, ID), STUNP_TIMED_OUT);
     stunp_agent_free(&agent);
     want("new_with", stunp_agent_new_with(&agent, STUNP_UDP, &local, &remote, &unbounded), 0);
-    want("send_request", stunp_agent_send_request(&agent, request.bytes, request.length, &remote, 0), 0);
+    want("send_request", stunp_agent_send_request(&agent, request.bytes, request.length, &remote,
+         0), 0);
     for (uint64_t due = hour; due <= 3 * hour; due += 2 * hour) {
         want("not due", stunp_agent_poll_transmit(&agent, due - 1, out, sizeof out, &to), 0);
         want("due", stunp_agent_poll_transmit(&agent, due, out, sizeof out, &to), (int64_t)request.length);
@@ -193,7 +200,8 @@ static void waits(void) {
 /* Time-outs with which a request would be sent again without a wait are refused, and those that come next to them are not. */
 static void no_waits(void) {
     static const stunp_timeouts refused[] = {
-        {SIZE, 0, 0, 0, UINT32_MAX}, {SIZE, 0, 0, 0, 2}, {SIZE, 0, SECOND, SECOND, 7}, {SIZE, SECOND, 0, SECOND, 7},
+        {SIZE, 0, 0, 0, UINT32_MAX}, {SIZE, 0, 0, 0, 2}, {SIZE, 0, SECOND, SECOND, 7}, {SIZE,
+            SECOND, 0, SECOND, 7},
         {SIZE, 0, UINT64_MAX, 0, 2},
     };
     static const stunp_timeouts taken[] = {
@@ -228,7 +236,8 @@ static void no_waits(void) {
     want_no_blocks("waits");
 }
 
-/* Of time-outs and of counts of another size no other field is read or written, and that comes before the wait that is missing. */
+/* Of time-outs and of counts of another size no other field is read or written. That is refused
+ * before a wait that is missing. */
 static void sizes(void) {
     static const size_t others[] = {0, 1, SIZE - 1, SIZE + 1, SIZE_MAX};
     const stunp_timeouts timeouts = STUNP_DEFAULT_TIMEOUTS;
@@ -237,7 +246,8 @@ static void sizes(void) {
     struct message request = message_of(STUNP_REQUEST, 1);
     stunp_statistics counts = {.size = sizeof counts, .requests_received = 7};
     want("new_with", stunp_agent_new_with(&agent, STUNP_UDP, &local, &none, &timeouts), 0);
-    want("send_request", stunp_agent_send_request(&agent, request.bytes, request.length, &remote, 0), 0);
+    want("send_request", stunp_agent_send_request(&agent, request.bytes, request.length, &remote,
+         0), 0);
     for (size_t i = 0; i < sizeof others / sizeof *others; i++) {
         /* Nothing but the size is there: a sanitizer sees each further byte that is read. */
         stunp_timeouts *cut = malloc(sizeof cut->size);
@@ -245,16 +255,20 @@ static void sizes(void) {
         if (cut == NULL || short_counts == NULL) exit(1);
         cut->size = others[i];
         short_counts->size = others[i];
-        want("new_with", stunp_agent_new_with(&fresh, STUNP_UDP, &local, &none, cut), STUNP_BAD_ARGUMENT);
-        want("new_with, remote", stunp_agent_new_with(&fresh, STUNP_TCP, &local, &remote, cut), STUNP_BAD_ARGUMENT);
+        want("new_with", stunp_agent_new_with(&fresh, STUNP_UDP, &local, &none, cut),
+             STUNP_BAD_ARGUMENT);
+        want("new_with, remote", stunp_agent_new_with(&fresh, STUNP_TCP, &local, &remote, cut),
+             STUNP_BAD_ARGUMENT);
         want("still empty", fresh.is_full, 0);
-        want("configure", stunp_agent_configure(&agent, request.bytes + ID_AT, ID, cut), STUNP_BAD_ARGUMENT);
+        want("configure", stunp_agent_configure(&agent, request.bytes + ID_AT, ID, cut),
+             STUNP_BAD_ARGUMENT);
         want("statistics", stunp_agent_statistics(&agent, short_counts), STUNP_BAD_ARGUMENT);
         free(cut);
         free(short_counts);
     }
     want("statistics", stunp_agent_statistics(&agent, &counts), 0);
-    want("they are told", counts.requests_sent == 1 && counts.requests_received == 0 && counts.size == sizeof counts, 1);
+    want("they are told",
+         counts.requests_sent == 1 && counts.requests_received == 0 && counts.size == sizeof counts, 1);
     stunp_agent_free(&agent);
     want_no_blocks("sizes");
 }
@@ -325,7 +339,8 @@ static void empty_servers(void) {
     uint8_t byte = 0xff;
     size_t length = 7;
     want("set_algorithms", stunp_server_set_algorithms(&server, 9), STUNP_EMPTY_HANDLE);
-    want("set_anonymous_username", stunp_server_set_anonymous_username(&server, STUNP_AUTO), STUNP_EMPTY_HANDLE);
+    want("set_anonymous_username", stunp_server_set_anonymous_username(&server, STUNP_AUTO),
+         STUNP_EMPTY_HANDLE);
     want("set_nonce_expiry", stunp_server_set_nonce_expiry(&server, 9), STUNP_EMPTY_HANDLE);
     want("add_user", stunp_server_add_user(&server, &byte, 1, &byte, 1), STUNP_EMPTY_HANDLE);
     want("remove_user", stunp_server_remove_user(&server, &byte, 1), STUNP_EMPTY_HANDLE);
@@ -339,9 +354,12 @@ static void empty_servers(void) {
     want("nonce", stunp_server_nonce(&server, &nowhere, &byte, 1), STUNP_EMPTY_HANDLE);
     want("validate", stunp_server_validate(&server, &byte, 1, &nowhere, 0, some_words), STUNP_EMPTY_HANDLE);
     want("sign", stunp_server_sign(&server, &byte, 1, 2, &nowhere), STUNP_EMPTY_HANDLE);
-    want("named_user", stunp_server_named_user(&server, &byte, 1, &nowhere, &byte, 1, &length), STUNP_EMPTY_HANDLE);
-    want("validate_of", stunp_server_validate_of(&server, &byte, 1, &nowhere, 0, some_words, &byte, 1, "", 0), STUNP_EMPTY_HANDLE);
-    want("sign_of", stunp_server_sign_of(&server, &byte, 1, 2, &nowhere, &byte, 1, "", 0), STUNP_EMPTY_HANDLE);
+    want("named_user", stunp_server_named_user(&server, &byte, 1, &nowhere, &byte, 1, &length),
+         STUNP_EMPTY_HANDLE);
+    want("validate_of", stunp_server_validate_of(&server, &byte, 1, &nowhere, 0, some_words,
+         &byte, 1, "", 0), STUNP_EMPTY_HANDLE);
+    want("sign_of", stunp_server_sign_of(&server, &byte, 1, 2, &nowhere, &byte, 1, "", 0),
+         STUNP_EMPTY_HANDLE);
     stunp_server_free(&server);
     want("outputs", byte == 0xff && length == 7, 1);
     want_same("an address", &from, &nowhere, sizeof from);
@@ -369,8 +387,10 @@ static void servers(void) {
     }
     for (uint32_t feature = 0; feature < 5; feature++) {
         int64_t wanted = feature <= STUNP_DISABLED ? 0 : STUNP_BAD_ARGUMENT;
-        want("set_anonymous_username", stunp_server_set_anonymous_username(server, (stunp_feature)feature), wanted);
-        want("of a client", stunp_client_set_anonymous_username(&pair.client, (stunp_feature)feature), wanted);
+        want("set_anonymous_username", stunp_server_set_anonymous_username(server,
+             (stunp_feature)feature), wanted);
+        want("of a client", stunp_client_set_anonymous_username(&pair.client,
+             (stunp_feature)feature), wanted);
     }
     want("set_nonce_expiry", stunp_server_set_nonce_expiry(server, 0), 0);
     want("set_nonce_expiry", stunp_server_set_nonce_expiry(server, UINT64_MAX), 0);
@@ -407,7 +427,8 @@ static void servers(void) {
     want_no_blocks("servers");
 }
 
-/* Where as many addresses are kept as may be, a message from another is refused, after those that no message can pass, and
+/* Where as many addresses are kept as may be, a message from another is refused, after what is no
+ * message, and
  * changes nothing; those that are kept go on. */
 static void most_addresses(void) {
     struct pair pair = pair_of(STUNP_SHA1);
@@ -419,12 +440,16 @@ static void most_addresses(void) {
     challenge(&pair, &one, 0);
     want("one", stunp_server_address_count(server), 1);
     want("a bound", stunp_server_set_most_addresses(server, 2), 0);
-    want("the last", stunp_server_validate(server, plain.bytes, plain.length, &two, 0, some_words), STUNP_UNAUTHORIZED);
+    want("the last", stunp_server_validate(server, plain.bytes, plain.length, &two, 0,
+         some_words), STUNP_UNAUTHORIZED);
     want("two", stunp_server_address_count(server), 2);
     stunp_heap_bound(0);
-    want("one too many", stunp_server_validate(server, plain.bytes, plain.length, &three, 0, some_words), STUNP_TOO_MANY_ADDRESSES);
-    want("a response of it", stunp_server_validate(server, response.bytes, response.length, &three, 0, some_words), STUNP_TOO_MANY_ADDRESSES);
-    want("nowhere", stunp_server_validate(server, plain.bytes, plain.length, &nowhere, 0, some_words), STUNP_BAD_ARGUMENT);
+    want("one too many", stunp_server_validate(server, plain.bytes, plain.length, &three, 0,
+         some_words), STUNP_TOO_MANY_ADDRESSES);
+    want("a response of it", stunp_server_validate(server, response.bytes, response.length,
+         &three, 0, some_words), STUNP_TOO_MANY_ADDRESSES);
+    want("nowhere", stunp_server_validate(server, plain.bytes, plain.length, &nowhere, 0,
+         some_words), STUNP_BAD_ARGUMENT);
     REFUSES_MESSAGES("of it", stunp_server_validate(server, bytes, length, &three, 0, some_words));
     want("no nonce is made", stunp_server_nonce(server, &three, nonce, sizeof nonce), 0);
     want("two", stunp_server_address_count(server), 2);
@@ -434,9 +459,11 @@ static void most_addresses(void) {
     validate(&pair, &one, 0, STUNP_SHA1);
     want("two are kept", stunp_server_address_count(server), 2);
     want("forget", stunp_server_forget(server, &two), 0);
-    want("it is new then", stunp_server_validate(server, plain.bytes, plain.length, &two, 0, some_words), STUNP_TOO_MANY_ADDRESSES);
+    want("it is new then", stunp_server_validate(server, plain.bytes, plain.length, &two, 0,
+         some_words), STUNP_TOO_MANY_ADDRESSES);
     want("no bound", stunp_server_set_most_addresses(server, SIZE_MAX), 0);
-    want("as before", stunp_server_validate(server, plain.bytes, plain.length, &three, 0, some_words), STUNP_UNAUTHORIZED);
+    want("as before", stunp_server_validate(server, plain.bytes, plain.length, &three, 0,
+         some_words), STUNP_UNAUTHORIZED);
     free_pair(&pair);
     want_no_blocks("most_addresses");
 }
@@ -450,7 +477,8 @@ static void writers(void) {
     stunp_writer request = stunp_write(STUNP_REQUEST, STUNP_BINDING, id, bytes, sizeof bytes);
     stunp_write_client_sign(&request, &pair.client);
     want("a request", stunp_written(&request), 0);
-    want("is validated", stunp_server_validate(&pair.server, bytes, request.length, &from, 0, some_words), STUNP_SHA1);
+    want("is validated", stunp_server_validate(&pair.server, bytes, request.length, &from, 0,
+         some_words), STUNP_SHA1);
     stunp_writer answer = stunp_write(STUNP_SUCCESS, STUNP_BINDING, id, bytes, sizeof bytes);
     stunp_write_server_sign(&answer, &pair.server, &from);
     want("an answer", stunp_written(&answer), 0);
@@ -466,7 +494,8 @@ static void writers(void) {
     want_no_blocks("writers");
 }
 
-/* A server without users, to which its caller hands the user in whom a message names: as one that has the user. */
+/* A server without users, to which its caller hands the user in whom a message names: as one that
+ * has the user. */
 static void users_elsewhere(bool is_hidden) {
     const uint32_t both = STUNP_SHA1 | STUNP_SHA256;
     struct pair pair = pair_of(both);
@@ -477,51 +506,73 @@ static void users_elsewhere(bool is_hidden) {
     size_t length = 99;
     want("the hash", stunp_userhash("name", 4, "realm", 5, hash, sizeof hash), 32);
     want("no users", stunp_server_remove_user(server, "name", 4), 0);
-    want("hidden names", stunp_client_set_anonymous_username(&pair.client, is_hidden ? STUNP_AUTO : STUNP_DISABLED), 0);
-    want("names, nowhere", stunp_server_named_user(server, plain.bytes, CUT, &nowhere, name, 4, &length), STUNP_BAD_ARGUMENT);
+    want("hidden names", stunp_client_set_anonymous_username(&pair.client,
+         is_hidden ? STUNP_AUTO : STUNP_DISABLED), 0);
+    want("names, nowhere", stunp_server_named_user(server, plain.bytes, CUT, &nowhere, name, 4,
+         &length), STUNP_BAD_ARGUMENT);
     REFUSES_MESSAGES("names", stunp_server_named_user(server, bytes, length, &from, name, 4, &(size_t){0}));
-    want("nobody", stunp_server_named_user(server, plain.bytes, plain.length, &from, name, 0, &length), STUNP_NAMES_NOBODY);
+    want("nobody", stunp_server_named_user(server, plain.bytes, plain.length, &from, name, 0,
+         &length), STUNP_NAMES_NOBODY);
     want("no length", (int64_t)length, 99);
     challenge(&pair, &from, 0);
     request = request_of(&pair, 2);
     stunp_heap_bound(0);
     const int64_t named = is_hidden ? STUNP_BY_HASH : STUNP_BY_NAME;
     const size_t wanted = is_hidden ? sizeof hash : 4;
-    want("no room", stunp_server_named_user(server, request.bytes, request.length, &from, name, wanted - 1, &length), STUNP_BUFFER_TOO_SMALL);
+    want("no room", stunp_server_named_user(server, request.bytes, request.length, &from, name,
+         wanted - 1, &length), STUNP_BUFFER_TOO_SMALL);
     want("the length that is wanted", (int64_t)length, (int64_t)wanted);
     length = 99;
-    want("somebody", stunp_server_named_user(server, request.bytes, request.length, &from, name, wanted, &length), named);
+    want("somebody", stunp_server_named_user(server, request.bytes, request.length, &from, name,
+         wanted, &length), named);
     want("the length", (int64_t)length, (int64_t)wanted);
     want_same("who", name, is_hidden ? hash : text("name"), wanted);
-    want("no memory", stunp_server_validate_of(server, request.bytes, request.length, &from, 0, some_words, "name", 4, "password", 8), STUNP_OUT_OF_MEMORY);
+    want("no memory", stunp_server_validate_of(server, request.bytes, request.length, &from, 0,
+         some_words, "name", 4, "password", 8), STUNP_OUT_OF_MEMORY);
     stunp_heap_bound(SIZE_MAX);
-    want("without users", stunp_server_validate(server, request.bytes, request.length, &from, 0, some_words), STUNP_UNAUTHORIZED);
-    want("of, nowhere", stunp_server_validate_of(server, request.bytes, CUT, &nowhere, 0, some_words, &byte, 1, "", 0), STUNP_BAD_ARGUMENT);
+    want("without users", stunp_server_validate(server, request.bytes, request.length, &from, 0,
+         some_words), STUNP_UNAUTHORIZED);
+    want("of, nowhere", stunp_server_validate_of(server, request.bytes, CUT, &nowhere, 0,
+         some_words, &byte, 1, "", 0), STUNP_BAD_ARGUMENT);
     REFUSES_MESSAGES("of", stunp_server_validate_of(server, bytes, length, &from, 0, some_words, &byte, 1, "", 0));
-    want("no name", stunp_server_validate_of(server, request.bytes, request.length, &from, 0, some_words, &byte, 1, "", 0), STUNP_NOT_TEXT);
-    want("no password", stunp_server_validate_of(server, request.bytes, request.length, &from, 0, some_words, "name", 4, &byte, 1), STUNP_NOT_TEXT);
-    want("another password", stunp_server_validate_of(server, request.bytes, request.length, &from, 0, some_words, "name", 4, "Password", 8), STUNP_UNAUTHORIZED);
-    want("another user", stunp_server_validate_of(server, request.bytes, request.length, &from, 0, some_words, "Name", 4, "password", 8), STUNP_UNAUTHORIZED);
-    want("the user", stunp_server_validate_of(server, request.bytes, request.length, &from, 0, some_words, "name", 4, "password", 8), STUNP_SHA256);
-    want("is the client", stunp_server_client(server, &from, name, sizeof name, &length), STUNP_SHA256);
+    want("no name", stunp_server_validate_of(server, request.bytes, request.length, &from, 0,
+         some_words, &byte, 1, "", 0), STUNP_NOT_TEXT);
+    want("no password", stunp_server_validate_of(server, request.bytes, request.length, &from, 0,
+         some_words, "name", 4, &byte, 1), STUNP_NOT_TEXT);
+    want("another password", stunp_server_validate_of(server, request.bytes, request.length,
+         &from, 0, some_words, "name", 4, "Password", 8), STUNP_UNAUTHORIZED);
+    want("another user", stunp_server_validate_of(server, request.bytes, request.length, &from, 0,
+         some_words, "Name", 4, "password", 8), STUNP_UNAUTHORIZED);
+    want("the user", stunp_server_validate_of(server, request.bytes, request.length, &from, 0,
+         some_words, "name", 4, "password", 8), STUNP_SHA256);
+    want("is the client", stunp_server_client(server, &from, name, sizeof name, &length),
+         STUNP_SHA256);
 
     answer = message_of(STUNP_SUCCESS, 2);
     struct message left = answer;
     const size_t room = sizeof answer.bytes;
-    want("without the user", stunp_server_sign(server, answer.bytes, room, 20, &from), STUNP_INTEGRITY_FAILED);
-    want("no name", stunp_server_sign_of(server, answer.bytes, 20, 30, &nowhere, &byte, 1, "", 0), STUNP_NOT_TEXT);
-    want("nowhere", stunp_server_sign_of(server, answer.bytes, 20, 30, &nowhere, "name", 4, "password", 8), STUNP_BAD_ARGUMENT);
-    want("another user", stunp_server_sign_of(server, answer.bytes, room, 20, &from, "Name", 4, "password", 8), STUNP_INTEGRITY_FAILED);
-    want("no room", stunp_server_sign_of(server, answer.bytes, 20, 20, &from, "name", 4, "password", 8), STUNP_BUFFER_TOO_SMALL);
+    want("without the user", stunp_server_sign(server, answer.bytes, room, 20, &from),
+         STUNP_INTEGRITY_FAILED);
+    want("no name", stunp_server_sign_of(server, answer.bytes, 20, 30, &nowhere, &byte, 1, "", 0),
+         STUNP_NOT_TEXT);
+    want("nowhere", stunp_server_sign_of(server, answer.bytes, 20, 30, &nowhere, "name", 4,
+         "password", 8), STUNP_BAD_ARGUMENT);
+    want("another user", stunp_server_sign_of(server, answer.bytes, room, 20, &from, "Name", 4,
+         "password", 8), STUNP_INTEGRITY_FAILED);
+    want("no room", stunp_server_sign_of(server, answer.bytes, 20, 20, &from, "name", 4,
+         "password", 8), STUNP_BUFFER_TOO_SMALL);
     stunp_heap_bound(0);
-    want("no memory", stunp_server_sign_of(server, answer.bytes, room, 20, &from, "name", 4, "password", 8), STUNP_OUT_OF_MEMORY);
+    want("no memory", stunp_server_sign_of(server, answer.bytes, room, 20, &from, "name", 4,
+         "password", 8), STUNP_OUT_OF_MEMORY);
     stunp_heap_bound(SIZE_MAX);
     want_same("the message is left", &answer, &left, sizeof answer);
     stunp_writer writer = stunp_write_on(20, answer.bytes, room);
     stunp_write_server_sign_of(&writer, server, &from, "name", 4, "password", 8);
     want("signed", stunp_written(&writer), 0);
-    want("and taken", stunp_client_validate(&pair.client, answer.bytes, writer.length), STUNP_SHA256);
-    want("the server has no users", stunp_server_validate(server, request.bytes, request.length, &from, 0, some_words), STUNP_UNAUTHORIZED);
+    want("and taken", stunp_client_validate(&pair.client, answer.bytes, writer.length),
+         STUNP_SHA256);
+    want("the server has no users", stunp_server_validate(server, request.bytes, request.length,
+         &from, 0, some_words), STUNP_UNAUTHORIZED);
     free_pair(&pair);
     want_no_blocks("users_elsewhere");
 }
@@ -725,7 +776,8 @@ static void clients(void) {
     uint8_t byte = 0xff;
     want("set_credentials", stunp_client_set_credentials(&client, &byte, 1, &byte, 1), STUNP_EMPTY_HANDLE);
     want("set_algorithms", stunp_client_set_algorithms(&client, 9), STUNP_EMPTY_HANDLE);
-    want("set_anonymous_username", stunp_client_set_anonymous_username(&client, STUNP_AUTO), STUNP_EMPTY_HANDLE);
+    want("set_anonymous_username", stunp_client_set_anonymous_username(&client, STUNP_AUTO),
+         STUNP_EMPTY_HANDLE);
     want("signing_algorithm", stunp_client_signing_algorithm(&client), STUNP_EMPTY_HANDLE);
     want("sign", stunp_client_sign(&client, &byte, 1, 2), STUNP_EMPTY_HANDLE);
     want("validate", stunp_client_validate(&client, &byte, 1), STUNP_EMPTY_HANDLE);

@@ -4,7 +4,7 @@ use Rattle.std.specs.Prelude.{Option, Some, None, IfSome, fold, filter, nat_le, 
 use Rattle.std.specs.List.{AllByRecursion}
 use Rattle.std.specs.Ordering.{nat_cmp, is_gt}
 use Rattle.std.specs.declared.cmp.Ordering.TheVariants.{Less, Equal, Greater}
-use Rattle.std.proofs.lemmas.Bool.{le-leb, lt-leb, leb-true, ltb-true, ltb-false, eqb-true, eqb-false}
+use Rattle.std.proofs.lemmas.Bool.{le-leb, lt-leb, leb-true, leb-false, ltb-true, ltb-false, eqb-true, eqb-false}
 use Rattle.std.proofs.lemmas.List.{map-append}
 use Rattle.std.proofs.lemmas.List.Elements.{filter-append}
 use Rattle.std.proofs.lemmas.List.Sums.{fold-append}
@@ -12,8 +12,8 @@ use Rattle.stun_agent.specs.declared.deadlines.Deadline.{Deadline}
 use Rattle.stun_agent.specs.declared.deadline_tree.Link.{Link}
 use Rattle.stun_agent.specs.declared.deadline_tree.Node.{Node}
 use Rattle.stun_agent.specs.Transactions.{sooner}
-use Rattle.stun_agent.specs.code.Deadlines.{is_passed}
-use Rattle.stun_agent.specs.code.DeadlineTree.{items, middle, IsFirst, IsTree, IsBelow, least_come, with_id}
+use Rattle.stun_agent.specs.code.Deadlines.{is_passed, lesser}
+use Rattle.stun_agent.specs.code.DeadlineTree.{items, middle, IsFirst, IsTree, IsBelow, least_come, first_come, with_id}
 use Rattle.stun_agent.proofs.DeadlineTreeLemmas.{all_weaker, items_within, BeginsSoonest, begins_soonest}
 
 -- ---- the least of numbers
@@ -134,6 +134,41 @@ module _ (now : ℕ) (last : Option ℕ) where
         let low = fold_below m id None (ids ls) tt (ids_all (λ n. n < m) ls less) (sym found) in
         let high = ids_all (λ n. id ≤ n) rs (all_weaker _ _ (λ d le. omega arith) rs from) in
         sym (side_by_side ls rs ∙ ap (λ o. fold sooner o (ids rs)) (sym found) ∙ fold_keeps id (ids rs) high)
+
+-- ---- where no id is passed
+lesser_sooner : (least : Option ℕ) (n : ℕ) (o : Option ℕ) → lesser (sooner least n) o ≡ lesser least (sooner o n)
+lesser_sooner least n None = refl
+lesser_sooner None n (Some m) = ap Some (let same : min n m ≡ min m n = omega arith in same)
+lesser_sooner (Some k) n (Some m) = ap Some (let same : min (min k n) m ≡ min k (min m n) = omega arith in same)
+
+module _ (now : ℕ) where
+  -- where the left begins with one that has come, its least is that of all
+  on_left : (m : ℕ) (ls rs : List Deadline) → first_come now ls ≡ true → AllByRecursion (λ (d : Deadline). d.id < m) ls → AllByRecursion (λ (d : Deadline). m ≤ d.id) rs
+      → least_come now None (ls ++ rs) ≡ least_come now None ls
+  on_left m [] rs come less from = cc
+  on_left m (d ∷ ds) rs come less from = by (least_come now None ds) (with_top now None d ds (leb-true d.moment now come))
+    where
+      by : (o : Option ℕ) → sooner o d.id ≡ least_come now None (d ∷ ds) → least_come now None (d ∷ (ds ++ rs)) ≡ least_come now None (d ∷ ds)
+      by None h = sym (finds_left now None m (d ∷ ds) rs d.id h less from) ∙ h
+      by (Some k) h = sym (finds_left now None m (d ∷ ds) rs (min k d.id) h less from) ∙ h
+
+  -- and where it begins with a late one, or with none, it has none that has come
+  on_right : (ls rs : List Deadline) → first_come now ls ≡ false → BeginsSoonest ls → least_come now None (ls ++ rs) ≡ least_come now None rs
+  on_right [] rs late h = refl
+  on_right (d ∷ ds) rs late h =
+      let after : now < d.moment = let far = leb-false d.moment now late in omega arith in
+      side_by_side now None (d ∷ ds) rs ∙ ap (λ o. fold sooner o (ids now None rs)) (sym (none_come now None d ds after h))
+
+  module _ (least : Option ℕ) (d : Deadline) (ls rs : List Deadline) (come : d.moment ≤ now) where
+    with_one : (o : Option ℕ) → least_come now None (ls ++ rs) ≡ o → lesser (sooner least d.id) o ≡ lesser least (least_come now None (d ∷ (ls ++ rs)))
+    with_one o is = lesser_sooner least d.id o ∙ ap (λ p. lesser least (sooner p d.id)) (sym is) ∙ ap (lesser least) (with_top now None d (ls ++ rs) come)
+
+    pub goes_left : (m : ℕ) → true ≡ first_come now ls → AllByRecursion (λ (d : Deadline). d.id < m) ls → AllByRecursion (λ (d : Deadline). m ≤ d.id) rs
+        → lesser (sooner least d.id) (least_come now None ls) ≡ lesser least (least_come now None (d ∷ (ls ++ rs)))
+    goes_left m first less from = with_one (least_come now None ls) (on_left m ls rs (sym first) less from)
+
+    pub goes_right : false ≡ first_come now ls → BeginsSoonest ls → lesser (sooner least d.id) (least_come now None rs) ≡ lesser least (least_come now None (d ∷ (ls ++ rs)))
+    goes_right first soonest = with_one (least_come now None rs) (on_right ls rs (sym first) soonest)
 
 -- ---- the two sides of a node
 module _ {A : Type 0} (low high : ℕ) (node : Node A) (sides : IsBelow low high node) where

@@ -1,5 +1,5 @@
 -- What is left of a tree of deadlines when one is put or taken.
-use Rattle.std.proofs.Common.{ℕ, ◌≡◌, ◌<◌, ◌≤◌, ◌⊎◌, inl, inr, arith, Bool, true, false, List, [], ◌∷◌, ◌++◌, IsPermutation, subst, ap, sym, refl, ◌∙◌}
+use Rattle.std.proofs.Common.{ℕ, ◌≡◌, ◌<◌, ◌≤◌, ◌⊎◌, inl, inr, arith, Bool, true, false, cond, List, [], ◌∷◌, ◌++◌, IsPermutation, subst, ap, sym, refl, ◌∙◌}
 use Rattle.std.specs.Prelude.{Option, Some, None, ◌==◌, ◌≢◌}
 use Rattle.std.specs.List.{AllByRecursion}
 use Rattle.std.proofs.lemmas.Bool.{leb-true, leb-false, ne_eqb, eqb-true, eqb-false}
@@ -10,7 +10,7 @@ use Rattle.stun_agent.specs.declared.deadlines.Deadline.{Deadline}
 use Rattle.stun_agent.specs.declared.deadline_tree.Link.{Link}
 use Rattle.stun_agent.specs.declared.deadline_tree.Link.TheVariants.{Empty, Held'}
 use Rattle.stun_agent.specs.declared.deadline_tree.Node.{Node}
-use Rattle.stun_agent.specs.code.DeadlineTree.{items, below, middle, is_no_later, IsWithin, IsFirst, IsTop, IsTree, IsBelow, IsExchanged, IsNextTaken, Takes, TakesFirst, TakesNext}
+use Rattle.stun_agent.specs.code.DeadlineTree.{items, below, middle, is_no_later, IsWithin, IsFirst, IsTop, IsTree, IsBelow, IsExchanged, IsAlone, IsNextTaken, Takes, TakesFirst, TakesNext, first_of, next_of}
 
 -- ---- lists
 pub all_permuted : {X : Type 0} (P : X → Type 0) (xs ys : List X) → IsPermutation xs ys → AllByRecursion P xs → AllByRecursion P ys
@@ -169,6 +169,37 @@ module _ {A : Type 0} (old new : Node A) (taken : Option Deadline) where
               first_permuted e es (items new.right) rest (subst BeginsSoonest is (begins_soonest (middle low high) high old.right h.1)),
             );
           })
+
+-- the sooner one is on the left, or on the right
+module _ {A : Type 0} (old new : Node A) where
+  pub next_left : new.right ≡ old.right → is_no_later (items old.left) (items old.right) ≡ true → TakesFirst (items old.left) (first_of (items old.left)) (items new.left)
+      → ((low high : ℕ) → IsTree low high old.left → IsTree low high new.left) → TakesNext old (next_of old) new
+  next_left same test takes tree =
+      subst (λ (b : Bool). TakesNext old (cond b (first_of (items old.left)) (first_of (items old.right))) new) (sym test)
+      (takes_left old new (first_of (items old.left)) same test takes tree)
+
+  pub next_right : new.left ≡ old.left → is_no_later (items old.left) (items old.right) ≡ false → TakesFirst (items old.right) (first_of (items old.right)) (items new.right)
+      → ((low high : ℕ) → IsTree low high old.right → IsTree low high new.right) → TakesNext old (next_of old) new
+  next_right same test takes tree =
+      subst (λ (b : Bool). TakesNext old (cond b (first_of (items old.left)) (first_of (items old.right))) new) (sym test)
+      (takes_right old new (first_of (items old.right)) same test takes tree)
+
+-- where there is none, nothing is below
+pub none_next : {A : Type 0} (node : Node A) → None ≡ next_of node → IsAlone node
+none_next node h = by (items node.left) (items node.right) refl refl h
+  where
+    one : (b : Bool) (d e : Deadline) → None ≡ cond b (Some d) (Some e) → ⊥
+    one true d e h = cc
+    one false d e h = cc
+
+    by : (ls rs : List Deadline) → items node.left ≡ ls → items node.right ≡ rs → None ≡ cond (is_no_later ls rs) (first_of ls) (first_of rs) → IsAlone node
+    by [] [] l r h = record { left = empty_link node.left l; right = empty_link node.right r }
+    by [] (e ∷ es) l r h = cc
+    by (d ∷ ds) [] l r h = cc
+    by (d ∷ ds) (e ∷ es) l r h = absurd (one (is_no_later (d ∷ ds) (e ∷ es)) d e h)
+
+pub told_next : {A : Type 0} (d : Deadline) (taken : Option Deadline) (old new : Node A) → Some d ≡ taken → TakesNext old taken new → IsNextTaken d old new
+told_next d taken old new is h = subst (λ (o : Option Deadline). TakesNext old o new) (sym is) h
 
 -- what comes to the top is in the range of what was there
 pub next_top : {A : Type 0} (low high : ℕ) (d next : Deadline) (old new : Node A) → IsWithin low high d → IsBelow low high old → IsNextTaken next old new

@@ -1,12 +1,13 @@
 -- Deadlines in another order are the same at each id that has at most one.
-use Rattle.std.proofs.Common.{ℕ, ◌≡◌, ◌<◌, ◌⊎◌, inl, inr, arith, Bool, true, false, cond, List, [], ◌∷◌, length, get_or, zero, suc, ap, sym, refl, subst, ◌∙◌}
+use Rattle.std.proofs.Common.{ℕ, ◌≡◌, ◌<◌, ◌⊎◌, inl, inr, arith, Bool, true, false, ◌&&◌, cond, List, [], ◌∷◌, length, get_or, zero, suc, ap, sym, refl, subst, ◌∙◌}
 use Rattle.std.specs.Prelude.{Option, Some, None, MatchOption, IsSomeAnd, filter, IsPermutation, ◌==◌}
 use Rattle.std.specs.List.{Contains}
 use Rattle.std.proofs.lemmas.Bool.{eq-eqb}
-use Rattle.std.proofs.lemmas.List.Sorted.{Contains-permutation, sum_by-IsPermutation}
+use Rattle.std.proofs.lemmas.List.Sorted.{Contains-permutation, sum_by-IsPermutation, IsPermutation-refl, IsPermutation-trans, IsPermutation-cons}
 use Rattle.std.proofs.lemmas.List.Sums.{length-filter}
 use Rattle.stun_agent.specs.declared.deadlines.Deadline.{Deadline}
-use Rattle.stun_agent.specs.code.Deadlines.{entries_at}
+use Rattle.stun_agent.specs.code.Deadlines.{entries_at, IsReplaced}
+use Rattle.stun_agent.proofs.DeadlineTreeLemmas.{exchange}
 
 -- ---- members
 abbrev pub IsIn : Deadline → List Deadline → Type 0
@@ -95,3 +96,30 @@ given_out d ds rest (Some e) one told =
 pub some_gives : {P : Type 0} (d : Deadline) (r : Option Deadline) → IsSomeAnd r (λ e. (e ≡ d) × P) → P
 some_gives d None told = absurd told
 some_gives d (Some e) told = told.1
+
+-- ---- a deadline in its own place
+in_its_place : (id : ℕ) (d : Deadline) (ds : List Deadline) → entries_at id ds ≡ d ∷ [] → IsReplaced d d ds ds
+in_its_place id d [] h = cc
+in_its_place id d (e ∷ es) h = by (id == e.id) h (in_its_place id d es)
+  where
+    by : (b : Bool) → cond b (e ∷ entries_at id es) (entries_at id es) ≡ d ∷ [] → (entries_at id es ≡ d ∷ [] → IsReplaced d d es es) → IsReplaced d d (e ∷ es) (e ∷ es)
+    by true h rest =
+        let same : e ≡ d = ap (λ (xs : List Deadline). get_or xs 0 d) h in
+        subst (λ (x : Deadline). IsReplaced x x (e ∷ es) (e ∷ es)) same (record { rest = es; taken = IsPermutation-refl (e ∷ es); put = IsPermutation-refl (e ∷ es) })
+    by false h rest =
+        let r = rest h in
+        record {
+          rest = e ∷ r.rest;
+          taken = IsPermutation-trans _ _ _ (IsPermutation-cons e _ _ r.taken) (exchange e d r.rest);
+          put = IsPermutation-trans _ _ _ (exchange d e r.rest) (IsPermutation-cons e _ _ r.put);
+        }
+
+pub same_parts : (d e : Deadline) → d.id ≡ e.id → d.moment ≡ e.moment → d.kind ≡ e.kind → d ≡ e
+same_parts d e id moment kind i = record { id = id i; moment = moment i; kind = kind i }
+
+pub both_true : (a b : Bool) → (a && b) ≡ true → (a ≡ true) × (b ≡ true)
+both_true true b h = (refl, h)
+both_true false b h = cc
+
+pub same_stays : (d e : Deadline) (ds : List Deadline) → entries_at d.id ds ≡ d ∷ [] → d ≡ e → IsReplaced d e ds ds
+same_stays d e ds there same = subst (λ (x : Deadline). IsReplaced d x ds ds) same (in_its_place d.id d ds there)

@@ -1,8 +1,9 @@
 //! Deadlines in a tree, which is a heap by their moments and a radix tree by their ids.
-ghost use Rattle.std.specs.Prelude.{◌≡◌, ℕ, [], ◌∷◌, ◌+◌, ◌≤◌, fold, map, None, IfOk, IsPermutation};
+ghost use Rattle.std.specs.Prelude.{◌≡◌, ℕ, [], ◌∷◌, ◌+◌, ◌≤◌, fold, map, None, IfOk, IfSome, IsPermutation};
+ghost use Rattle.std.specs.Option.{is_some};
 ghost use Rattle.stun_agent.specs.Transactions.{sooner};
-ghost use Rattle.stun_agent.specs.code.Deadlines.{early, entries_at, is_passed};
-ghost use Rattle.stun_agent.specs.code.DeadlineTree.{items, below, middle, height, height_below, is_no_later, IsAlone, IsExchanged, IsLast, IsTree, IsBelow, IsWithin, TakesFirst, TakesNext, Takes, IsSearch, least_come, with_id};
+ghost use Rattle.stun_agent.specs.code.Deadlines.{early, entries_at, is_passed, lesser};
+ghost use Rattle.stun_agent.specs.code.DeadlineTree.{items, below, middle, height, height_below, is_no_later, IsAlone, IsExchanged, IsLast, IsTree, IsBelow, IsWithin, TakesFirst, TakesNext, Takes, first_of, next_of, IsSearch, least_come, first_come, with_id};
 ghost use Rattle.stun_agent.specs.declared.deadline_tree.Link.TheVariants.{Empty};
 
 use crate::deadlines::{Deadline, Reads};
@@ -58,10 +59,10 @@ impl<A: Allocator> DeadlineTree<A> {
         requires { entries_at entry.id self.old ≡ [] }
         ensures { IsPermutation (entry ∷ self.old) self.new }
     {
-        let Entry { deadline, node } = entry;
+        let Entry { mut deadline, node } = entry;
         // An id is a number below `IDS`, which its number tells.
         let _id = deadline.id.as_u128();
-        put(&mut self.root, 0, IDS, deadline, node);
+        put(&mut self.root, 0, IDS, &mut deadline, node);
     }
 
     /// Takes out the entry of an id.
@@ -85,7 +86,10 @@ impl<A: Allocator> DeadlineTree<A> {
         ensures paths { reads.new ≤ reads.old + 194 }
         ensures path { last.now ≡ None → reads.new ≤ reads.old + 97 }
     {
-        least_come(&self.root, 0, IDS, now, last, reads)
+        match last {
+            Some(_) => least_come(&self.root, 0, IDS, now, last, reads),
+            None => least_of_all(&self.root, now, None, reads),
+        }
     }
 }
 
@@ -169,37 +173,35 @@ fn put<A: Allocator>(
     link: &mut Link<A>,
     low: u128,
     high: u128,
-    deadline: Deadline,
+    deadline: &mut Deadline,
     own: Box<Node<A>, A>,
 )
     requires tree { IsTree low high link.old }
-    requires within { IsWithin low high deadline }
+    requires within { IsWithin low high deadline.old }
     requires alone { IsAlone own.value }
-    ensures items { IsPermutation (deadline ∷ items link.old) (items link.new) }
+    ensures items { IsPermutation (deadline.old ∷ items link.old) (items link.new) }
     ensures tree { IsTree low high link.new }
 {
     match link {
-        Link::Empty => *link = Link::Held(deadline, own),
+        Link::Empty => *link = Link::Held(*deadline, own),
         Link::Held(top, node) => {
-            let later = exchange_sooner(top, deadline);
+            leave_sooner(top, deadline);
             let middle = middle(low, high);
-            if later.id.as_u128() < middle {
-                put(&mut node.left, low, middle, later, own);
+            if deadline.id.as_u128() < middle {
+                put(&mut node.left, low, middle, deadline, own);
             } else {
-                put(&mut node.right, middle, high, later, own);
+                put(&mut node.right, middle, high, deadline, own);
             }
         }
     }
 }
 
-/// Leaves the sooner of two deadlines at the top, and returns the other one.
-fn exchange_sooner(top: &mut Deadline, deadline: Deadline) -> Deadline
-    ensures { IsExchanged deadline top.old top.new result }
+/// Leaves the sooner of two deadlines at the top, and the other one in its place.
+fn leave_sooner(top: &mut Deadline, deadline: &mut Deadline)
+    ensures { IsExchanged deadline.old top.old top.new deadline.new }
 {
     if deadline.moment < top.moment {
-        mem::replace(top, deadline)
-    } else {
-        deadline
+        mem::swap(top, deadline);
     }
 }
 
@@ -218,7 +220,9 @@ fn take<A: Allocator>(
         Link::Empty => None,
         Link::Held(top, node) => {
             if top.id == id {
-                return take_first(link);
+                let deadline = *top;
+                let node = take_first(link)?;
+                return Some(Entry { deadline, node });
             }
             let middle = middle(low, high);
             if id.as_u128() < middle {
@@ -230,34 +234,59 @@ fn take<A: Allocator>(
     }
 }
 
-/// Takes out the deadline that a link leads to. The sooner of the two below it comes in its place.
+/// Takes out the deadline that a link leads to, and returns a node. The sooner of the two below it
+/// comes in its place.
 #[cycle(take_first)]
-fn take_first<A: Allocator>(link: &mut Link<A>) -> Option<Entry<A>>
-    ensures taken { TakesFirst (items link.old) result (items link.new) }
+fn take_first<A: Allocator>(link: &mut Link<A>) -> Option<Box<Node<A>, A>>
+    ensures taken { TakesFirst (items link.old) (first_of (items link.old)) (items link.new) }
+    ensures some { is_some result ≡ is_some (first_of (items link.old)) }
+    ensures alone { IfSome result (λ node. IsAlone node.value) }
     ensures tree { (low high : ℕ) → IsTree low high link.old → IsTree low high link.new }
 {
     match link {
         Link::Empty => None,
-        Link::Held(top, node) => match take_next(node) {
-            Some(mut next) => {
-                let sooner = next.deadline();
-                next.set(mem::replace(top, sooner));
-                Some(next)
+        Link::Held(top, node) => match next(node) {
+            Some(next) => {
+                *top = next;
+                take_next(node)
             }
             None => unlink(link),
         },
     }
 }
 
-/// Takes out the sooner of the two deadlines below a node.
+/// Takes out the sooner of the two deadlines below a node, and returns another node.
 #[cycle(take_first)]
-fn take_next<A: Allocator>(node: &mut Node<A>) -> Option<Entry<A>>
-    ensures { TakesNext node.old result node.new }
+fn take_next<A: Allocator>(node: &mut Node<A>) -> Option<Box<Node<A>, A>>
+    ensures taken { TakesNext node.old (next_of node.old) node.new }
+    ensures some { is_some result ≡ is_some (next_of node.old) }
+    ensures alone { IfSome result (λ other. IsAlone other.value) }
 {
     if is_no_later(&node.left, &node.right) {
         take_first(&mut node.left)
     } else {
         take_first(&mut node.right)
+    }
+}
+
+/// The sooner of the two deadlines below a node.
+fn next<A: Allocator>(node: &Node<A>) -> Option<Deadline>
+    ensures { result ≡ next_of node.now }
+{
+    if is_no_later(&node.left, &node.right) {
+        first(&node.left)
+    } else {
+        first(&node.right)
+    }
+}
+
+/// The deadline that a link leads to.
+fn first<A: Allocator>(link: &Link<A>) -> Option<Deadline>
+    ensures { result ≡ first_of (items link.now) }
+{
+    match link {
+        Link::Empty => None,
+        Link::Held(top, _) => Some(*top),
     }
 }
 
@@ -273,14 +302,56 @@ fn is_no_later<A: Allocator>(link: &Link<A>, other: &Link<A>) -> bool
 }
 
 /// Takes the last node off a link.
-fn unlink<A: Allocator>(link: &mut Link<A>) -> Option<Entry<A>>
+fn unlink<A: Allocator>(link: &mut Link<A>) -> Option<Box<Node<A>, A>>
     requires { IsLast link.old }
-    ensures taken { TakesFirst (items link.old) result [] }
+    ensures taken { TakesFirst (items link.old) (first_of (items link.old)) [] }
+    ensures some { is_some result ≡ is_some (first_of (items link.old)) }
+    ensures alone { IfSome result (λ node. IsAlone node.value) }
     ensures empty { link.new ≡ Empty }
 {
     match mem::replace(link, Link::Empty) {
         Link::Empty => None,
-        Link::Held(deadline, node) => Some(Entry { deadline, node }),
+        Link::Held(_, node) => Some(node),
+    }
+}
+
+/// The least id among those below a link whose moment has come, and this one. It goes down one path:
+/// where one on the left has come, none on the right is less.
+fn least_of_all<A: Allocator, L: Ledger>(
+    link: &Link<A>,
+    now: Instant,
+    least: Option<TransactionId>,
+    reads: &mut Reads<L>,
+) -> Option<TransactionId>
+    ensures answer { (low high : ℕ) → IsTree low high link.now → result
+        ≡ lesser least (least_come now None (items link.now)) }
+    ensures work { reads.new ≤ reads.old + early now (items link.now) }
+    ensures path { reads.new ≤ reads.old + height link.now }
+{
+    match link {
+        Link::Empty => least,
+        Link::Held(top, node) => {
+            if top.moment > now {
+                return least;
+            }
+            reads.tick();
+            let least = with_id(least, None, top.id);
+            if has_come(&node.left, now) {
+                least_of_all(&node.left, now, least, reads)
+            } else {
+                least_of_all(&node.right, now, least, reads)
+            }
+        }
+    }
+}
+
+/// Whether a link leads to a deadline that has come.
+fn has_come<A: Allocator>(link: &Link<A>, now: Instant) -> bool
+    ensures { result ≡ first_come now (items link.now) }
+{
+    match link {
+        Link::Empty => false,
+        Link::Held(top, _) => top.moment <= now,
     }
 }
 

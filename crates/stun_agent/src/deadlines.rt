@@ -90,12 +90,15 @@ impl<A: Allocator> DeadlineIndex<A> {
         }
     }
 
-    /// Puts another deadline of a request in place of the one that it has. Does not allocate.
+    /// Puts another deadline of a request in place of the one that it has, where it is another one. Does not allocate.
     pub(crate) fn replace(&mut self, before: Deadline, after: Deadline)
         requires there { entries_at before.id self.old ≡ before ∷ [] }
         requires same { after.id ≡ before.id }
         ensures { IsReplaced before after self.old self.new }
     {
+        if before == after {
+            return;
+        }
         if let Some(mut entry) = self.take(before) {
             entry.set(after);
             self.put(entry);

@@ -16,11 +16,12 @@ use std::alloc::{Allocator, Global};
 use std::fmt;
 use std::marker::Model;
 
-/// A key with what each HMAC under it does before it reads its text, for one algorithm: two blocks are hashed once, and not
-/// for each digest. It takes about 200 bytes more than the key, and no allocation.
+/// A key with what each HMAC under it does before it reads its text (RFC 2104, section 4), for one
+/// algorithm: a digest of that algorithm hashes two blocks fewer than under the key alone, and one of
+/// the other algorithm as many. It takes about 200 bytes more than the key, and no allocation.
 ///
-/// Contracts see its bytes, as those of the key. What it holds beside them is as secret as they are (RFC 2104, section 4),
-/// and `Debug` shows none of it.
+/// Contracts see its bytes, as those of the key, and no clause counts the blocks. What it holds
+/// beside them is as secret as they are, and `Debug` shows none of it.
 #[derive(Drop)]
 pub struct PreparedKey<A: Allocator = Global> {
     key: IntegrityKey<A>,

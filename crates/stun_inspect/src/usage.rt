@@ -16,7 +16,7 @@ Status: 0 good, 1 not a message or invalid, 2 not judged or not read to the end.
 ";
 
 /// What `--version` prints.
-pub const VERSION: &str = "stun_inspect 0.1.0\n";
+pub const VERSION: &str = "stun_inspect 0.2.0\n";
 
 /// What is written for words that are none of a command: the words of the command that was meant,
 /// or all commands.

@@ -1,5 +1,5 @@
 -- The turns at awaited moments, and a whole run, turn by turn.
-use Rattle.std.proofs.Common.{ℕ, Bool, false, ◌≡◌, ◌+◌, ◌<◌, ◌≤◌, inl, inr, arith, List, [], ◌∷◌, ◌++◌, subst, ap, sym, refl, ◌∙◌, append_assoc, length, drop, get_or, zero, suc, add-one}
+use Rattle.std.proofs.Common.{ℕ, Bool, true, false, ◌≡◌, ◌+◌, ◌<◌, ◌≤◌, inl, inr, arith, List, [], ◌∷◌, ◌++◌, subst, ap, sym, refl, ◌∙◌, append_assoc, length, drop, get_or, zero, suc, add-one}
 use Rattle.std.proofs.lemmas.List.{append-nil, length-append}
 use Rattle.std.specs.Prelude.{Option, Some, None, if◌then◌else◌}
 use Rattle.stun_base.specs.Moments.{last_moment}
@@ -137,6 +137,16 @@ pub run_kept : {A : Type 0} (until : ℕ) (a : Agent) (events : List (ℕ × Age
 run_kept until a events count from old new before log whole leads taken =
     let all : kept log ≡ Some (steps_of log.steps.items) = ap (λ (lost : Bool). if lost then None else Some (steps_of log.steps.items)) whole in
     run_done until a events count from old new before (steps_of log.steps.items) leads (subst (TakesTurns (until + 1) from old new before) all taken)
+
+-- without events nothing happens
+pub nothing_is_driven : {A : Type 0} (until : ℕ) (a : Agent) (events : List (ℕ × AgentEvent)) (log : StepLog A) → length events ≡ 0 → kept log ≡ Some []
+    → IsDriven until a events (steps_of log.steps.items) a
+nothing_is_driven until a (e ∷ es) log empty new = absurd (omega (arith, empty))
+nothing_is_driven until a [] log empty new = (by log.is_lost new, refl)
+  where
+    by : (lost : Bool) → (if lost then None else Some (steps_of log.steps.items)) ≡ Some [] → steps_of log.steps.items ≡ []
+    by true is = cc
+    by false is = cc
 
 pub is_driven : (until : ℕ) (a b : Agent) (events : List (ℕ × AgentEvent)) (steps : List Step) → (length events ≡ 0 → ⊥) → Run (until + 1) 0 a events steps b → IsDriven until a events steps b
 is_driven until a b [] steps some r = absurd (some refl)

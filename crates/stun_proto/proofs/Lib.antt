@@ -5,6 +5,7 @@ pub mod Answered
 pub mod AppendedLemmas
 pub mod Chosen
 pub mod Counting
+pub mod Digests
 pub mod DriveLemmas
 pub mod Driven
 pub mod Existence

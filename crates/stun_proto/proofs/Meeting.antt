@@ -250,17 +250,17 @@ module _ (say : NoncesAsk) (found : SignedIsRead) (m : Meeting) (who : NameAndPa
       (from_success a chosen had (after_message now m.from m.second.now m.second.words r) left_is))
 
   -- the client's answer to the challenge
-  given_up : meant ≡ None → (before : ServerSeen) → Comes (challenge_read m before (after_challenge initial None (kept_if m.settings.feature who users.realm nonce (Some (listed users.algorithms)) (or_unsupported None))))
-  given_up none before = (
+  given_up : meant ≡ None → (before : ServerSeen) → sight before m.from ≡ seen offering → Comes (challenge_read m before (after_challenge initial None (kept_if m.settings.feature who users.realm nonce (Some (listed users.algorithms)) (or_unsupported None))))
+  given_up none before is = (
     λ fitting. refl,
     λ ok.
         subst (λ o. ComesTo m.from who o (challenge_read m before (after_challenge initial None (kept_if m.settings.feature who users.realm nonce (Some (listed users.algorithms)) (or_unsupported None)))))
-        (sym none) (record { ending = refl; client = refl }),
+        (sym none) (record { ending = refl; client = refl; server_place = (offering, ap (λ (v : Sight). v.place) is, refl) }),
   )
 
   from_step : (o : Option IntegrityAlgorithm) → meant ≡ o → (before : ServerSeen) → sight before m.from ≡ seen offering
       → Comes (challenge_read m before (after_challenge initial None (kept_if m.settings.feature who users.realm nonce (Some (listed users.algorithms)) (or_unsupported o))))
-  from_step None none before is = given_up none before
+  from_step None none before is = given_up none before is
   from_step (Some a) chosen before is = from_second a chosen before is
 
   -- the challenge

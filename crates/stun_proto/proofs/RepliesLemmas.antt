@@ -1,8 +1,10 @@
 -- What an address can tell by the replies is what it can tell by the calls.
 use Rattle.std.proofs.Common.{◌≡◌, Bool, true, false, ℕ, zero, suc, List, [], ◌∷◌, Option, Some, None, refl, sym, ◌∙◌, ap, subst, take, Ok, Err}
-use Rattle.std.specs.Prelude.{cond, not, ◌||◌}
+use Rattle.std.specs.Prelude.{cond, not, ◌||◌, ◌↔◌, slice_get}
+use Rattle.std.specs.Global.{Vec}
 use Rattle.std.specs.declared.result.Result.{Result}
 use Rattle.std.specs.declared.net.socket_addr.SocketAddr.{SocketAddr}
+use Rattle.stun_base.specs.declared.algorithm.IntegrityAlgorithm.{IntegrityAlgorithm}
 use Rattle.stun_base.specs.declared.error.StunParseError.{StunParseError}
 use Rattle.stun_base.specs.declared.error.StunWriteError.{StunWriteError}
 use Rattle.stun_types.specs.Message.{refusal}
@@ -15,8 +17,8 @@ use Rattle.stun_auth.specs.Server.{refusal as auth_refusal}
 use Rattle.stun_auth.specs.Validation.{AcceptedWith, ServerSeen, answer, answer_to, client_verified, is_malformed, place_after, sight, validated_or_failed, with_accepted}
 use Rattle.stun_proto.specs.Accepting.{ValidatesAccepted}
 use Rattle.stun_proto.specs.Isolation.{concerns, own, own_place_after, place_unless, sight_over}
-use Rattle.stun_proto.specs.Replies.{ValidatesByReplies, client_by_reply, is_signed, message_read, place_by_answer, place_by_message, place_by_reply, place_by_signing, read_unless, sight_by_reply, sight_by_replies}
-use Rattle.stun_proto.specs.Serving.{after_call, after_calls, expiry_after, feature_after, registered_after, replies, reply, reply_of_answer, reply_of_signing, reply_unless}
+use Rattle.stun_proto.specs.Replies.{Reads, client_by_reply, is_signed, message_read, place_by_answer, place_by_message, place_by_reply, place_by_signing, read_unless, sight_by_reply, sight_by_replies}
+use Rattle.stun_proto.specs.Serving.{Reply, Validated, after_call, after_calls, expiry_after, feature_after, registered_after, replies, reply, reply_of_answer, reply_of_signing, reply_unless}
 use Rattle.stun_proto.specs.Signing.{if_signed, place_offered, signing}
 use Rattle.stun_proto.specs.declared.replay.call.ServerCall.{ServerCall}
 use Rattle.stun_proto.specs.declared.replay.call.ServerCall.TheVariants as Call
@@ -106,9 +108,16 @@ told_over a (call ∷ calls) (suc i) s =
     ] refl
 
 -- bytes that read as a message are one, and say this
-reads_as : (o : Option StunParseError) (r m : Reading) → read_unless o r ≡ Some m → (o ≡ None) × (r ≡ m)
+pub reads_as : (o : Option StunParseError) (r m : Reading) → read_unless o r ≡ Some m → (o ≡ None) × (r ≡ m)
 reads_as None r m h = (refl, cc)
 reads_as (Some error) r m h = cc
+
+-- the field `validated` of the first sentence
+abbrev pub ValidatesByReplies : Reads → ServerSeen → List ServerCall → List Reply → Type 0
+ValidatesByReplies read start calls given =
+    (i : ℕ) (from : SocketAddr) (now : ℕ) (message : Vec ℕ) (words : List ℕ) (m : Reading) (a : IntegrityAlgorithm)
+    → slice_get calls i ≡ Some (Call.Validate from now message words) → read message.items ≡ Some m → is_response m.class ≡ false
+    → (slice_get given i ≡ Some (Validated a)) ↔ AcceptedWith (sight_by_replies read from (sight start from) (take i calls) given) now words m a
 
 pub validates_by_replies : (s : ServerSeen) (calls : List ServerCall) → ValidatesAccepted s calls (replies s calls) → ValidatesByReplies message_read s calls (replies s calls)
 validates_by_replies s calls accepted i a now message words m algorithm at reads asks =

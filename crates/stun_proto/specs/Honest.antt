@@ -53,14 +53,15 @@ pub record AgreesOn (from : SocketAddr) (who : NameAndPassword) (a : IntegrityAl
   pub server_client : client_at met.server from ≡ Some (record { name = who.username; algorithm = a })
   pub joined : (c : Challenge) × (p : PlaceSeen) × (met.client ≡ authenticated c) × AreJoined (sight met.server from) p c who
 
--- the client gives up, and keeps nothing
-pub record GivesUp (met : Met) : Type 0 where
+-- the client gives up and keeps nothing, and the server has a place for its address, with no client
+pub record GivesUp (from : SocketAddr) (met : Met) : Type 0 where
   pub ending : met.ending ≡ Ok (ClientRefused UnsupportedFeature)
   pub client : met.client ≡ initial
+  pub server_place : (p : PlaceSeen) × (map.get met.server.places from ≡ Some p) × (p.client ≡ None)
 
 abbrev pub ComesTo : SocketAddr → NameAndPassword → Option IntegrityAlgorithm → Met → Type 0
 ComesTo from who (Some a) met = AgreesOn from who a met
-ComesTo from who None met = GivesUp met
+ComesTo from who None met = GivesUp from met
 
 -- the strongest algorithm that a client and a server support, if there is one
 abbrev pub strongest : Meeting → ServerSeen → Option IntegrityAlgorithm

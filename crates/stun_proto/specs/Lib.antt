@@ -2,6 +2,8 @@
 
 -- the three sentences of this library: read this first
 pub mod Headline
+-- the words of these sentences, and where each is defined
+pub mod Words
 -- sentence 1: what one address can tell of a run, by its own calls and the replies to them
 pub mod Replies
 -- sentence 1: which messages of a run are accepted

@@ -1,12 +1,9 @@
 -- What one address can tell of a run by its own calls and the replies to them: so a reader need not know when a signing succeeds,
 -- nor why a message is refused.
-use Rattle.std.specs.Prelude.{◌≡◌, ◌↔◌, ℕ, List, [], ◌∷◌, take, slice_get, Bool, true, false, if◌then◌else◌, Option, None, Some}
+use Rattle.std.specs.Prelude.{ℕ, List, [], ◌∷◌, Bool, true, false, if◌then◌else◌, Option, None, Some}
 use Rattle.std.specs.Option.{option_map, option_map_or}
 use Rattle.std.specs.declared.net.socket_addr.SocketAddr.{SocketAddr}
-use Rattle.std.specs.declared.vec.Vec.{Vec}
-use Rattle.std.specs.declared.alloc.Global.{Global}
 use Rattle.stun_base.specs.Credentials.{NameAndPassword}
-use Rattle.stun_base.specs.declared.algorithm.IntegrityAlgorithm.{IntegrityAlgorithm}
 use Rattle.stun_base.specs.declared.error.StunParseError.{StunParseError}
 use Rattle.stun_types.specs.Message.{refusal}
 use Rattle.stun_auth.specs.Forgetting.{place_kept}
@@ -15,7 +12,7 @@ use Rattle.stun_base.specs.MessageType.{is_response}
 use Rattle.stun_auth.specs.Reading.{Reading, reading_of}
 use Rattle.stun_auth.specs.Seen.{PlaceSeen}
 use Rattle.stun_auth.specs.Server.{Sight, named, standing}
-use Rattle.stun_auth.specs.Validation.{AcceptedWith, ServerSeen, needs_nonce, sight}
+use Rattle.stun_auth.specs.Validation.{needs_nonce}
 use Rattle.stun_proto.specs.declared.replay.call.ServerCall.{ServerCall}
 use Rattle.stun_proto.specs.declared.replay.call.ServerCall.TheVariants as Call
 use Rattle.stun_proto.specs.Isolation.{concerns}
@@ -105,12 +102,3 @@ sight_by_replies read a s [] given = s
 sight_by_replies read a s (call ∷ calls) [] = s
 sight_by_replies read a s (call ∷ calls) (r ∷ given) =
     if concerns a call then sight_by_replies read a (sight_by_reply read s call r) calls given else sight_by_replies read a s calls given
-
--- At each index of the list: a request or an indication is validated with an algorithm if and only if it is accepted by what its
--- address can tell there
-abbrev pub ValidatesByReplies : Reads → ServerSeen → List ServerCall → List Reply → Type 0
-ValidatesByReplies read start calls given =
-    (i : ℕ) (a : SocketAddr) (now : ℕ) (message : Vec ℕ Global) (words : List ℕ) (m : Reading) (algorithm : IntegrityAlgorithm)
-    → slice_get calls i ≡ Some (Call.Validate a now message words) → read message.items ≡ Some m → is_response m.class ≡ false
-    → (slice_get given i ≡ Some (Validated algorithm))
-    ↔ AcceptedWith (sight_by_replies read a (sight start a) (take i calls) given) now words m algorithm

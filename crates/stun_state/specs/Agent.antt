@@ -67,7 +67,8 @@ TIMEOUTS_SIZE = 40
 -- why time-outs are refused: they are those of another release, or have no wait
 abbrev pub timeouts_refusal : Timeouts → Option Refusal
 timeouts_refusal t =
-    if t.size == TIMEOUTS_SIZE then (if has_no_wait t then Some NoWait else None) else Some BadArgument
+    if t.size == TIMEOUTS_SIZE then (if has_no_wait t then Some NoWait else None)
+    else Some BadArgument
 
 -- an answer, unless it is to be given to such time-outs
 abbrev pub unless_untimed : {V : Type 0} → Timeouts → Result V Refusal → Result V Refusal
@@ -90,7 +91,9 @@ bound_to (Ok remote) a = Ok (record a { remote_addr = remote })
 -- the agent with these time-outs, where they are taken
 abbrev pub made_with : Result Agent Refusal → Address → Timeouts → Result Agent Refusal
 made_with (Err refusal) remote timeouts = Err refusal
-made_with (Ok a) remote timeouts = unless_untimed timeouts (bound_to (remote_given remote) (record a { settings = settings_of timeouts }))
+made_with (Ok a) remote timeouts =
+    unless_untimed timeouts
+    (bound_to (remote_given remote) (record a { settings = settings_of timeouts }))
 
 -- ---- messages
 
@@ -131,7 +134,8 @@ kept_after_naming a peer = after_address (socket_address peer) a (λ peer. agent
 
 -- the same once it is forgotten
 abbrev pub kept_after_forgetting : Agent → Address → Agent
-kept_after_forgetting a peer = after_address (socket_address peer) a (λ peer. agent.without_validated peer a)
+kept_after_forgetting a peer =
+    after_address (socket_address peer) a (λ peer. agent.without_validated peer a)
 
 -- ---- time
 
@@ -199,7 +203,8 @@ with_changed change (Some id) a = agent.with_transactions a (changed change id a
 
 -- the agent whose request of an id has other time-outs, where they are taken
 abbrev pub kept_after_configuring : Timeouts → Option ℕ → Agent → Agent
-kept_after_configuring t id a = kept_if_refused (timeouts_refusal t) a (with_changed (configured (settings_of t)) id a)
+kept_after_configuring t id a =
+    kept_if_refused (timeouts_refusal t) a (with_changed (configured (settings_of t)) id a)
 
 -- ---- what was counted
 

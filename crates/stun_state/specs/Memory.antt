@@ -24,8 +24,8 @@ abbrev pub message_adds_none : Agent → List ℕ → Option SocketAddr → Bool
 message_adds_none a bytes None = true
 message_adds_none a bytes (Some from) = is_some (refusal bytes) || (is_peer from a.peers || not (takes_message bytes from a))
 
--- bytes change nothing of a server: they come from no address, are no message, come from one too many, or change nothing at
--- their address
+-- bytes change nothing of a server: they come from no address, are no message, come from one too
+-- many, or change nothing at their address
 abbrev pub LeavesServer : Kept → List ℕ → ℕ → List ℕ → Option SocketAddr → Type 0
 LeavesServer k bytes now words None = ⊤
 LeavesServer k bytes now words (Some from) =

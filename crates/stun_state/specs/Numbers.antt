@@ -45,10 +45,11 @@ found_answer (Ok (Some algorithm)) = pos (algorithm_number algorithm)
 found_answer (Ok None) = pos 0
 found_answer (Err refusal) = code_of refusal
 
--- whether an answer of reading asks for another request: it is one of the numbers of `resend_number`
+-- whether an answer of reading asks for another request: it is a number of `resend_number`
 abbrev pub is_resend_answer : ℤ → Bool
 is_resend_answer answer =
-    not (int_lt answer (pos (resend_number None))) && not (int_lt (pos (resend_number (Some Sha256))) answer)
+    not (int_lt answer (pos (resend_number None)))
+    && not (int_lt (pos (resend_number (Some Sha256))) answer)
 
 -- a call answers this number and leaves this in its handle; or an allocation failed: it answers the number of that, and the
 -- handle is as before

@@ -65,26 +65,31 @@ validation_answer (Err reason) = Err (refusal_of_server reason)
 -- an address is refused of which nothing is kept, where something is kept of so many as may be
 abbrev pub room_refusal : ServerSeen → ℕ → SocketAddr → Option Refusal
 room_refusal s most from =
-    if nat_lt (map.len s.places) most || is_some (nonce_at s from) then None else Some TooManyAddresses
+    if nat_lt (map.len s.places) most || is_some (nonce_at s from) then None
+    else Some TooManyAddresses
 
 -- what is answered to bytes that came from an address
 abbrev pub validated : Kept → List ℕ → ℕ → List ℕ → SocketAddr → Result IntegrityAlgorithm Refusal
 validated k bytes now words from =
-    unless_refused (message_refusal (refusal bytes)) (unless_refused (room_refusal k.server k.most_addresses from)
+    unless_refused (message_refusal (refusal bytes))
+    (unless_refused (room_refusal k.server k.most_addresses from)
     (validation_answer (answer (sight k.server from) now words (reading_of bytes))))
 
 -- the server that they leave
 abbrev pub after_validating : Kept → List ℕ → ℕ → List ℕ → SocketAddr → ServerSeen
 after_validating k bytes now words from =
-    kept_if_refused (message_refusal (refusal bytes)) k.server (kept_if_refused (room_refusal k.server k.most_addresses from) k.server
+    kept_if_refused (message_refusal (refusal bytes)) k.server
+    (kept_if_refused (room_refusal k.server k.most_addresses from) k.server
     (after_message k.server from now words (reading_of bytes)))
 
 -- the number that a caller gets for bytes and an address, and the server that is kept then
 abbrev pub validation_number : Kept → List ℕ → Address → ℕ → List ℕ → ℤ
-validation_number k bytes from now words = algorithm_answer (at_address (socket_address from) (validated k bytes now words))
+validation_number k bytes from now words =
+    algorithm_answer (at_address (socket_address from) (validated k bytes now words))
 
 abbrev pub kept_after_validating : Kept → List ℕ → Address → ℕ → List ℕ → ServerSeen
-kept_after_validating k bytes from now words = after_address (socket_address from) k.server (after_validating k bytes now words)
+kept_after_validating k bytes from now words =
+    after_address (socket_address from) k.server (after_validating k bytes now words)
 
 -- ---- who was validated
 
@@ -94,7 +99,8 @@ client_at s address = option_and_then (λ (p : PlaceSeen). p.client) (map.get s.
 -- who is told, where a buffer of so many bytes has room for the name
 abbrev pub client_told : ℕ → Option ClientSeen → Result (Option IntegrityAlgorithm) Refusal
 client_told room None = Ok None
-client_told room (Some c) = if nat_lt room (length c.name) then Err BufferTooSmall else Ok (Some c.algorithm)
+client_told room (Some c) =
+    if nat_lt room (length c.name) then Err BufferTooSmall else Ok (Some c.algorithm)
 
 -- how long the name is, also where it has no room
 abbrev pub name_length_of : Option ClientSeen → ℕ → ℕ

@@ -126,8 +126,8 @@ pub fn new(alloc: Global, transport: u32, local: &Address) -> Result<StunAgent<G
     )
 }
 
-/// Refuses time-outs of another size, of which no other field is read, and those with which a request would be sent again without
-/// a wait.
+/// Refuses time-outs of another size, of which no other field is read, and those with which a
+/// request would be sent again without a wait.
 fn check_timeouts(timeouts: &Timeouts) -> Result<(), Refusal>
     ensures ok { OnOk result (timeouts_refusal timeouts.now ≡ None) }
     ensures err { IfErr result (λ refusal. timeouts_refusal timeouts.now ≡ Some refusal) }
@@ -440,7 +440,7 @@ fn told(stats: &StunAgentStats) -> Statistics
     }
 }
 
-/// What the agent counted. Statistics of another size are left, and no other field of theirs is read.
+/// What the agent counted. Statistics of another size are left, and nothing else of them is read.
 pub fn tell_statistics(
     agent: &StunAgent<Global>,
     statistics: &mut Statistics,

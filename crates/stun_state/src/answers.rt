@@ -7,7 +7,8 @@ use crate::codes::{Refusal, algorithm_number};
 use stun_auth::auth::LongTermClientValidation;
 use stun_base::algorithm::IntegrityAlgorithm;
 
-/// The number of a response that asks for another request, and that is not rightly signed; and the last number of one that is.
+/// The number of a response that asks for another request, and that is not rightly signed; and the
+/// last number of one that is.
 const RESEND: i64 = 3;
 
 const RESEND_SHA256: i64 = 5;

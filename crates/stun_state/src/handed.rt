@@ -1,17 +1,20 @@
-//! What the exports do with a server's authenticator and a user whom the caller hands in (RFC 8489, section 9.2.4).
+//! What the exports do with a server's authenticator and a user whom the caller hands in (RFC 8489,
+//! section 9.2.4).
 
 ghost use Rattle.std.specs.Prelude.{◌≡◌, ◌≤◌, ◌+◌, ◌-◌, ◌^◌, ◌<◌, ⊤, nat_lt, true, false, length, take, Some, None, Ok, Err, IfOk, IfErr, OnErr, OnOk};
 ghost use Rattle.stun_auth.specs.Additions.{WantsMemory, page_of};
 ghost use Rattle.stun_auth.specs.Handed.{just, with_users};
 ghost use Rattle.stun_auth.specs.Registered.{Registered};
 ghost use Rattle.stun_auth.specs.ServerSigning.{after_signing, server_additions, server_growth, server_signed};
-ghost use Rattle.stun_auth.specs.Validation.{sight};
+ghost use Rattle.stun_auth.specs.Reading.{reading_of};
+ghost use Rattle.stun_auth.specs.Validation.{after_message, answer, sight};
 ghost use Rattle.stun_base.specs.Header.{BeginsWithHeader};
 ghost use Rattle.stun_base.specs.MessageType.{class_in, is_response};
 ghost use Rattle.stun_types.specs.Limits.{LENGTH_LIMIT as length_limit};
 ghost use Rattle.stun_state.specs.Addresses.{socket_address};
 ghost use Rattle.stun_state.specs.Answers.{OrMemory, after_address, at_address, texts_refusal};
 ghost use Rattle.stun_state.specs.Handed.{handed, kept_after_signing_of, kept_after_validating_of, named_by, naming_answer, naming_length, naming_written, signed_of, validated_of};
+ghost use Rattle.stun_state.specs.Server.{validation_answer};
 ghost use Rattle.stun_state.specs.Signing.{buffer_after, is_too_long, length_of, message_of, server_signs, signed_by_server};
 ghost use Rattle.stun_state.specs.code.Measured.{IsMeasured};
 
@@ -32,8 +35,9 @@ use stun_types::limits::LENGTH_LIMIT;
 use stun_types::message::Message;
 use stun_types::prelude::*;
 
-/// By whose key a message from an address is judged: 1 by a name, 2 by its hash, which is at the front of the buffer then, or 0 where
-/// nobody is meant; and how long it is, also where the buffer has no room for it.
+/// By whose key a message from an address is judged: 1 by a name, 2 by its hash, which is at the
+/// front of the buffer then, or 0 where nobody is meant; and how long it is, also where the buffer
+/// has no room for it.
 pub fn named_user(
     server: &LongTermServerAuth<Global>,
     message: &[u8],
@@ -110,19 +114,36 @@ pub fn validate(
     let message = Message::from_bytes(message)?;
     check_room(&kept.server, kept.most_addresses, from)?;
     let mut user = prepared(alloc, &kept.server, name, password)?;
-    let mut source = WordSource::new(*words);
     let moment = Instant::from_nanos(now);
-    match kept
-        .server
-        .validate_incoming_message_of(&message, from, moment, &mut source, &mut user)
-    {
+    validate_message(&mut kept.server, &message, from, moment, *words, &mut user)
+}
+
+/// Who signed a message, where the server has just a user who is prepared.
+fn validate_message(
+    server: &mut LongTermServerAuth<Global>,
+    message: &Message<'_>,
+    from: SocketAddr,
+    now: Instant,
+    words: [u32; 16],
+    user: &mut LongTermServerUser<Global>,
+) -> Result<IntegrityAlgorithm, Refusal>
+    ensures answer { OrMemory result
+        (result ≡ validation_answer (answer (sight (with_users server.old user.old) from) now words
+        (reading_of message.now))) ⊤ }
+    ensures state { OrMemory result
+        (server.new ≡ with_users (after_message (with_users server.old user.old) from now words
+        (reading_of message.now)) server.old.registered)
+        (server.new ≡ server.old) }
+{
+    let mut source = WordSource::new(words);
+    match server.validate_incoming_message_of(message, from, now, &mut source, user) {
         Ok(validation) => Ok(validated_algorithm(validation)),
         Err(error) => Err(Refusal::from(error.reason())),
     }
 }
 
-/// Signs the message in the first `length` bytes of a buffer, which goes to an address, where the server has just the user of a name
-/// and a password. A refusal leaves the buffer.
+/// Signs the message in the first `length` bytes of a buffer, which goes to an address, where the
+/// server has just the user of a name and a password. A refusal leaves the buffer.
 pub fn sign(
     alloc: Global,
     server: &mut LongTermServerAuth<Global>,

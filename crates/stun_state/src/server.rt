@@ -171,8 +171,8 @@ pub fn forget_expired_within(
     Ok(u32::from(next.is_some()))
 }
 
-/// Who was validated last at an address: the algorithm of the key, the user's name at the front of the buffer, and how long that
-/// is, also where the buffer has no room for it.
+/// Who was validated last at an address: the algorithm of the key, the user's name at the front of
+/// the buffer, and how long that is, also where the buffer has no room for it.
 pub fn client(
     server: &LongTermServerAuth<Global>,
     at: &Address,

@@ -9,6 +9,7 @@ pub mod IntegrityLemmas
 pub mod MessageLemmas
 pub mod OnceLemmas
 pub mod ReadingLemmas
+pub mod SearchLemmas
 mod Sample
 pub mod ReachedLemmas
 pub mod SigningLemmas

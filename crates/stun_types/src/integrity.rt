@@ -10,6 +10,7 @@ ghost use Rattle.stun_types.specs.Integrity.{first_of as first_member_of, integr
 
 use crate::attribute::{ATTRIBUTE_HEADER_LENGTH, AttributeType, RawAttribute};
 use crate::message::{Message, StunParseError, ValidateError};
+use crate::walk::{deciding_place, first_place};
 use std::alloc::Allocator;
 use stun_base::algorithm::IntegrityAlgorithm;
 use stun_base::compare::is_same_text;
@@ -30,27 +31,9 @@ pub(crate) fn first_of<'a>(
     ensures first { result ≡ first_member_of kind.0 (visible message.now) }
     ensures within { IfSome result (IsWithin message.now) }
 {
-    message
-        .iter_attributes()
-        .find(|found| found.1.get_type() == kind)
-}
-
-/// The attribute whose digest decides, with its place: the stronger one, where both are visible.
-fn deciding_attribute<'a>(message: &Message<'a>) -> Option<(usize, RawAttribute<'a>)>
-    ensures deciding { result ≡ deciding message.now }
-    ensures within { IfSome result (IsWithin message.now) }
-{
-    let mut weaker = None;
-    for found in message.iter_attributes() {
-        let kind = found.1.get_type();
-        if kind == AttributeType::MESSAGE_INTEGRITY_SHA256 {
-            return Some(found);
-        }
-        if kind == AttributeType::MESSAGE_INTEGRITY && weaker.is_none() {
-            weaker = Some(found);
-        }
-    }
-    weaker
+    let bytes = message.as_bytes();
+    let place = first_place(bytes, kind)?;
+    Some((place, RawAttribute::at(bytes, place)?))
 }
 
 /// The algorithm of an integrity attribute.
@@ -87,7 +70,7 @@ fn claimed_digest<'a>(message: &Message<'a>) -> Result<(usize, RawAttribute<'a>)
     ensures none { IfErr result (λ _.
         (keys : IntegrityAlgorithm → List ℕ) → verified_by keys message.now ≡ None) }
 {
-    let Some((place, attribute)) = deciding_attribute(message) else {
+    let Some((place, attribute)) = message.deciding_attribute() else {
         return Err(ValidateError::Parse(StunParseError::MissingAttribute(
             AttributeType::MESSAGE_INTEGRITY,
         )));
@@ -189,7 +172,21 @@ impl RawAttribute<'_> {
     }
 }
 
-impl Message<'_> {
+impl<'a> Message<'a> {
+    /// The attribute whose digest decides whether the message verifies, with the place of its first
+    /// byte in the message: the first visible MESSAGE-INTEGRITY-SHA256, and without one the first
+    /// visible MESSAGE-INTEGRITY (RFC 8489, sections 14.5 and 14.6). Its length is not looked at. It
+    /// does not allocate.
+    ///
+    /// `validate_integrity_at` and `validate_integrity_prepared` take what it returns.
+    pub fn deciding_attribute(&self) -> Option<(usize, RawAttribute<'a>)>
+        ensures { result ≡ deciding self.now }
+    {
+        let bytes = self.as_bytes();
+        let place = deciding_place(bytes)?;
+        Some((place, RawAttribute::at(bytes, place)?))
+    }
+
     /// Verifies the digest of the message with these credentials, and answers its algorithm: under the password of a
     /// short-term one, or under the long-term key of the deciding attribute's algorithm. It does not allocate, and makes no
     /// key where no digest is to be compared. It refuses as `validate_integrity_with_key` does.
@@ -263,8 +260,9 @@ impl Message<'_> {
         Ok(integrity_algorithm(&attribute))
     }
 
-    /// The same as `validate_integrity_with_key`, where the caller has found the attribute that decides and its place already:
-    /// no attribute is walked. It does not allocate.
+    /// The same as `validate_integrity_with_key`, where the attribute that decides and its place are
+    /// known already: both are to be those that `deciding_attribute` returns for this message. No
+    /// attribute is walked, so that one walk does for many keys. It does not allocate.
     pub fn validate_integrity_at<A: Allocator>(
         &self,
         place: usize,
@@ -283,7 +281,8 @@ impl Message<'_> {
         Ok(integrity_algorithm(attribute))
     }
 
-    /// The same as `validate_integrity_at`, under a key that is prepared.
+    /// The same as `validate_integrity_at`, under a key that is prepared: place and attribute are to
+    /// be those that `deciding_attribute` returns for this message.
     pub fn validate_integrity_prepared<A: Allocator>(
         &self,
         place: usize,

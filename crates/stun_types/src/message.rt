@@ -13,9 +13,10 @@ ghost use Rattle.stun_types.specs.Visible.{visible};
 ghost use Rattle.stun_types.specs.Walk.{walk};
 ghost use Rattle.stun_types.specs.Writing.{IsOpen, begun, begun_answer};
 
-use crate::attribute::{AttributeFromRaw, AttributeStaticType, RawAttribute};
+use crate::attribute::{AttributeFromRaw, AttributeStaticType};
 pub use crate::attributes_iter::MessageAttributesIter;
 use crate::integrity::first_of;
+use crate::walk::kind_at;
 use crate::write::MessageWrite;
 pub use crate::write::{MessageWriteMutSlice, MessageWriteVec};
 use std::alloc::AllocError;
@@ -102,10 +103,10 @@ impl<'a> Message<'a> {
         }
         let mut place = HEADER_LENGTH;
         while place < end {
-            let Some(attribute) = RawAttribute::at(bytes, place) else {
+            let Some((_, behind)) = kind_at(bytes, place) else {
                 return Err(StunParseError::Truncated);
             };
-            place += attribute.padded_len();
+            place = behind;
         }
         Ok(Message { header, bytes })
     }

@@ -100,6 +100,15 @@ pub record IsNextTaken {A : Type 0} (d : Deadline) (old new : Node A) : Type 0 w
 abbrev pub TakesNext : {A : Type 0} → Node A → Option Deadline → Node A → Type 0
 TakesNext old taken new = MatchOption taken (IsAlone old × (new ≡ old)) (λ d. IsNextTaken d old new)
 
+-- the first of these, if there is any
+abbrev pub first_of : List Deadline → Option Deadline
+first_of [] = None
+first_of (d ∷ ds) = Some d
+
+-- the sooner of the two first ones below a node, if there is any
+abbrev pub next_of : {A : Type 0} → Node A → Option Deadline
+next_of node = if is_no_later (items node.left) (items node.right) then first_of (items node.left) else first_of (items node.right)
+
 -- it leads to nothing, or to a node that nothing is below
 abbrev pub IsLast : {A : Type 0} → Link A → Type 0
 IsLast Empty = Unit {0}
@@ -113,6 +122,11 @@ with_id least last id = if is_passed last id then least else sooner least id
 -- the least id after `last` among those whose moment has come
 abbrev pub least_come : ℕ → Option ℕ → List Deadline → Option ℕ
 least_come now last ds = fold sooner None (map (λ d. d.id) (filter (λ d. nat_le d.moment now && not (is_passed last d.id)) ds))
+
+-- the first of these has come, and there is one
+abbrev pub first_come : ℕ → List Deadline → Bool
+first_come now [] = false
+first_come now (d ∷ ds) = nat_le d.moment now
 
 -- how many nodes may be read to find an id from `low` on, where paths have so many: those of two paths, and those of one
 -- where there is no such id, or where none is passed

@@ -1,9 +1,9 @@
 //! Driven runs: the events at their moments, and a turn at each moment that a request awaits.
 ghost use Rattle.std.specs.Prelude.{◌+◌, List, IfOk, IfErr, OnOk, OnErr};
 ghost use Rattle.stun_proto.specs.code.Calls.{kept, HasPassed, TakesTurns, TakesWhole};
-ghost use Rattle.stun_proto.specs.Headline.{SendsByPlan};
+ghost use Rattle.stun_proto.specs.Headline.{IsDrivenByPlan};
 ghost use Rattle.stun_proto.specs.Run.{IsDriven, Turns};
-ghost use Rattle.stun_proto.specs.RunLaws.{KeepPlans, requester};
+ghost use Rattle.stun_proto.specs.RunLaws.{KeepPlans};
 ghost use Rattle.stun_proto.specs.Schedule.{AreInOrder};
 ghost use Rattle.stun_proto.specs.Steps.{Step, steps_of};
 ghost use Rattle.stun_proto.specs.Stopped.{HasStopped};
@@ -30,8 +30,9 @@ use stun_base::instant::Instant;
 /// A request that one event asks for, and that no response from its address, no cancellation and no
 /// change meets up to its end, is sent at its first moment and at the sums of its timeouts from
 /// there, at no other moment, and times out once (RFC 8489, section 6.2.1), whatever responses
-/// other addresses send. The clause `headline` says so of the steps that are answered, `run` that
-/// the agent made them, and `plans` says it for ids that come again.
+/// other addresses send. The clause `headline` says so, and that the answered steps are exactly
+/// those that this agent made; `run` says the latter alone, and `plans` the former for ids that
+/// come again.
 ///
 /// Where an allocation fails the answer is `Stopped`, and the steps are lost. The agent is then exactly the one after
 /// the first `done` events, with the turns at their moments and before the next one (where none is left, up to
@@ -46,8 +47,8 @@ pub fn drive<A: Allocator + Copy>(
     requires { AreInOrder until 0 events.now }
     ensures run { IfOk result (λ steps. IsDriven until agent.old events.now
         (steps_of steps.items) agent.new) }
-    ensures headline { IfOk result (λ steps. SendsByPlan until (requester agent.old) events.now
-        (steps_of steps.items)) }
+    ensures headline { IfOk result (λ steps. IsDrivenByPlan (IsDriven until) until agent.old
+        events.now (steps_of steps.items) agent.new) }
     ensures plans { IfOk result (λ steps. KeepPlans until agent.old events.now
         (steps_of steps.items)) }
     ensures stopped { IfErr result (λ stopped. HasStopped until stopped.done agent.old events.now agent.new) }

@@ -93,14 +93,14 @@ impl From<Stopped> for NegotiateError {
 ///
 /// A ready client is accepted with its second request and with the strongest algorithm that both
 /// sides support; the server knows it then, and it the server. Where there is none, it answers
-/// `UnsupportedFeature` and keeps nothing (RFC 8489, section 9.2). It is ready where it is new, has
-/// the name and password of a registered user, whose USERHASH no other has, comes from an address
-/// that is new to the server, and asks again while its nonce is current; where realm and name have
-/// at most 763 and 513 bytes; and where the calls between the steps are those of other addresses
-/// alone: none is on users or settings, and none is a `ForgetExpired`, which concerns every
-/// address. Nobody stands between the two, so nothing is said of a downgrade. The clause `headline`
-/// says the outcome, `strongest` how both sides are left, and `steps` that both went through the
-/// meeting.
+/// `UnsupportedFeature` and keeps nothing, and the server knows no client at its address (RFC 8489,
+/// section 9.2). It is ready where it is new, has the name and password of a registered user, whose
+/// USERHASH no other has, comes from an address that is new to the server, and asks again while its
+/// nonce is current; where realm and name have at most 763 and 513 bytes; and where the calls
+/// between the steps are those of other addresses alone: none is on users or settings, and none is
+/// a `ForgetExpired`, which concerns every address. Nobody stands between the two, so nothing is
+/// said of a downgrade. The clause `headline` says this; `strongest` says it without the two
+/// limits, where no signing is refused; and `steps` says that both went through the meeting.
 ///
 /// The answer is the outcome that ends the run: a first request that is accepted, a refusal of the server other than
 /// `Unauthorized` to the first request, a refusal of the client, an answer of the client to the 401 other than
@@ -131,7 +131,7 @@ pub fn negotiate<A: Allocator + Copy>(
     ensures headline { let m = meeting client.old.settings from ids moments words
         (lists between.entry) in
         (who : NameAndPassword) → IsReadyClient client.old.state m who server.old
-        → EndsAtStrongest m server.old result }
+        → EndsAtStrongest m who server.old result client.new.state server.new }
     ensures memory { let m = meeting client.old.settings from ids moments words
         (lists between.entry) in
         result ≡ Err NegotiateError.Memory → Contains (sides_of m client.old.state server.old)

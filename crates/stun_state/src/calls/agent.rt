@@ -50,7 +50,8 @@ pub extern "C" fn stunp_agent_new(
     }
 }
 
-/// The same with time-outs of the caller's, and with a remote address, to which alone the agent then sends.
+/// The same with time-outs of the caller's, and with a remote address, to which alone the agent
+/// then sends.
 #[unsafe(no_mangle)]
 pub extern "C" fn stunp_agent_new_with(
     alloc: Global,

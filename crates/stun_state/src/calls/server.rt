@@ -224,7 +224,8 @@ pub extern "C" fn stunp_server_validate(
           server = kept_after_validating kept message.now from.now now words.now;
         }))) }
 
-    // Where nothing of the server changes, as where the same client is accepted again, no failed allocation is answered.
+    // Where nothing of the server changes, as where the same client is accepted again, no failed
+    // allocation is answered.
     ensures unchanged { IfSome handle.old.server (λ kept.
         LeavesServer kept message.now now words.now (socket_address from.now) →
         result ≡ validation_number kept message.now from.now now words.now) }
@@ -333,7 +334,8 @@ pub extern "C" fn stunp_server_named_user(
     answer
 }
 
-/// Who signed a message that came from an address, where the server has just the user of a name and a password.
+/// Who signed a message that came from an address, where the server has just the user of a name and
+/// a password.
 #[unsafe(no_mangle)]
 pub extern "C" fn stunp_server_validate_of(
     alloc: Global,
@@ -364,7 +366,8 @@ pub extern "C" fn stunp_server_validate_of(
     answer
 }
 
-/// Signs the message at the front of a buffer, which goes to an address, where the server has just the user of a name and a password.
+/// Signs the message at the front of a buffer, which goes to an address, where the server has just
+/// the user of a name and a password.
 #[unsafe(no_mangle)]
 pub extern "C" fn stunp_server_sign_of(
     alloc: Global,

@@ -10,4 +10,5 @@ use Rattle.stun_state.proofs.handed.sign_long.Goals as goal
 pub sign_in-requires-clause-enough : goal.sign_in-requires-clause-enough
 sign_in-requires-clause-enough c =
     let message = take c.args.count c.args.buffer.now in
-    any_length (server_additions (sight (with_users c.args.server.now c.args.user.now) c.args.to) (is_response (class_in message))) message
+    let server = with_users c.args.server.now c.args.user.now in
+    any_length (server_additions (sight server c.args.to) (is_response (class_in message))) message

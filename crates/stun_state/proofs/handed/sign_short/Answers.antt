@@ -9,4 +9,6 @@ use Rattle.stun_state.proofs.handed.sign_short.Goals as goal
 pub sign_in-requires-clause-enough : goal.sign_in-requires-clause-enough
 sign_in-requires-clause-enough c =
     let message = take c.args.count c.args.buffer.now in
-    server_short (sight (with_users c.args.server.now c.args.user.now) c.args.to) (is_response (class_in message)) message 2048 c.requires.short
+    let server = with_users c.args.server.now c.args.user.now in
+    server_short (sight server c.args.to) (is_response (class_in message)) message 2048
+    c.requires.short

@@ -2,7 +2,7 @@ use Rattle.std.proofs.Common.{◌≡◌, [], drop, sym, arith, refl, ◌∙◌}
 use Rattle.std.proofs.lemmas.Bool.{eqb-false, eqb-true}
 use Rattle.std.proofs.lemmas.List.{drop_all}
 use Rattle.stun_proto.specs.Steps.{steps_of}
-use Rattle.stun_proto.proofs.DriveLemmas.{drop_next, run_start, run_more, run_stops, run_kept, is_driven}
+use Rattle.stun_proto.proofs.DriveLemmas.{drop_next, nothing_is_driven, run_start, run_more, run_stops, run_kept, is_driven}
 use Rattle.stun_proto.proofs.Driven.{keep_plans}
 use Rattle.stun_proto.proofs.Once.{nothing_is_asked, sends_by_plan}
 use Rattle.stun_proto.proofs.replay.driven.drive.Goals as goal
@@ -24,7 +24,12 @@ loop-moment-preserved g c =
     }
 
 pub returns-then-is_empty-clause-headline : goal.returns-then-is_empty-clause-headline
-returns-then-is_empty-clause-headline g c = nothing_is_asked _ c.args.agent.now _ (steps_of c.new-log.result.steps.items) (eqb-true _ 0 (sym c.is_empty.ensures ∙ c.if-is_empty.true))
+returns-then-is_empty-clause-headline g c =
+    let empty = eqb-true _ 0 (sym c.is_empty.ensures ∙ c.if-is_empty.true) in
+    record {
+      driven = nothing_is_driven _ _ _ c.new-log.result empty c.new-log.ensures;
+      by_plan = nothing_is_asked _ c.args.agent.now _ (steps_of c.new-log.result.steps.items) empty;
+    }
 
 pub returns-in-Err-clause-stopped : goal.returns-in-Err-clause-stopped
 returns-in-Err-clause-stopped g c =
@@ -52,5 +57,9 @@ returns-clause-plans g c =
 pub returns-clause-headline : goal.returns-clause-headline
 returns-clause-headline g c =
     let left : drop c.loop-moment.moment-index c.args.events.now ≡ [] = drop_all c.loop-moment.moment-index c.args.events.now (omega arith) in
-    sends_by_plan _ _ c.turns.new.agent _ (steps_of c.turns.new.log.steps.items) (omega arith) c.next_awaited-awaited.ensures.kept.ascending c.requires
-    (run_kept _ _ _ _ _ _ _ _ c.turns.new.log c.if-log.false (rw left at c.loop-moment.invariant.leads) (rw c.as_nanos-2.ensures at c.turns.ensures))
+    record {
+      driven = returns-clause-run g c;
+      by_plan =
+          sends_by_plan _ _ c.turns.new.agent _ (steps_of c.turns.new.log.steps.items) (omega arith) c.next_awaited-awaited.ensures.kept.ascending c.requires
+          (run_kept _ _ _ _ _ _ _ _ c.turns.new.log c.if-log.false (rw left at c.loop-moment.invariant.leads) (rw c.as_nanos-2.ensures at c.turns.ensures));
+    }

@@ -3,11 +3,12 @@ use Rattle.std.proofs.lemmas.List.{map-append}
 use Rattle.stun_auth.specs.Validation.{sight}
 use Rattle.stun_proto.specs.Accepting.{ValidatesAccepted}
 use Rattle.stun_proto.specs.Isolation.{IsIsolated}
-use Rattle.stun_proto.specs.Replies.{ValidatesByReplies, message_read}
+use Rattle.stun_proto.specs.Replies.{message_read}
 use Rattle.stun_proto.specs.Serving.{replies_of, reply_of}
 use Rattle.stun_proto.proofs.AcceptingLemmas.{validates_accepted}
+use Rattle.stun_proto.proofs.Digests.{digest_held}
 use Rattle.stun_proto.proofs.IsolationLemmas.{is_isolated, sight-after_calls}
-use Rattle.stun_proto.proofs.RepliesLemmas.{validates_by_replies}
+use Rattle.stun_proto.proofs.RepliesLemmas.{ValidatesByReplies, validates_by_replies}
 use Rattle.stun_proto.proofs.ServedCalls.{call_at, told_all, served_all, served_more, told_more}
 use Rattle.stun_proto.proofs.replay.serving.serve.Goals as goal
 
@@ -31,6 +32,7 @@ returns-clause-headline g c =
       replied = told;
       validated =
           subst (ValidatesByReplies message_read s calls) (sym told) (validates_by_replies s calls (validates_accepted c.accepted_messages_are_validated.ensures s calls));
+      digest = digest_held;
       isolated = returns-clause-isolated g c;
     }
 

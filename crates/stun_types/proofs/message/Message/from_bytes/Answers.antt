@@ -3,7 +3,7 @@ use Rattle.stun_base.specs.Header.{HEADER_LENGTH}
 use Rattle.stun_types.specs.Message.{IsMessage}
 use Rattle.stun_types.specs.Walk.{walk, taken}
 use Rattle.stun_types.proofs.HeaderLemmas.{fields_of}
-use Rattle.stun_types.proofs.VisibleLemmas.{StandsAt}
+use Rattle.stun_types.proofs.VisibleLemmas.{StandsAt-read}
 use Rattle.stun_types.proofs.MessageLemmas.{HasTaken-step, next_place-within, refusal-none, refusal-unfilled, taken-end, taken-all}
 use Rattle.stun_types.proofs.message.Message.from_bytes.Goals as goal
 
@@ -23,12 +23,8 @@ returns-in_default-clause-refused c =
 
 pub loop-place-preserved : goal.loop-place-preserved
 loop-place-preserved c =
-    let stands : StandsAt c.loop-place.place c.args.bytes.now c.in-Some.attribute c.in-Some.attribute.kind (c.loop-place.place + c.padded_len-place.result) = record {
-      whole = c.in-Some.ensures.whole;
-      attribute_is = c.in-Some.ensures.value;
-      kind_is = refl;
-      behind_is = ap (λ n. c.loop-place.place + n) c.padded_len-place.ensures;
-    } in
+    let read = c.in-Some.ensures in
+    let stands = StandsAt-read read.whole read.kind read.behind in
     record { taken = HasTaken-step c.loop-place.invariant.taken stands; within = next_place-within stands }
 
 -- the bytes are a message

@@ -115,7 +115,8 @@ neighbours=''
 # neighbour NAME HEADER MACRO OPTION..
 neighbour() {
     name=$1 macro=$3
-    printf '#include <%s>\nint main(void) { return 0; }\n' "$2" >"$scratch/probe.c"
+    printf '#include <stdint.h>\n#include <%s>\nint main(void) { return 0; }\n' "$2" \
+        >"$scratch/probe.c"
     shift 3
     "$cc" -std=gnu11 "$scratch/probe.c" "$@" -o "$scratch/probe" 2>/dev/null || return 0
     "$cc" -std=gnu11 -O1 -g -Wall -Wextra -Werror -I../include -I../examples/c -D"$macro" \

@@ -12,6 +12,8 @@
 #include <turn/ns_turn_msg.h>
 #endif
 #ifdef LIBRE
+#include <stdint.h> /* which re.h wants */
+
 #include <re.h>
 #endif
 

@@ -152,7 +152,7 @@ def in_c(archives):
 
 def in_rust(folder):
     command = block_after(readme(), "section 2.1.").split("\n", 1)
-    if command[0] != "make rust" or not prints("valid HMAC-SHA1\n", ["sh", "-ec", command[1]], cwd=TOP):
+    if command[0] != "make rust" or not prints("valid MESSAGE-INTEGRITY\n", ["sh", "-ec", command[1]], cwd=TOP):
         return False
     source = os.path.join(folder, "examples", "readme.rs")
     lines = block_after(readme(), "in `Cargo.toml`:")

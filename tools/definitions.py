@@ -76,6 +76,17 @@ class Definition:
         return "%s.%s" % (self.module.removeprefix("Rattle."), self.name)
 
 
+def one_line_each(paragraph):
+    """The lines of a paragraph, where imports that go over several lines are one line each."""
+    joined = []
+    for line in paragraph:
+        if joined and joined[-1].startswith(("use ", "pub use ")) and line.startswith((" ", "}")):
+            joined[-1] += line
+        else:
+            joined.append(line)
+    return joined
+
+
 class File:
     """A file of specs/."""
 
@@ -97,7 +108,7 @@ class File:
     def take(self, paragraph, first):
         """One paragraph: imports, or a definition."""
         rest = []
-        for line in paragraph:
+        for line in one_line_each(paragraph):
             if line.startswith(("use ", "pub use ")):
                 self.imports.read(line.removeprefix("pub ")[4:])
                 if line.startswith("pub "):

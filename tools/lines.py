@@ -1,7 +1,8 @@
 #!/usr/bin/env python3
 """Counts what is too long to read well, and fails if there is more than before.
 
-- `KIND lines`: lines of over 100 columns, in tables too, for each kind of file.
+- `KIND lines`: lines of over 100 columns, in tables too, for each kind of file. An import is not
+  counted if its path alone is that long.
 - `KIND files`: files of over 600 lines.
 - `functions`: functions of the sources of over 40 lines, with their clauses.
 
@@ -17,7 +18,7 @@ import sys
 import ratchet
 
 AT_MOST = {
-    "antt lines": 7100,
+    "antt lines": 6284,
     "c lines": 497,
     "md lines": 405,
     "py lines": 519,
@@ -41,6 +42,8 @@ KINDS = {".antt": "antt", ".c": "c", ".cpp": "c", ".go": "c", ".h": "c", ".hpp":
 NOT_OURS = {".git", "__pycache__", "out", "release", "scratch", "target"}
 # Files that other tools write, most of them or all.
 WRITTEN = {"docs/DEFINITIONS.md"}
+# An import whose path cannot be broken.
+LONG_PATH = re.compile(r"(?:pub )?use \S+(?: as \w+)?$")
 FUNCTION = re.compile(r'( *)(?:pub(?:\([^)]*\))? )?(?:(?:const|unsafe|extern "C") )*fn (\w+)')
 
 
@@ -76,7 +79,7 @@ def finds():
         with open(path) as opened:
             lines = opened.read().split("\n")
         for number, line in enumerate(lines, 1):
-            if len(line) > COLUMNS:
+            if len(line) > COLUMNS and not LONG_PATH.match(line):
                 yield kind + " lines", "%s:%d has %d columns" % (path, number, len(line))
         if len(lines) - 1 > LINES:
             yield kind + " files", "%s has %d lines" % (path, len(lines) - 1)

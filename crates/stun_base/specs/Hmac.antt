@@ -1,6 +1,7 @@
 -- The keyed hash HMAC (RFC 2104) over a hash function that works on blocks of 64 bytes, as SHA-1
 -- and SHA-256 do. The hash function is the first argument throughout: from a message to its digest.
-use Rattle.std.specs.Prelude.{ℕ, ◌-◌, List, ◌++◌, length, map, replicate, bit_xor, nat_lt, if◌then◌else◌}
+use Rattle.std.specs.Prelude.{ℕ, ◌-◌, List, ◌++◌, length, map}
+use Rattle.std.specs.Prelude.{replicate, bit_xor, nat_lt, if◌then◌else◌}
 
 -- the bytes of one block (section 2)
 abbrev pub block_length : ℕ

@@ -17,7 +17,8 @@ with_colon front back = front ++ codes ":" ++ back
 -- 9.2.2 and 18.5.1)
 abbrev pub long_term_key : IntegrityAlgorithm → List ℕ → List ℕ → List ℕ → List ℕ
 long_term_key Sha1 username realm password = md5 (with_colon (with_colon username realm) password)
-long_term_key Sha256 username realm password = sha256 (with_colon (with_colon username realm) password)
+long_term_key Sha256 username realm password =
+    sha256 (with_colon (with_colon username realm) password)
 
 -- whether bytes are the name, realm and password of a user: each is UTF-8
 abbrev pub are_utf8 : List ℕ → List ℕ → List ℕ → Bool

@@ -1,6 +1,8 @@
--- ERROR-CODE (RFC 8489, section 14.8): 21 reserved bits, zero when written and ignored when read, the hundreds digit of the
--- code in 3 bits, its remainder by 100 in 8 bits, and a reason phrase.
-use Rattle.std.specs.Prelude.{ℕ, ◌+◌, ◌*◌, ◌/◌, ◌%◌, ◌<◌, ◌≤◌, List, [], ◌∷◌, length, drop, slice_index, codes, nat_le, nat_lt, ◌==◌, ◌&&◌, ◌||◌, if◌then◌else◌, Option, Some, None, IsUtf8}
+-- ERROR-CODE (RFC 8489, section 14.8): 21 reserved bits, zero when written and ignored when read,
+-- the hundreds digit of the code in 3 bits, its remainder by 100 in 8 bits, and a reason phrase.
+use Rattle.std.specs.Prelude.{ℕ, ◌+◌, ◌*◌, ◌/◌, ◌%◌, ◌<◌, ◌≤◌, List, [], ◌∷◌, length}
+use Rattle.std.specs.Prelude.{drop, slice_index, codes, nat_le, nat_lt, ◌==◌, ◌&&◌}
+use Rattle.std.specs.Prelude.{◌||◌, if◌then◌else◌, Option, Some, None, IsUtf8}
 use Rattle.stun_base.specs.Attributes.{ERROR_CODE}
 use Rattle.stun_base.specs.declared.error.StunWriteError.{StunWriteError}
 use Rattle.stun_base.specs.declared.error.StunWriteError.TheVariants.{NotAllowed, TooLarge}
@@ -17,7 +19,8 @@ pub record CodeAndReason : Type 0 where
 abbrev pub default_reason : ℕ → List ℕ
 default_reason code =
     if code == 400 then codes "Bad Request"
-    else (if code == 401 then codes "Unauthorized" else (if code == 438 then codes "Stale Nonce" else []))
+    else (if code == 401 then codes "Unauthorized"
+    else (if code == 438 then codes "Stale Nonce" else []))
 
 -- why an error cannot be written, the first reason that holds: its code, then its reason
 abbrev pub error_refusal : CodeAndReason → Option StunWriteError
@@ -47,7 +50,8 @@ number_field value = slice_index value 3
 -- the code in the value, where class and number are those of a code
 abbrev pub code_in : List ℕ → Option ℕ
 code_in value =
-    if nat_le 3 (class_field value) && nat_le (class_field value) 6 && nat_le (number_field value) 99
+    if nat_le 3 (class_field value) && nat_le (class_field value) 6
+    && nat_le (number_field value) 99
     then Some (100 * class_field value + number_field value) else None
 
 -- an error of a code and a reason, where both are there
@@ -60,4 +64,5 @@ error_with None reason = None
 abbrev pub error_of : TypedValue → Option CodeAndReason
 error_of attribute =
     if attribute.kind == ERROR_CODE && nat_le 4 (length attribute.value)
-    then error_with (code_in attribute.value) (short_text TEXT_LIMIT (drop 4 attribute.value)) else None
+    then error_with (code_in attribute.value) (short_text TEXT_LIMIT (drop 4 attribute.value))
+    else None

@@ -1,5 +1,6 @@
 -- MESSAGE-INTEGRITY and MESSAGE-INTEGRITY-SHA256 as attributes (RFC 8489, sections 14.5 and 14.6).
-use Rattle.std.specs.Prelude.{◌≡◌, ℕ, ◌%◌, ◌≤◌, List, length, Option, Some, None, ◌==◌, ◌&&◌, if◌then◌else◌}
+use Rattle.std.specs.Prelude.{◌≡◌, ℕ, ◌%◌, ◌≤◌, List, length, Option}
+use Rattle.std.specs.Prelude.{Some, None, ◌==◌, ◌&&◌, if◌then◌else◌}
 use Rattle.std.proofs.Common.{rules}
 use Rattle.stun_base.specs.Attributes.{MESSAGE_INTEGRITY, MESSAGE_INTEGRITY_SHA256}
 use Rattle.stun_types.specs.Attribute.{TypedValue}
@@ -7,7 +8,8 @@ use Rattle.stun_types.specs.Integrity.{is_well_formed}
 
 -- the digest in an attribute of this type, where its length is one that the type has
 abbrev pub digest_of : ℕ → TypedValue → Option (List ℕ)
-digest_of kind attribute = if attribute.kind == kind && is_well_formed attribute then Some attribute.value else None
+digest_of kind attribute =
+    if attribute.kind == kind && is_well_formed attribute then Some attribute.value else None
 
 -- 16 to 32 bytes, a multiple of 4
 pub record IsSha256Digest (hmac : List ℕ) : Type 0 where
@@ -22,7 +24,8 @@ digest_of-written hmac whole = search rules
 
 -- a SHA-256 digest that is written is read again, a cut one too
 pub digest_of-written_sha256 : (hmac : List ℕ) → IsSha256Digest hmac
-    → digest_of MESSAGE_INTEGRITY_SHA256 (record { kind = MESSAGE_INTEGRITY_SHA256; value = hmac }) ≡ Some hmac
+    → digest_of MESSAGE_INTEGRITY_SHA256 (record { kind = MESSAGE_INTEGRITY_SHA256; value = hmac })
+    ≡ Some hmac
 digest_of-written_sha256 hmac fits =
     let least = fits.least in
     let most = fits.most in

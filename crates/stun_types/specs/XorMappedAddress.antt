@@ -1,6 +1,9 @@
--- XOR-MAPPED-ADDRESS (RFC 8489, section 14.2): a reserved byte, zero when written and ignored when read, the family, and the
--- port and the octets of an address, each xor the bytes of the magic cookie and the transaction id.
-use Rattle.std.specs.Prelude.{◌≡◌, ℕ, ◌<◌, ◌^◌, ◌⊎◌, Bool, List, [], ◌∷◌, ◌++◌, length, drop, slice_index, bit_xor, nat_le, ◌==◌, ◌&&◌, ◌||◌, if◌then◌else◌, Option, Some, None}
+-- XOR-MAPPED-ADDRESS (RFC 8489, section 14.2): a reserved byte, zero when written and ignored when
+-- read, the family, and the port and the octets of an address, each xor the bytes of the magic
+-- cookie and the transaction id.
+use Rattle.std.specs.Prelude.{◌≡◌, ℕ, ◌<◌, ◌^◌, ◌⊎◌, Bool, List, [], ◌∷◌, ◌++◌}
+use Rattle.std.specs.Prelude.{length, drop, slice_index, bit_xor, nat_le, ◌==◌}
+use Rattle.std.specs.Prelude.{◌&&◌, ◌||◌, if◌then◌else◌, Option, Some, None}
 use Rattle.std.specs.Net.Addr.{ipv4_octets, ipv6_octets, ipv6_segments, segments_of}
 use Rattle.std.specs.declared.net.ip_addr.IpAddr.{IpAddr}
 use Rattle.std.specs.declared.net.ip_addr.IpAddr.TheVariants.{V4, V6}
@@ -31,13 +34,17 @@ xor_bytes (x ∷ xs) (k ∷ ks) = bit_xor x k ∷ xor_bytes xs ks
 
 -- an address and a port, hidden
 abbrev pub xored : IpAddr → ℕ → ℕ → XoredAddress
-xored (V4 ip) port id = record { family = 1; port = xor_port port; octets = xor_bytes (ipv4_octets ip) (xor_key id) }
-xored (V6 ip) port id = record { family = 2; port = xor_port port; octets = xor_bytes (ipv6_octets ip) (xor_key id) }
+xored (V4 ip) port id =
+    record { family = 1; port = xor_port port; octets = xor_bytes (ipv4_octets ip) (xor_key id) }
+xored (V6 ip) port id =
+    record { family = 2; port = xor_port port; octets = xor_bytes (ipv6_octets ip) (xor_key id) }
 
 -- the address that is hidden under an id
 abbrev pub IsHidden : ℕ → XoredAddress → IpAddr → Type 0
-IsHidden id hidden (V4 ip) = (hidden.family ≡ 1) × (ipv4_octets ip ≡ xor_bytes hidden.octets (xor_key id))
-IsHidden id hidden (V6 ip) = (hidden.family ≡ 2) × (ipv6_segments ip ≡ segments_of (xor_bytes hidden.octets (xor_key id)))
+IsHidden id hidden (V4 ip) =
+    (hidden.family ≡ 1) × (ipv4_octets ip ≡ xor_bytes hidden.octets (xor_key id))
+IsHidden id hidden (V6 ip) =
+    (hidden.family ≡ 2) × (ipv6_segments ip ≡ segments_of (xor_bytes hidden.octets (xor_key id)))
 
 -- the value: a zero, the family, the port, the octets
 abbrev pub xored_value : XoredAddress → List ℕ
@@ -47,9 +54,11 @@ xored_value address = 0 ∷ address.family ∷ big_bytes 2 address.port ++ addre
 abbrev pub IsXored : XoredAddress → Type 0
 IsXored address =
     (address.port < 2 ^ 16)
-    × (((address.family ≡ 1) × (length address.octets ≡ 4)) ⊎ ((address.family ≡ 2) × (length address.octets ≡ 16)))
+    × (((address.family ≡ 1) × (length address.octets ≡ 4))
+    ⊎ ((address.family ≡ 2) × (length address.octets ≡ 16)))
 
--- whether an address of a family has so many octets: 4 where it is 1 (IPv4), 16 where it is 2 (IPv6)
+-- whether an address of a family has so many octets: 4 where it is 1 (IPv4), 16 where it is 2
+-- (IPv6)
 abbrev pub has_octets : ℕ → ℕ → Bool
 has_octets family count = (family == 1 && (count == 4)) || (family == 2 && (count == 16))
 

@@ -2,8 +2,11 @@
 use Rattle.std.specs.Prelude.{ℕ, List, codes}
 use Rattle.stun_base.specs.Keys.{short_term_key, long_term_key_of}
 use Rattle.stun_base.specs.declared.algorithm.IntegrityAlgorithm.{IntegrityAlgorithm}
-use Rattle.stun_base.specs.declared.credentials.MessageIntegrityCredentials.{MessageIntegrityCredentials}
-use Rattle.stun_base.specs.declared.credentials.MessageIntegrityCredentials.TheVariants.{ShortTerm, LongTerm}
+use Rattle.stun_base.specs.declared.credentials.MessageIntegrityCredentials.{
+  MessageIntegrityCredentials,
+}
+use Rattle.stun_base.specs.declared.credentials.MessageIntegrityCredentials.TheVariants.{ShortTerm}
+use Rattle.stun_base.specs.declared.credentials.MessageIntegrityCredentials.TheVariants.{LongTerm}
 
 -- the key for each algorithm: the password's bytes (section 9.1.1), or the long-term key (section
 -- 9.2.2)

@@ -7,7 +7,10 @@ use Rattle.stun_types.proofs.attribute.laws.hidden_and_read.Goals as goal
 
 pub returns-clause-ip : goal.returns-clause-ip
 returns-clause-ip c =
-    let hidden : IsHidden c.args.id (xored (socket_ip c.args.addr) (socket_port c.args.addr) c.args.id) (socket_ip c.addr.result) =
+    let hidden : IsHidden c.args.id
+    (xored (socket_ip c.args.addr) (socket_port c.args.addr) c.args.id) (socket_ip c.addr.result) =
     rw (← c.new.ensures) c.addr.ensures.ip in
-    let octets : HasOctets (socket_ip c.args.addr) = rw (← c.ip.ensures) c.octet_count-octets.ensures in
-    hidden_ip (socket_ip c.args.addr) (socket_ip c.addr.result) (socket_port c.args.addr) c.args.id octets hidden
+    let octets : HasOctets (socket_ip c.args.addr) =
+    rw (← c.ip.ensures) c.octet_count-octets.ensures in
+    hidden_ip (socket_ip c.args.addr) (socket_ip c.addr.result) (socket_port c.args.addr) c.args.id
+    octets hidden

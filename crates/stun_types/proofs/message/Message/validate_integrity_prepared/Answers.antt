@@ -5,7 +5,8 @@ use Rattle.stun_types.specs.code.Walk.{IsWithin}
 use Rattle.stun_types.proofs.IntegrityLemmas.{deciding_within}
 use Rattle.stun_types.proofs.message.Message.validate_integrity_prepared.Goals as goal
 
-pub is_prepared_digest-requires-clause-behind_header : goal.is_prepared_digest-requires-clause-behind_header
+pub is_prepared_digest-requires-clause-behind_header :
+    goal.is_prepared_digest-requires-clause-behind_header
 is_prepared_digest-requires-clause-behind_header g c =
     let m : Member = (c.args.place, c.args.attribute.now) in
     let within : IsWithin c.args.self.now m = deciding_within c.args.self.now (Some m) c.requires in

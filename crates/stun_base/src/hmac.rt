@@ -44,7 +44,7 @@ fn key_block<H: HashFunction>(key: &[u8]) -> [u8; BLOCK_LENGTH]
 /// The bytes, filled up to a block by zeros.
 fn filled(bytes: &[u8]) -> [u8; BLOCK_LENGTH]
     requires { length bytes.now ≤ 64 }
-    ensures { result ≡ spec.filled bytes.now }
+    ensures { result ≡ spec.block_of bytes.now }
 {
     let mut block = [0; BLOCK_LENGTH];
     block[..bytes.len()].copy_from_slice(bytes);
@@ -53,7 +53,7 @@ fn filled(bytes: &[u8]) -> [u8; BLOCK_LENGTH]
 
 /// Each byte of the block xor the pad.
 fn padded(block: &[u8; BLOCK_LENGTH], pad: u8) -> [u8; BLOCK_LENGTH]
-    ensures { result ≡ spec.padded pad block.now }
+    ensures { result ≡ spec.xor_pad pad block.now }
 {
     let mut masked = [0; BLOCK_LENGTH];
     for i in 0..BLOCK_LENGTH {
@@ -64,7 +64,7 @@ fn padded(block: &[u8; BLOCK_LENGTH], pad: u8) -> [u8; BLOCK_LENGTH]
 
 /// A hasher that holds the key's block under a pad.
 fn begun<H: HashFunction>(block: &[u8; BLOCK_LENGTH], pad: u8) -> H
-    ensures { H.holds result (spec.padded pad block.now) }
+    ensures { H.holds result (spec.xor_pad pad block.now) }
 {
     let mut hasher = H::start();
     hasher.feed(&padded(block, pad));

@@ -16,12 +16,12 @@ use Rattle.stun_base.specs.Header.{HEADER_LENGTH, type_field, length_field}
 use Rattle.stun_base.specs.Header.{cookie_field, transaction_id_field}
 use Rattle.stun_types.specs.Attribute.{TypedValue, padded_length, attribute_length}
 use Rattle.stun_types.specs.Attribute.{has_attribute, first_attribute, kind_field}
-use Rattle.stun_types.specs.Grammar.{BeginsWith, unpadded, spelled}
+use Rattle.stun_types.specs.Grammar.{BeginsWith, type_length_value, spelled}
 use Rattle.stun_types.specs.Grammar.{spelled_attribute, spelled_attributes}
 use Rattle.stun_types.specs.Message.{IsMessage, with_length}
 use Rattle.stun_types.specs.Visible.{before, counts, has_kind, visible}
 use Rattle.stun_types.specs.Walk.{Member, next_place, walk_up_to, walk_from, walk, taken}
-use Rattle.stun_types.specs.code.Walk.{IsWithin}
+use Rattle.stun_types.specs.code.Walk.{IsInside}
 use Rattle.stun_types.specs.Writing.{HasOneMore, IsAddable, IsOpen}
 use Rattle.stun_types.specs.Writing.{is_set_apart, length_with, with_attribute}
 use Rattle.stun_types.proofs.GrammarLemmas.{finds_what_is_written, read_again}
@@ -108,7 +108,7 @@ walk_from-added attribute place longer kind_fits value_fits stands =
     let n = length attribute.value in
     let padding : List ℕ = replicate (padded_length n - n) 0 in
     let begins : BeginsWith attribute padding [] (drop place longer) = record {
-      spelled = stands ∙ sym (append-nil (unpadded attribute ++ padding));
+      spelled = stands ∙ sym (append-nil (type_length_value attribute ++ padding));
       padded = rw length-replicate (omega arith);
       kind = kind_fits;
       value = value_fits;
@@ -273,7 +273,7 @@ pub visible-open : (message : List ℕ) → IsOpen message → visible message �
 unfolding visible
 visible-open message is_open =
     let none = HideNone-open message is_open in
-    filter-all (IsWithin message) (counts (walk message)) (walk message)
+    filter-all (IsInside message) (counts (walk message)) (walk message)
     (walk_up_to-within (length message) HEADER_LENGTH message (omega arith))
     (λ m within. counts-shown (walk message) m (HideNone-before m.0 (walk message) none))
 
@@ -288,7 +288,7 @@ visible-added message longer attribute is_open walked =
     let none = HideNone-open message is_open in
     let test = counts (members ++ last ∷ []) in
     let earlier =
-    filter-all (IsWithin message) test members
+    filter-all (IsInside message) test members
     (walk_up_to-within (length message) HEADER_LENGTH message (omega arith))
     (λ m within. counts-added members last m none (omega (arith, within.whole))) in
     let last_counts : test last ≡ true = counts-added members last last none (omega arith) in

@@ -15,7 +15,7 @@ use Rattle.stun_types.specs.declared.attribute.password_algorithm.PasswordAlgori
   MD5,
   SHA256,
 }
-use Rattle.stun_types.specs.PasswordAlgorithms.{algorithm_number, numbered}
+use Rattle.stun_types.specs.PasswordAlgorithms.{number_of_algorithm, algorithm_of_number}
 use Rattle.stun_types.specs.PasswordAlgorithms.{spelled_entry, spelled_entries}
 use Rattle.stun_types.specs.PasswordAlgorithms.{entries, entry_at_front, in_front_of}
 use Rattle.stun_types.specs.code.PasswordAlgorithms.{entry_list, are_entries}
@@ -159,8 +159,8 @@ pub record AreBytes (bytes : List ℕ) : Type 0 where
 
 -- an algorithm that is read has its number, and no parameters
 front-is : (kind parameters : ℕ) (algorithm : PasswordAlgorithmValue)
-    → (if parameters == 0 then numbered kind else None) ≡ Some algorithm
-    → (parameters ≡ 0) × (kind ≡ algorithm_number algorithm)
+    → (if parameters == 0 then algorithm_of_number kind else None) ≡ Some algorithm
+    → (parameters ≡ 0) × (kind ≡ number_of_algorithm algorithm)
 front-is kind parameters MD5 read = (grind (arith, nat_tests), grind (arith, nat_tests))
 front-is kind parameters SHA256 read = (grind (arith, nat_tests), grind (arith, nat_tests))
 

@@ -13,7 +13,7 @@ use Rattle.byteorder.specs.Numbers.{big_number-reads_back}
 use Rattle.stun_types.specs.Attribute.{TypedValue, padded_length, attribute_length, kind_field}
 use Rattle.stun_types.specs.Attribute.{value_length_field, has_attribute, first_attribute}
 use Rattle.stun_types.specs.Walk.{Member, next_place, walk_up_to, walk_from, taken, attributes_of}
-use Rattle.stun_types.specs.Grammar.{BeginsWith, unpadded, AreSpelled, SpellsWhatIsFound}
+use Rattle.stun_types.specs.Grammar.{BeginsWith, type_length_value, AreSpelled, SpellsWhatIsFound}
 use Rattle.stun_types.specs.Grammar.{FindsWhatIsSpelled, spelled_attribute, spelled_attributes}
 use Rattle.stun_types.specs.Grammar.{spelled, IsSpellable, FindsWhatIsWritten}
 use Rattle.std.specs.List.{AllByRecursion}
@@ -55,7 +55,7 @@ first_padding bytes =
 
 -- the front is the attribute that is there, its padding, and the others
 pub front-spelled : (bytes : List ℕ) → AreBytes bytes → has_attribute bytes ≡ true →
-    bytes ≡ unpadded (first_attribute bytes) ++ first_padding bytes
+    bytes ≡ type_length_value (first_attribute bytes) ++ first_padding bytes
     ++ drop (attribute_length (length (first_attribute bytes).value)) bytes
 front-spelled [] fits whole = cc
 front-spelled (x ∷ []) fits whole = cc
@@ -103,7 +103,8 @@ begins_with place bytes fits whole =
     let behind = drop-drop (attribute_length (length (first_attribute front).value)) place bytes in
     record {
       spelled = front-spelled front front_fits whole
-          ∙ ap (λ rest. unpadded (first_attribute front) ++ first_padding front ++ rest) behind;
+          ∙ ap (λ rest. type_length_value (first_attribute front) ++ first_padding front ++ rest)
+          behind;
       padded = length-first_padding front whole;
       kind = omega (arith, front_fits.each 0, front_fits.each 1);
       value = omega (arith, length-first_value front whole, length_fits.each 0, length_fits.each 1);
@@ -144,7 +145,7 @@ pub record IsReadAgain (attribute : TypedValue) (rest bytes : List ℕ) : Type 0
 pub read_again : (attribute : TypedValue) (padding rest bytes : List ℕ)
     → BeginsWith attribute padding rest bytes → IsReadAgain attribute rest bytes
 read_again attribute padding rest bytes begins =
-    let text = unpadded attribute ++ padding ++ rest in
+    let text = type_length_value attribute ++ padding ++ rest in
     let tail = attribute.value ++ padding ++ rest in
     let kind : kind_field text ≡ attribute.kind =
     big_number-reads_back 2 attribute.kind (big_bytes 2 (length attribute.value) ++ tail)

@@ -17,7 +17,7 @@ use Rattle.stun_types.specs.Message.{with_length}
 use Rattle.stun_types.specs.Tail.{besides_fingerprint, place_behind}
 use Rattle.stun_types.specs.Visible.{before, counts, counts_behind, has_kind, visible}
 use Rattle.stun_types.specs.Walk.{Member, next_place, walk_up_to, walk_from, walk}
-use Rattle.stun_types.specs.code.Walk.{IsWithin}
+use Rattle.stun_types.specs.code.Walk.{IsInside}
 use Rattle.stun_types.proofs.IntegrityLemmas.{walk_up_to-within}
 use Rattle.stun_types.proofs.ReachedLemmas.{Reaches, length-front, walk-divided, walk_up_to-reaches}
 use Rattle.stun_types.proofs.WalkLemmas.{before-walk_from}
@@ -147,7 +147,7 @@ visible-divided bytes m reaches counted =
     let test = counts (walk bytes) in
     let long = length-front reaches in
     let earlier : filter test (walk front) ≡ filter (counts (walk front)) (walk front) =
-    filter-agree (IsWithin front) test (counts (walk front)) (walk front)
+    filter-agree (IsInside front) test (counts (walk front)) (walk front)
     (walk_up_to-within (length front) HEADER_LENGTH front (omega arith))
     (λ n within. counts-front bytes m n reaches (omega (arith, within.whole, long))) in
     ap (filter test) (walk-divided bytes m reaches)

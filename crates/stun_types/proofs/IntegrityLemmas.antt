@@ -13,7 +13,7 @@ use Rattle.stun_base.specs.Attributes.{MESSAGE_INTEGRITY, MESSAGE_INTEGRITY_SHA2
 use Rattle.stun_base.specs.Header.{HEADER_LENGTH}
 use Rattle.stun_types.specs.Attribute.{has_attribute, first_attribute}
 use Rattle.stun_types.specs.Walk.{Member, next_place, walk_up_to, walk}
-use Rattle.stun_types.specs.code.Walk.{IsWithin}
+use Rattle.stun_types.specs.code.Walk.{IsInside}
 use Rattle.stun_types.specs.Visible.{counts, visible}
 use Rattle.stun_types.specs.Integrity.{first_of, deciding, covered}
 use Rattle.stun_types.proofs.WalkLemmas.{whole_within}
@@ -29,21 +29,21 @@ IfSome-find P test (x ∷ xs) all =
 -- the attribute at a place is within
 first_within : (place : ℕ) (bytes : List ℕ) → HEADER_LENGTH ≤ place
     → has_attribute (drop place bytes) ≡ true
-    → IsWithin bytes (place, first_attribute (drop place bytes))
+    → IsInside bytes (place, first_attribute (drop place bytes))
 first_within place bytes behind whole =
     record { behind_header = behind; whole = omega (arith, whole_within place bytes whole) }
 
 -- each attribute of a walk is within
 pub walk_up_to-within : (most place : ℕ) (bytes : List ℕ) → HEADER_LENGTH ≤ place
-    → AllByRecursion (IsWithin bytes) (walk_up_to most place bytes)
+    → AllByRecursion (IsInside bytes) (walk_up_to most place bytes)
 unfolding walk_up_to
 walk_up_to-within zero place bytes behind = tt
 walk_up_to-within (suc most) place bytes behind =
     let rest = walk_up_to-within most (next_place place bytes) bytes (omega arith) in
     let first = first_within place bytes behind in
     elim (has_attribute (drop place bytes)) as (λ whole.
-    (whole ≡ true → IsWithin bytes (place, first_attribute (drop place bytes))) →
-    AllByRecursion (IsWithin bytes)
+    (whole ≡ true → IsInside bytes (place, first_attribute (drop place bytes))) →
+    AllByRecursion (IsInside bytes)
     (cond whole
     ((place, first_attribute (drop place bytes)) ∷ walk_up_to most (next_place place bytes) bytes)
     [])) [
@@ -52,19 +52,19 @@ walk_up_to-within (suc most) place bytes behind =
     ] first
 
 -- each attribute that counts is within
-pub visible-within : (bytes : List ℕ) → AllByRecursion (IsWithin bytes) (visible bytes)
+pub visible-within : (bytes : List ℕ) → AllByRecursion (IsInside bytes) (visible bytes)
 unfolding visible
 visible-within bytes =
-    recursion_from_All (IsWithin bytes) _
-    (All-filter (counts (walk bytes)) (IsWithin bytes) (walk bytes)
-    (All-from_recursion (IsWithin bytes) _
+    recursion_from_All (IsInside bytes) _
+    (All-filter (counts (walk bytes)) (IsInside bytes) (walk bytes)
+    (All-from_recursion (IsInside bytes) _
     (walk_up_to-within (length bytes) HEADER_LENGTH bytes (omega arith))))
 
 -- the first attribute of a type is within
 pub first_of-within : (kind : ℕ) (bytes : List ℕ)
-    → IfSome (first_of kind (visible bytes)) (IsWithin bytes)
+    → IfSome (first_of kind (visible bytes)) (IsInside bytes)
 first_of-within kind bytes =
-    IfSome-find (IsWithin bytes) (λ m. m.1.kind == kind) (visible bytes) (visible-within bytes)
+    IfSome-find (IsInside bytes) (λ m. m.1.kind == kind) (visible bytes) (visible-within bytes)
 
 -- what holds of one or else the other, where it holds of each
 IfSome-option_or : {X : Type 0} (P : X → Type 0) (one other : Option X) → IfSome one P
@@ -74,10 +74,10 @@ IfSome-option_or P None other holds others = others
 
 -- the attribute that decides is within
 pub deciding_within : (bytes : List ℕ) (found : Option Member) → deciding bytes ≡ found
-    → IfSome found (IsWithin bytes)
+    → IfSome found (IsInside bytes)
 deciding_within bytes found decides =
-    subst (λ found. IfSome found (IsWithin bytes)) decides
-    (IfSome-option_or (IsWithin bytes) (first_of MESSAGE_INTEGRITY_SHA256 (visible bytes))
+    subst (λ found. IfSome found (IsInside bytes)) decides
+    (IfSome-option_or (IsInside bytes) (first_of MESSAGE_INTEGRITY_SHA256 (visible bytes))
     (first_of MESSAGE_INTEGRITY (visible bytes))
     (first_of-within MESSAGE_INTEGRITY_SHA256 bytes) (first_of-within MESSAGE_INTEGRITY bytes))
 

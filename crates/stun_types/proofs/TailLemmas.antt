@@ -10,16 +10,16 @@ use Rattle.stun_types.specs.Integrity.{covered, deciding, first_of, verified_at,
 use Rattle.stun_types.specs.Message.{with_length}
 use Rattle.stun_types.specs.Visible.{visible}
 use Rattle.stun_types.specs.Walk.{Member}
-use Rattle.stun_types.specs.code.Walk.{IsWithin}
+use Rattle.stun_types.specs.code.Walk.{IsInside}
 use Rattle.stun_types.proofs.IntegrityLemmas.{first_of-within}
 use Rattle.stun_types.proofs.SigningLemmas.{with_length-again}
 
 -- the deciding attribute is after the header and within the bytes
-deciding-within : (bytes : List ℕ) → IfSome (deciding bytes) (IsWithin bytes)
+deciding-within : (bytes : List ℕ) → IfSome (deciding bytes) (IsInside bytes)
 deciding-within bytes =
     elim (first_of MESSAGE_INTEGRITY_SHA256 (visible bytes)) as (λ found.
-    IfSome found (IsWithin bytes)
-    → IfSome (option_or found (first_of MESSAGE_INTEGRITY (visible bytes))) (IsWithin bytes)) [
+    IfSome found (IsInside bytes)
+    → IfSome (option_or found (first_of MESSAGE_INTEGRITY (visible bytes))) (IsInside bytes)) [
       | Some m ↦ λ within. within
       | None ↦ λ within. first_of-within MESSAGE_INTEGRITY bytes
     ] (first_of-within MESSAGE_INTEGRITY_SHA256 bytes)
@@ -28,8 +28,8 @@ deciding-within bytes =
 pub long_before : (bytes : List ℕ) (m : Member) → deciding bytes ≡ Some m
     → 20 ≤ length (take m.0 bytes)
 long_before bytes m decides =
-    let within : IsWithin bytes m =
-    subst (λ found. IfSome found (IsWithin bytes)) decides (deciding-within bytes) in
+    let within : IsInside bytes m =
+    subst (λ found. IfSome found (IsInside bytes)) decides (deciding-within bytes) in
     let long = length-take-le m.0 bytes (omega (arith, within.whole)) in
     omega (arith, long, within.behind_header)
 

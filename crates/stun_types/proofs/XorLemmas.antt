@@ -8,7 +8,7 @@ use Rattle.std.specs.declared.net.ip_addr.IpAddr.TheVariants.{V4, V6}
 use Rattle.std.specs.declared.net.ipv4_addr.Ipv4Addr.{Ipv4Addr}
 use Rattle.std.specs.declared.net.ipv6_addr.Ipv6Addr.{Ipv6Addr}
 use Rattle.stun_types.specs.code.AttributeLaws.{HasOctets}
-use Rattle.stun_types.specs.XorMappedAddress.{IsHidden, xor_bytes, xor_key, xor_port, xored}
+use Rattle.stun_types.specs.XorMappedAddress.{IsHidden, xor_bytes, xor_key, xor_port, xored_address}
 
 -- one byte more, at a successor
 xor_bytes-suc : (xs ks : List ℕ) (i : ℕ) → i < length xs → i < length ks
@@ -56,7 +56,7 @@ same_ipv6 one other segments = λ i. record { segments = segments i }
 
 -- the address that is hidden under the id under which it was hidden
 pub hidden_ip : (ip other : IpAddr) (port id : ℕ) → HasOctets ip
-    → IsHidden id (xored ip port id) other → other ≡ ip
+    → IsHidden id (xored_address ip port id) other → other ≡ ip
 hidden_ip (V4 ip) (V4 other) port id whole hidden =
     let octets : ipv4_octets other ≡ ipv4_octets ip =
     hidden.1 ∙ xor_bytes-twice (ipv4_octets ip) (xor_key id) (omega (arith, whole)) in

@@ -19,13 +19,13 @@ use Rattle.stun_types.specs.declared.attribute.password_algorithm.PasswordAlgori
 }
 
 -- the number of an algorithm (section 18.5.1)
-abbrev pub algorithm_number : PasswordAlgorithmValue → ℕ
-algorithm_number MD5 = 0x0001
-algorithm_number SHA256 = 0x0002
+abbrev pub number_of_algorithm : PasswordAlgorithmValue → ℕ
+number_of_algorithm MD5 = 0x0001
+number_of_algorithm SHA256 = 0x0002
 
 -- the algorithm of a number, where it is known
-abbrev pub numbered : ℕ → Option PasswordAlgorithmValue
-numbered number =
+abbrev pub algorithm_of_number : ℕ → Option PasswordAlgorithmValue
+algorithm_of_number number =
     if number == 0x0001 then Some MD5 else (if number == 0x0002 then Some SHA256 else None)
 
 -- the digest of message integrity under a key that the algorithm makes (section 18.5.1)
@@ -40,7 +40,7 @@ password_algorithm_of Sha256 = SHA256
 
 -- an entry as it is written: a number, and no parameters
 abbrev pub spelled_entry : PasswordAlgorithmValue → List ℕ
-spelled_entry algorithm = big_bytes 2 (algorithm_number algorithm) ++ big_bytes 2 0
+spelled_entry algorithm = big_bytes 2 (number_of_algorithm algorithm) ++ big_bytes 2 0
 
 -- the entries of a list, one after the other
 abbrev pub spelled_entries : List PasswordAlgorithmValue → List ℕ
@@ -49,7 +49,7 @@ spelled_entries list = flat_map spelled_entry list
 -- the algorithm of the entry that bytes begin with: a known number without parameters
 abbrev pub entry_at_front : List ℕ → Option PasswordAlgorithmValue
 entry_at_front bytes =
-    if big_number 2 (drop 2 bytes) == 0 then numbered (big_number 2 bytes) else None
+    if big_number 2 (drop 2 bytes) == 0 then algorithm_of_number (big_number 2 bytes) else None
 
 -- an algorithm in front of others, where all are known
 abbrev pub in_front_of : Option (List PasswordAlgorithmValue) → Option PasswordAlgorithmValue

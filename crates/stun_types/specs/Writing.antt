@@ -135,10 +135,10 @@ SpellsOneMore before after attribute =
     → after ≡ spelled kind id (list ++ attribute ∷ [])
 
 -- a message of a class and a method, without attributes
-abbrev pub begun : MessageClass → ℕ → ℕ → List ℕ
-begun class method id = spelled (type_number class method) id []
+abbrev pub empty_message : MessageClass → ℕ → ℕ → List ℕ
+empty_message class method id = spelled (type_number class method) id []
 
 -- a message of a class that answers another, with its method and id and without attributes
-abbrev pub begun_answer : MessageClass → List ℕ → List ℕ
-begun_answer class message =
-    begun class (method_of (type_field message)) (transaction_id_field message)
+abbrev pub empty_answer : MessageClass → List ℕ → List ℕ
+empty_answer class message =
+    empty_message class (method_of (type_field message)) (transaction_id_field message)

@@ -33,10 +33,10 @@ xor_bytes (x ∷ xs) [] = []
 xor_bytes (x ∷ xs) (k ∷ ks) = bit_xor x k ∷ xor_bytes xs ks
 
 -- an address and a port, hidden
-abbrev pub xored : IpAddr → ℕ → ℕ → XoredAddress
-xored (V4 ip) port id =
+abbrev pub xored_address : IpAddr → ℕ → ℕ → XoredAddress
+xored_address (V4 ip) port id =
     record { family = 1; port = xor_port port; octets = xor_bytes (ipv4_octets ip) (xor_key id) }
-xored (V6 ip) port id =
+xored_address (V6 ip) port id =
     record { family = 2; port = xor_port port; octets = xor_bytes (ipv6_octets ip) (xor_key id) }
 
 -- the address that is hidden under an id

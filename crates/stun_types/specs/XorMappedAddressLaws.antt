@@ -7,9 +7,9 @@ use Rattle.stun_types.specs.XorMappedAddress.{IsXored, XoredAddress, has_octets}
 use Rattle.stun_types.specs.XorMappedAddress.{xored_of, xored_value}
 
 -- a port is read from its two bytes
-port-written : (port : ℕ) (rest : List ℕ) → port < 2 ^ 16
+port-reads_back : (port : ℕ) (rest : List ℕ) → port < 2 ^ 16
     → big_number 2 ((port / 256 % 256) ∷ (port % 256) ∷ rest) ≡ port
-port-written port rest fits = omega arith
+port-reads_back port rest fits = omega arith
 
 -- the octets of either family are as many as it has
 has_octets-holds : (family count : ℕ) → ((family ≡ 1) × (count ≡ 4)) ⊎ ((family ≡ 2) × (count ≡ 16))
@@ -23,5 +23,5 @@ pub xored_of-written : (address : XoredAddress) → IsXored address
 xored_of-written address fits =
     rw (
       has_octets-holds address.family (length address.octets) fits.1,
-      port-written address.port address.octets fits.0,
+      port-reads_back address.port address.octets fits.0,
     ) (search rules)

@@ -5,7 +5,7 @@ ghost use Rattle.stun_base.specs.Algorithm.{digest_length};
 ghost use Rattle.stun_base.specs.Header.{HEADER_LENGTH as header_length};
 ghost use Rattle.stun_base.specs.Keys.OfCredentials.{keys_of};
 ghost use Rattle.stun_types.specs.Visible.{visible};
-ghost use Rattle.stun_types.specs.code.Walk.{IsWithin};
+ghost use Rattle.stun_types.specs.code.Walk.{IsInside};
 ghost use Rattle.stun_types.specs.Integrity.{first_of as first_member_of, integrity_algorithm, deciding, is_digest, is_integrity, is_well_formed, verified_algorithm, verified_by, integrity_refusal};
 
 use crate::attribute::{ATTRIBUTE_HEADER_LENGTH, AttributeType, RawAttribute};
@@ -29,7 +29,7 @@ pub(crate) fn first_of<'a>(
     kind: AttributeType,
 ) -> Option<(usize, RawAttribute<'a>)>
     ensures first { result ≡ first_member_of kind.0 (visible message.now) }
-    ensures within { IfSome result (IsWithin message.now) }
+    ensures within { IfSome result (IsInside message.now) }
 {
     let bytes = message.as_bytes();
     let place = first_place(bytes, kind)?;
@@ -64,7 +64,7 @@ pub(crate) fn is_well_formed(attribute: &RawAttribute<'_>) -> bool
 fn claimed_digest<'a>(message: &Message<'a>) -> Result<(usize, RawAttribute<'a>), ValidateError>
     ensures deciding { IfOk result (λ m. deciding message.now ≡ Some m) }
     ensures whole { IfOk result (λ m. length m.1.value ≡ digest_length (integrity_algorithm m.1)) }
-    ensures within { IfOk result (IsWithin message.now) }
+    ensures within { IfOk result (IsInside message.now) }
     ensures compared { OnOk result (integrity_refusal message.now ≡ ValidateError.IntegrityFailed) }
     ensures refused { IfErr result (λ error. error ≡ integrity_refusal message.now) }
     ensures none { IfErr result (λ _.

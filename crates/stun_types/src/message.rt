@@ -11,7 +11,7 @@ ghost use Rattle.stun_types.specs.Message.{IsMessage, refusal};
 ghost use Rattle.stun_types.specs.Reading.{attribute_answer};
 ghost use Rattle.stun_types.specs.Visible.{visible};
 ghost use Rattle.stun_types.specs.Walk.{walk};
-ghost use Rattle.stun_types.specs.Writing.{IsOpen, begun, begun_answer};
+ghost use Rattle.stun_types.specs.Writing.{IsOpen, empty_message, empty_answer};
 
 use crate::attribute::{AttributeFromRaw, AttributeStaticType};
 pub use crate::attributes_iter::MessageAttributesIter;
@@ -145,7 +145,7 @@ impl<'a> Message<'a> {
     ) -> Result<W, StunWriteError>
         requires { W.bytes writer ≡ [] }
         ensures bytes { IfOk result (λ built. W.bytes built
-            ≡ begun MessageClass.Request method id) }
+            ≡ empty_message MessageClass.Request method id) }
         ensures open { IfOk result (λ built. IsOpen (W.bytes built)) }
         ensures empty { IfOk result (λ built. walk (W.bytes built) ≡ []) }
         ensures room { IfOk result (λ built. W.room built + header_length ≡ W.room writer) }
@@ -170,7 +170,7 @@ impl<'a> Message<'a> {
     ) -> Result<W, StunWriteError>
         requires { W.bytes writer ≡ [] }
         ensures bytes { IfOk result (λ built. W.bytes built
-            ≡ begun MessageClass.Indication method id) }
+            ≡ empty_message MessageClass.Indication method id) }
         ensures open { IfOk result (λ built. IsOpen (W.bytes built)) }
         ensures empty { IfOk result (λ built. walk (W.bytes built) ≡ []) }
         ensures room { IfOk result (λ built. W.room built + header_length ≡ W.room writer) }
@@ -195,7 +195,7 @@ impl<'a> Message<'a> {
     ) -> Result<W, StunWriteError>
         requires { W.bytes writer ≡ [] }
         ensures bytes { IfOk result (λ built. W.bytes built
-            ≡ begun_answer MessageClass.Success message.now) }
+            ≡ empty_answer MessageClass.Success message.now) }
         ensures open { IfOk result (λ built. IsOpen (W.bytes built)) }
         ensures empty { IfOk result (λ built. walk (W.bytes built) ≡ []) }
         ensures room { IfOk result (λ built. W.room built + header_length ≡ W.room writer) }
@@ -220,7 +220,7 @@ impl<'a> Message<'a> {
     ) -> Result<W, StunWriteError>
         requires { W.bytes writer ≡ [] }
         ensures bytes { IfOk result (λ built. W.bytes built
-            ≡ begun_answer MessageClass.Error message.now) }
+            ≡ empty_answer MessageClass.Error message.now) }
         ensures open { IfOk result (λ built. IsOpen (W.bytes built)) }
         ensures empty { IfOk result (λ built. walk (W.bytes built) ≡ []) }
         ensures room { IfOk result (λ built. W.room built + header_length ≡ W.room writer) }

@@ -4,6 +4,6 @@ use Rattle.stun_base.specs.Header.{HEADER_LENGTH}
 use Rattle.stun_types.specs.Walk.{Member}
 
 -- an attribute is after the header and within the bytes
-pub record IsWithin (bytes : List ℕ) (m : Member) : Type 0 where
+pub record IsInside (bytes : List ℕ) (m : Member) : Type 0 where
   pub behind_header : HEADER_LENGTH ≤ m.0
   pub whole : m.0 + 4 + length m.1.value ≤ length bytes

@@ -4,9 +4,9 @@ ghost use Rattle.std.specs.Prelude.{◌≡◌, ◌≤◌, ◌+◌, ◌%◌, ◌+
 ghost use Rattle.std.specs.Net.Socket.{IsPlainSocket, socket_ip, socket_port};
 ghost use Rattle.stun_base.specs.Attributes.{XOR_MAPPED_ADDRESS};
 ghost use Rattle.stun_types.specs.Grammar.{spelled_attribute};
-ghost use Rattle.stun_types.specs.XorMappedAddress.{IsHidden, IsXored, has_octets, xor_bytes, xor_key, xor_port, xored, xored_of, xored_value};
+ghost use Rattle.stun_types.specs.XorMappedAddress.{IsHidden, IsXored, has_octets, xor_bytes, xor_key, xor_port, xored_address, xored_of, xored_value};
 ghost use Rattle.stun_types.specs.XorMappedAddressLaws.{xored_of-written};
-ghost use Rattle.stun_types.specs.code.XoredOctets.{IsWhole, family_of, octets_of};
+ghost use Rattle.stun_types.specs.code.XoredOctets.{HasOctetsOfFamily, family_of_octets, octets_of};
 
 use crate::append::append_header;
 use crate::attribute::{
@@ -52,15 +52,15 @@ impl Model for XorMappedAddress {
 
     ghost Value = { XoredAddress };
 
-    ghost use Rattle.stun_types.specs.code.XoredOctets.{family_of, octets_of, with_family, with_family-of, IsWhole};
+    ghost use Rattle.stun_types.specs.code.XoredOctets.{family_of_octets, octets_of, with_family, with_family-of, HasOctetsOfFamily};
 
     ghost view = { λ address. record {
-      family = family_of address.octets;
+      family = family_of_octets address.octets;
       port = address.port;
       octets = octets_of address.octets;
     } };
 
-    ghost invariant = { λ address. IsWhole address.octets };
+    ghost invariant = { λ address. HasOctetsOfFamily address.octets };
 
     ghost inverse = { λ parts. record { port = parts.port; octets = with_family parts.family parts.octets } };
 
@@ -90,7 +90,7 @@ fn xor_key(id: TransactionId) -> [u8; 16]
 fn read_octets(family: u8, octets: &[u8]) -> Option<XoredOctets>
     ensures { MatchOption result (has_octets family (length octets.now) ≡ false)
         (λ read. (has_octets family (length octets.now) ≡ true)
-        × (family_of read ≡ family) × (octets_of read ≡ octets.now) × IsWhole read) }
+        × (family_of_octets read ≡ family) × (octets_of read ≡ octets.now) × HasOctetsOfFamily read) }
 {
     if family == IPV4 && octets.len() == 4 {
         let mut ipv4 = [0; 4];
@@ -109,7 +109,7 @@ impl XorMappedAddress {
     /// The attribute of this address in a message of this transaction. Flow information and scope of an IPv6 address are
     /// not kept.
     pub fn new(addr: SocketAddr, id: TransactionId) -> Self
-        ensures { result ≡ xored (socket_ip addr) (socket_port addr) id }
+        ensures { result ≡ xored_address (socket_ip addr) (socket_port addr) id }
     {
         let key = xor_key(id);
         let octets = match addr.ip() {

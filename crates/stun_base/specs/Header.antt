@@ -1,6 +1,6 @@
--- The header of a message (RFC 8489, section 5): 20 bytes with the type, the number of bytes that
--- follow the header, the magic cookie and the transaction id. A number of a list of bytes is that
--- of byteorder, in network order.
+-- The header of a message (RFC 8489, section 5). Its 20 bytes are the type, the number of bytes
+-- after the header, the magic cookie and the transaction id. A number of a list of bytes is that of
+-- byteorder, in network order.
 use Rattle.std.specs.Prelude.{◌≤◌, ◌^◌, ◌%◌, ℕ, Bool, IsTrue, List, length, drop}
 use Rattle.std.specs.Prelude.{Option, Some, None, nat_lt, ◌&&◌, ◌==◌, if◌then◌else◌}
 use Rattle.byteorder.specs.Endian.{big_number}
@@ -45,8 +45,8 @@ header_of bytes = record {
   transaction_id = transaction_id_field bytes;
 }
 
--- whether the fields are those of a STUN message: the two top bits of the type are zero, the cookie
--- is there, and the attributes take a multiple of 4 bytes (sections 5 and 14)
+-- whether the fields are those of a STUN message (sections 5 and 14). The two top bits of the type
+-- are zero, the cookie is the magic cookie, and the length is a multiple of 4
 abbrev pub is_stun : List ℕ → Bool
 is_stun bytes =
     nat_lt (type_field bytes) (2 ^ 14) && (cookie_field bytes == MAGIC_COOKIE)

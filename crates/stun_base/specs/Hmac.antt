@@ -1,5 +1,6 @@
--- The keyed hash HMAC (RFC 2104) over a hash function that works on blocks of 64 bytes, as SHA-1
--- and SHA-256 do. The hash function is the first argument throughout: from a message to its digest.
+-- The keyed hash HMAC (RFC 2104) over a hash function with blocks of 64 bytes, as SHA-1 and
+-- SHA-256. The first argument of each definition is the hash function, from a message to its
+-- digest.
 use Rattle.std.specs.Prelude.{ℕ, ◌-◌, List, ◌++◌, length, map}
 use Rattle.std.specs.Prelude.{replicate, bit_xor, nat_lt, if◌then◌else◌}
 

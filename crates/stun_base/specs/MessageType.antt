@@ -1,5 +1,5 @@
--- The type field of a header (RFC 8489, section 5): from the top, the bits M11..M7 C1 M6..M4 C0
--- M3..M0 of a method M and a class C.
+-- The type field of a header (RFC 8489, section 5). Its bits, from the top, are M11..M7 C1 M6..M4
+-- C0 M3..M0, of method M and class C.
 use Rattle.std.specs.Prelude.{ℕ, Bool, true, false, IsTrue, ◌+◌, ◌*◌}
 use Rattle.std.specs.Prelude.{◌/◌, ◌%◌, ◌==◌, if◌then◌else◌, List}
 use Rattle.stun_base.specs.declared.message_type.MessageClass.{MessageClass}

@@ -1,4 +1,4 @@
--- Laws on what attributes are written as and read as.
+-- Laws of writing and reading attributes.
 use Rattle.std.specs.Prelude.{◌≡◌, ℕ, ◌%◌, ◌^◌, ◌<◌, List, [], ◌∷◌, length, slice_index, take, Some}
 use Rattle.stun_base.specs.Attributes.{ERROR_CODE, XOR_MAPPED_ADDRESS}
 use Rattle.stun_types.specs.Attribute.{TypedValue, attribute_length}
@@ -10,7 +10,7 @@ use Rattle.stun_types.specs.declared.attribute.password_algorithm.PasswordAlgori
   PasswordAlgorithmValue,
 }
 
--- an attribute takes as many bytes as it is spelled with
+-- a spelled attribute has as many bytes as `attribute_length` says
 abbrev pub TakesWhatIsSpelled : TypedValue → Type 0
 TakesWhatIsSpelled attribute =
     length (spelled_attribute attribute) ≡ attribute_length (length attribute.value)
@@ -36,6 +36,6 @@ WritesReservedZeros error =
 abbrev pub WritesFirstZero : XoredAddress → Type 0
 WritesFirstZero address = take 1 (xored_value address) ≡ 0 ∷ []
 
--- bytes that read as a list of algorithms are what the list is written as
+-- bytes that are read as a list of algorithms are those that it is written as
 abbrev pub ReadsSpelledEntries : List ℕ → List PasswordAlgorithmValue → Type 0
 ReadsSpelledEntries bytes list = entries bytes ≡ Some list → spelled_entries list ≡ bytes

@@ -1,5 +1,5 @@
--- PASSWORD-ALGORITHM and PASSWORD-ALGORITHMS (RFC 8489, sections 14.11, 14.12 and 18.5): entries,
--- each the number of an algorithm and the length of its parameters, 2 bytes each, and the
+-- PASSWORD-ALGORITHM and PASSWORD-ALGORITHMS (RFC 8489, sections 14.11, 14.12 and 18.5). An entry
+-- is the number of an algorithm and the length of its parameters, of 2 bytes each, and the
 -- parameters. MD5 and SHA-256 have no parameters.
 use Rattle.std.specs.Prelude.{◌≡◌, refl, ℕ, List, [], ◌∷◌, ◌++◌, length, drop}
 use Rattle.std.specs.Prelude.{Option, Some, None, ◌==◌, ◌&&◌, if◌then◌else◌}
@@ -23,7 +23,7 @@ abbrev pub number_of_algorithm : PasswordAlgorithmValue → ℕ
 number_of_algorithm MD5 = 0x0001
 number_of_algorithm SHA256 = 0x0002
 
--- the algorithm of a number, where it is known
+-- the algorithm of a number, if it is known
 abbrev pub algorithm_of_number : ℕ → Option PasswordAlgorithmValue
 algorithm_of_number number =
     if number == 0x0001 then Some MD5 else (if number == 0x0002 then Some SHA256 else None)
@@ -38,6 +38,10 @@ abbrev pub password_algorithm_of : IntegrityAlgorithm → PasswordAlgorithmValue
 password_algorithm_of Sha1 = MD5
 password_algorithm_of Sha256 = SHA256
 
+-- the number of bytes of an entry without parameters
+abbrev pub ENTRY_LENGTH : ℕ
+ENTRY_LENGTH = 4
+
 -- an entry as it is written: a number, and no parameters
 abbrev pub spelled_entry : PasswordAlgorithmValue → List ℕ
 spelled_entry algorithm = big_bytes 2 (number_of_algorithm algorithm) ++ big_bytes 2 0
@@ -51,15 +55,15 @@ abbrev pub entry_at_front : List ℕ → Option PasswordAlgorithmValue
 entry_at_front bytes =
     if big_number 2 (drop 2 bytes) == 0 then algorithm_of_number (big_number 2 bytes) else None
 
--- an algorithm in front of others, where all are known
+-- an algorithm in front of others, if all are known
 abbrev pub in_front_of : Option (List PasswordAlgorithmValue) → Option PasswordAlgorithmValue
     → Option (List PasswordAlgorithmValue)
 in_front_of (Some others) (Some algorithm) = Some (algorithm ∷ others)
 in_front_of (Some others) None = None
 in_front_of None first = None
 
--- the algorithms that bytes are the entries of, where all are known and without parameters, so that
--- each takes four bytes
+-- the algorithms whose entries the bytes are, if all are known and without parameters: each entry
+-- has four bytes
 abbrev pub entries : List ℕ → Option (List PasswordAlgorithmValue)
 entries [] = Some []
 entries (a ∷ []) = None
@@ -75,7 +79,7 @@ password_algorithms_in attribute =
 -- the algorithm in a PASSWORD-ALGORITHM: exactly one entry
 abbrev pub password_algorithm_in : TypedValue → Option PasswordAlgorithmValue
 password_algorithm_in attribute =
-    if attribute.kind == PASSWORD_ALGORITHM && (length attribute.value == 4)
+    if attribute.kind == PASSWORD_ALGORITHM && (length attribute.value == ENTRY_LENGTH)
     then entry_at_front attribute.value else None
 
 -- an algorithm that is written is read again

@@ -22,11 +22,11 @@ use Rattle.stun_types.specs.Visible.{has_kind, visible}
 use Rattle.stun_types.specs.Walk.{walk}
 pub use Rattle.stun_types.specs.Limits.{max_length}
 
--- the message length that an attribute with a value of n bytes leaves (RFC 8489, section 5)
+-- the message length with one attribute more, whose value has n bytes (RFC 8489, section 5)
 abbrev pub length_with : List ℕ → ℕ → ℕ
 length_with message n = length message - HEADER_LENGTH + attribute_length n
 
--- the message with its length raised, then the attribute
+-- the message with the new length, then the attribute
 abbrev pub with_attribute : List ℕ → TypedValue → List ℕ
 with_attribute message attribute =
     with_length message (length_with message (length attribute.value))
@@ -49,12 +49,12 @@ integrity_attribute message algorithm key = record {
   value = digest algorithm key (covered_at_end message algorithm);
 }
 
--- the message with its length raised, then its integrity attribute
+-- the message with the new length, then its integrity attribute
 abbrev pub with_integrity : List ℕ → IntegrityAlgorithm → List ℕ → List ℕ
 with_integrity message algorithm key =
     with_attribute message (integrity_attribute message algorithm key)
 
--- the types that only the calls for integrity write, and FINGERPRINT (sections 14.5 to 14.7)
+-- the types that only the calls that sign write, and FINGERPRINT (sections 14.5 to 14.7)
 abbrev pub is_set_apart : ℕ → Bool
 is_set_apart kind =
     (kind == MESSAGE_INTEGRITY) || (kind == MESSAGE_INTEGRITY_SHA256) || (kind == FINGERPRINT)
@@ -79,14 +79,14 @@ pub record HasOneMore (before after : List ℕ) (attribute : TypedValue) : Type 
   pub walk_is : walk after ≡ walk before ++ (length before, attribute) ∷ []
   pub visible_is : visible after ≡ visible before ++ (length before, attribute) ∷ []
 
--- an attribute whose type has 16 bits, and whose value fits a message of the greatest length after
--- what is there
+-- an attribute whose type has 16 bits, and whose value fits the message: its length is then at most
+-- the greatest
 pub record IsAddable (message : List ℕ) (attribute : TypedValue) : Type 0 where
   pub kind : attribute.kind < 2 ^ 16
   pub value : length_with message (length attribute.value) ≤ max_length
 
--- why a value of n bytes is refused in a writer with so much room, if it is: the length field, then
--- the room
+-- why a value of n bytes is refused with so much room, if it is: first for the length field, then
+-- for the room
 abbrev pub size_refusal : List ℕ → ℕ → ℕ → Option StunWriteError
 size_refusal message room n =
     if nat_lt max_length (length_with message n) then Some TooLarge
@@ -106,29 +106,30 @@ signing_refusal message room algorithm =
     if has_integrity message then Some MessageIntegrityExists
     else size_refusal message room (digest_length algorithm)
 
--- the answer of a call that may be refused: the first reason that holds, and where there is none
--- only an allocation can fail
+-- the result of a call that may fail: it is the first reason that holds, and without one only an
+-- allocation can fail
 abbrev pub RefusedBy : Option StunWriteError → Result (Unit {0}) StunWriteError → Type 0
 RefusedBy refusal result =
     MatchOption refusal (IsOkUnless result OutOfMemory) (λ reason. result ≡ Err reason)
 
--- what an open message has been given is one attribute more
+-- an open message has one attribute more after the call
 abbrev pub GainsOne : List ℕ → List ℕ → TypedValue → Type 0
 GainsOne before after attribute = IsOpen before → HasOneMore before after attribute
 
--- what an open message has been given is the integrity attribute of an algorithm under a key
+-- an open message has the integrity attribute of an algorithm under a key after the call, and
+-- nothing else more
 abbrev pub GainsIntegrity : List ℕ → List ℕ → IntegrityAlgorithm → List ℕ → Type 0
 GainsIntegrity before after algorithm key =
     GainsOne before after (integrity_attribute before algorithm key)
 
--- an open message that was signed verifies by this algorithm, under each choice of keys that has
--- this key for it
+-- an open message verifies after the call by this algorithm, under all keys of which this is the
+-- one for it
 abbrev pub VerifiesAfter : List ℕ → List ℕ → IntegrityAlgorithm → List ℕ → Type 0
 VerifiesAfter before after algorithm key =
     IsOpen before → (keys : IntegrityAlgorithm → List ℕ) → keys algorithm ≡ key
     → verified_by keys after ≡ Some algorithm
 
--- a message that was written attribute by attribute is written with one more
+-- a spelled message is spelled with one attribute more after the call
 abbrev pub SpellsOneMore : List ℕ → List ℕ → TypedValue → Type 0
 SpellsOneMore before after attribute =
     (kind id : ℕ) (list : List TypedValue) → before ≡ spelled kind id list

@@ -14,7 +14,7 @@ abbrev pub keys_of : {A : Type 0} → MessageIntegrityCredentials A → Integrit
 keys_of (ShortTerm password) = short_term_key password
 keys_of (LongTerm user) = long_term_key_of user
 
--- what is shown of credentials: their kind, and none of their texts
+-- the text of credentials that `Debug` writes: their kind, and none of their texts
 abbrev pub kind_shown : {A : Type 0} → MessageIntegrityCredentials A → List ℕ
 kind_shown (ShortTerm password) = codes "ShortTerm(..)"
 kind_shown (LongTerm user) = codes "LongTerm(..)"

@@ -1,4 +1,4 @@
--- The octets of an address, hidden by the key.
+-- The octets of an address, xored with the key.
 use Rattle.std.specs.Prelude.{◌≡◌, ◌==◌, ℕ, List, length, if◌then◌else◌}
 use Rattle.std.proofs.Common.{refl}
 use Rattle.stun_types.specs.declared.attribute.xor_mapped_address.XoredOctets.{XoredOctets}

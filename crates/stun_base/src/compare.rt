@@ -6,8 +6,8 @@ ghost use Rattle.std.specs.Prelude.{◌≡◌, ◌↔◌, IsTrue};
 ///
 /// Texts of different lengths are compared by their lengths alone. Of two texts of one length every
 /// byte is read, wherever they differ. So the work does not grow with the number of bytes that
-/// agree. That is how the code is written. No clause says that it takes the same time for all texts
-/// of a length. That depends on the compiler and the processor too.
+/// agree. That is how the code is written. It is neither proved nor promised to take the same time
+/// for all texts of a length. That depends on the compiler and the processor too.
 pub fn is_same_text(one: &[u8], other: &[u8]) -> bool
     ensures { IsTrue result ↔ (one.now ≡ other.now) }
 {

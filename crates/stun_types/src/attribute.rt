@@ -67,11 +67,14 @@ pub struct RawAttribute<'a> {
 }
 
 impl<'a> Model for RawAttribute<'a> {
+    ghost use Rattle.std.specs.Prelude.{◌<◌, ◌^◌};
     ghost use Rattle.stun_types.specs.Attribute.{TypedValue};
 
     ghost Value = { TypedValue };
 
     ghost view = { λ attribute. record { kind = attribute.kind.0; value = attribute.value.now } };
+
+    ghost invariant = { λ attribute. attribute.kind.0 < 2 ^ 16 };
 }
 
 /// It does not allocate and never fails.
@@ -245,8 +248,6 @@ impl<'a> Attribute for RawAttribute<'a> {
     }
 
     fn length(&self) -> usize {
-        // Read for the clause `well_formed`: a field's type bounds it.
-        let _number = self.kind.0;
         self.value.len()
     }
 

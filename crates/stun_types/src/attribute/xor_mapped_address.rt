@@ -51,6 +51,7 @@ pub struct XorMappedAddress {
 }
 
 impl Model for XorMappedAddress {
+    ghost use Rattle.std.specs.Prelude.{◌<◌, ◌^◌};
     ghost use Rattle.stun_types.specs.XorMappedAddress.{XoredAddress};
 
     ghost Value = { XoredAddress };
@@ -64,7 +65,7 @@ impl Model for XorMappedAddress {
       octets = octets_of address.octets;
     } };
 
-    ghost invariant = { λ address. HasOctetsOfFamily address.octets };
+    ghost invariant = { λ address. (address.port < 2 ^ 16) × HasOctetsOfFamily address.octets };
 
     ghost inverse = { λ parts.
         record { port = parts.port; octets = with_family parts.family parts.octets } };
@@ -184,8 +185,6 @@ impl Attribute for XorMappedAddress {
     }
 
     fn length(&self) -> usize {
-        // Read for the clause `well_formed`: a field's type bounds it.
-        let _port = self.port;
         match &self.octets {
             XoredOctets::V4(octets) => FAMILY_AND_PORT_LENGTH + octets.as_slice().len(),
             XoredOctets::V6(octets) => FAMILY_AND_PORT_LENGTH + octets.as_slice().len(),

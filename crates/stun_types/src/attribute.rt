@@ -1,4 +1,5 @@
 //! Attributes of a message: type, value and padding.
+
 ghost use Rattle.std.specs.Prelude.{◌≡◌, ◌+◌, ◌-◌, ◌^◌, ◌<◌, ◌≤◌, ◌++◌, ℕ, List, drop, length};
 ghost use Rattle.std.specs.Prelude.{min, true, false, OnSome, IfSome, IfNone, Some, refl, ⊤};
 ghost use Rattle.std.specs.Cmp.{partial_equiv_from_equiv};

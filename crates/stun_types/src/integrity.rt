@@ -1,4 +1,5 @@
 //! The check of message integrity (RFC 8489, sections 14.5, 14.6 and 9.2.4).
+
 ghost use Rattle.byteorder.specs.Endian.{big_bytes};
 ghost use Rattle.std.specs.Prelude.{◌≡◌, ◌++◌, take, ◌+◌, ◌-◌, ◌^◌, ◌<◌, ◌≤◌, List};
 ghost use Rattle.std.specs.Prelude.{ℕ, length, IfOk, OnOk, IfErr, OnErr, IfSome};

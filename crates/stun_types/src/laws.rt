@@ -2,6 +2,7 @@
 //! constants.
 //!
 //! A law is a function whose contract is the law. It does nothing, or makes one call.
+
 ghost use Rattle.std.specs.Prelude.{◌≡◌, ◌↔◌, IsTrue, ℕ, false, Some, ◌≤◌, ◌<◌, ◌^◌};
 ghost use Rattle.std.specs.Prelude.{List, [], ◌∷◌, ◌++◌, length, take, slice_index};
 ghost use Rattle.stun_base.specs.Algorithm.{digest_length};

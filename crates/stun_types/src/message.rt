@@ -1,4 +1,5 @@
 //! Messages: read from bytes, or begun in a writer.
+
 ghost use Rattle.std.specs.Prelude.{◌≡◌, ◌+◌, ◌^◌, ◌<◌, ◌↔◌, ◌≤◌, length, [], IsTrue, IsOk, IfOk};
 ghost use Rattle.std.specs.Prelude.{OnOk, IfErr, IsErrOf, IsOkUnless, MatchOption, Some, None, ⊤};
 ghost use Rattle.std.specs.Cmp.{partial_equiv_from_equiv};

@@ -1,5 +1,6 @@
 //! Laws of attributes: first of writing and reading, which the crates above use, then of equality
 //! and copies, then of constants.
+
 ghost use Rattle.std.specs.Prelude.{◌≡◌, ◌<◌, ◌^◌, ◌↔◌, ◌∷◌, [], ℕ};
 ghost use Rattle.std.specs.Prelude.{IsTrue, List, Ok, map, slice_index};
 ghost use Rattle.std.specs.Net.Socket.{socket_flowinfo, socket_ip, socket_port, socket_scope_id};

@@ -82,7 +82,7 @@ impl<A: Allocator> fmt::Debug for ShortTermCredentials<A> {
     }
 }
 
-/// Equal are credentials of the same password.
+/// Credentials are equal if and only if their passwords are.
 impl<A: Allocator> PartialEq for ShortTermCredentials<A> {
     ghost eq = { same_text };
 
@@ -209,7 +209,7 @@ impl<A: Allocator> fmt::Debug for LongTermCredentials<A> {
     }
 }
 
-/// Equal are credentials of the same name and the same password.
+/// Credentials are equal if and only if name and password are.
 impl<A: Allocator> PartialEq for LongTermCredentials<A> {
     ghost eq = { same_user };
 

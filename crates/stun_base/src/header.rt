@@ -50,8 +50,8 @@ impl MessageHeader {
     /// The header that these bytes begin with. The bytes after the first 20 are not read.
     ///
     /// It fails with `Truncated` for fewer than 20 bytes. Then it fails with `NotStun` if the top
-    /// two bits are not zero, the cookie is another, or the length is not a multiple of 4. It does
-    /// not allocate.
+    /// two bits are not zero, the cookie is another, or 4 does not divide the length. It does not
+    /// allocate.
     pub fn from_bytes(bytes: &[u8]) -> Result<MessageHeader, StunParseError>
         ensures ok { IsOk result ↔ BeginsWithHeader bytes.now }
         ensures value { IfOk result (λ header. header ≡ header_of bytes.now) }

@@ -82,8 +82,8 @@ pub fn signed_message_stands()
 {}
 
 /// The bytes after the deciding attribute do not change the verdict, nor does the length field. Two
-/// messages have the same verdict if these are equal: their deciding attributes, the places of
-/// these, and the bytes before them but for the length field.
+/// messages have the same verdict if their deciding attributes are equal, with the same place and
+/// the same bytes before it but for the length field.
 pub fn tail_does_not_count()
     ensures { (keys : IntegrityAlgorithm → List ℕ) (bytes others : List ℕ) (m : Member)
         → deciding bytes ≡ Some m → deciding others ≡ Some m

@@ -81,9 +81,9 @@ pub fn signed_message_stands()
         (integrity_attribute message algorithm key) }
 {}
 
-/// The bytes after the deciding attribute do not change the verdict, nor does the length field. Two
-/// messages have the same verdict if their deciding attributes are equal, with the same place and
-/// the same bytes before it but for the length field.
+/// The bytes after the deciding attribute do not change the verdict, nor does the length field.
+/// Messages with the same deciding attribute at the same place, and the same bytes before it but
+/// for the length, have the same verdict.
 pub fn tail_does_not_count()
     ensures { (keys : IntegrityAlgorithm → List ℕ) (bytes others : List ℕ) (m : Member)
         → deciding bytes ≡ Some m → deciding others ≡ Some m

@@ -1,4 +1,4 @@
-//! The type of an attribute, and the types of the registry that messages here have.
+//! The type of an attribute, and the registered types that this library reads or writes.
 
 ghost use Rattle.std.specs.Prelude.{◌≡◌, Some};
 ghost use Rattle.stun_base.specs.AttributeText.{type_text};
@@ -7,9 +7,9 @@ use std::fmt;
 
 /// The type of an attribute (RFC 8489, section 14): a number of 16 bits.
 ///
-/// Below 0x8000 an attribute must be understood, from 0x8000 on it may be ignored. The number is
-/// public, so that a constant of another crate can be written `AttributeType(0x8000)`. Its text is
-/// the number in hexadecimal, as `0x0008`.
+/// An attribute of a type below 0x8000 must be understood; one from 0x8000 on may be ignored. The
+/// number is public, so that a constant of another crate can be written `AttributeType(0x8000)`.
+/// Its text is the number in hexadecimal, as `0x0008`.
 #[derive(Debug, Clone, Copy, PartialEq, Eq, Hash)]
 pub struct AttributeType(pub u16);
 

@@ -1,9 +1,10 @@
-//! Credentials (RFC 8489, section 9), and the keys that they give.
+//! Credentials (RFC 8489, section 9), and the keys that are made of them.
 
 ghost use Rattle.std.specs.Prelude.{◌≡◌, ◌≤◌, length, IfOk, IsOk, Some, codes, string_bytes};
 ghost use Rattle.std.specs.Cmp.{partial_equiv_from_equiv};
 ghost use Rattle.std.specs.Fmt.{WritesOnOk, WritesStyledOnOk};
-ghost use Rattle.stun_base.specs.Credentials.{same_text, same_user, same_text_equivalence, same_user_equivalence};
+ghost use Rattle.stun_base.specs.Credentials.{same_text, same_user, same_text_equivalence};
+ghost use Rattle.stun_base.specs.Credentials.{same_user_equivalence};
 ghost use Rattle.stun_base.specs.Keys.{long_term_key_of};
 
 use crate::algorithm::IntegrityAlgorithm;
@@ -14,8 +15,8 @@ use std::marker::Model;
 
 /// The password of a short-term credential (RFC 8489, section 9.1).
 ///
-/// The text is taken as it is: to prepare it by OpaqueString (RFC 8265, section 4.2) is the
-/// caller's part. Contracts see the bytes of the password. `Debug` shows none of them.
+/// The text is used as it is. The caller prepares it by OpaqueString (RFC 8265, section 4.2).
+/// Contracts see the bytes of the password. `Debug` shows none of them.
 #[derive(Drop)]
 pub struct ShortTermCredentials<A: Allocator = Global> {
     password: String<A>,
@@ -30,7 +31,7 @@ impl<A: Allocator> Model for ShortTermCredentials<A> {
 }
 
 impl<A: Allocator> ShortTermCredentials<A> {
-    /// The credentials of this password, which keep the text and its allocator.
+    /// The credentials of this password. They keep the text and its allocator.
     pub fn new(password: String<A>) -> Self
         ensures { result ≡ string_bytes password }
     {
@@ -46,7 +47,7 @@ impl<A: Allocator> ShortTermCredentials<A> {
 }
 
 impl<A: Allocator + Copy> ShortTermCredentials<A> {
-    /// The key of these credentials, which is the password's bytes (RFC 8489, section 9.1.1).
+    /// The key of these credentials: the password's bytes (RFC 8489, section 9.1.1).
     ///
     /// Up to 32 bytes are in the key itself; a longer key is allocated by the password's allocator.
     pub fn make_key(&self) -> Result<IntegrityKey<A>, AllocError>
@@ -73,7 +74,7 @@ impl<A: Allocator> fmt::Debug for ShortTermCredentials<A> {
         ensures writes { WritesOnOk W.write_str_gives f.old result
             (codes "ShortTermCredentials { .. }") f.new }
 
-        // So it is whatever width, precision or other option is asked.
+        // It writes the same with every width, precision and other option.
         ensures styled { WritesStyledOnOk W.write_str_gives f.old result
             (codes "ShortTermCredentials { .. }") f.new }
     {
@@ -81,7 +82,7 @@ impl<A: Allocator> fmt::Debug for ShortTermCredentials<A> {
     }
 }
 
-/// Equal are credentials of the same password.
+/// Credentials are equal if and only if their passwords are.
 impl<A: Allocator> PartialEq for ShortTermCredentials<A> {
     ghost eq = { same_text };
 
@@ -98,8 +99,8 @@ impl<A: Allocator> Eq for ShortTermCredentials<A> {
 
 /// The name and password of a user (RFC 8489, section 9.2).
 ///
-/// The texts are taken as they are: to prepare them by OpaqueString (RFC 8265, section 4.2) is the
-/// caller's part. Contracts see the bytes of both. `Debug` shows none of them.
+/// The texts are used as they are. The caller prepares them by OpaqueString (RFC 8265, section
+/// 4.2). Contracts see the bytes of both. `Debug` shows none of them.
 #[derive(Drop)]
 pub struct LongTermCredentials<A: Allocator = Global> {
     username: String<A>,
@@ -119,7 +120,7 @@ impl<A: Allocator> Model for LongTermCredentials<A> {
 }
 
 impl<A: Allocator> LongTermCredentials<A> {
-    /// The credentials of this user, which keep both texts and their allocators.
+    /// The credentials of this user. They keep both texts and their allocators.
     pub fn new(username: String<A>, password: String<A>) -> Self
         ensures { result ≡ record {
           username = string_bytes username;
@@ -154,9 +155,9 @@ impl<A: Allocator> LongTermCredentials<A> {
 }
 
 impl<A: Allocator + Copy> LongTermCredentials<A> {
-    /// The credentials of this user at a realm, from which keys are made without an allocation.
+    /// The credentials of this user at a realm. Keys are made of them without an allocation.
     ///
-    /// Name and password are copied, each by its own allocator; the one error is that an allocation
+    /// Name and password are copied, each by its own allocator. It fails only if an allocation
     /// fails.
     pub fn to_key(&self, realm: String<A>) -> Result<LongTermKeyCredentials<A>, AllocError>
         ensures { IfOk result (λ key. key ≡ record {
@@ -200,7 +201,7 @@ impl<A: Allocator> fmt::Debug for LongTermCredentials<A> {
         ensures writes { WritesOnOk W.write_str_gives f.old result
             (codes "LongTermCredentials { .. }") f.new }
 
-        // So it is whatever width, precision or other option is asked.
+        // It writes the same with every width, precision and other option.
         ensures styled { WritesStyledOnOk W.write_str_gives f.old result
             (codes "LongTermCredentials { .. }") f.new }
     {
@@ -208,7 +209,7 @@ impl<A: Allocator> fmt::Debug for LongTermCredentials<A> {
     }
 }
 
-/// Equal are credentials of the same name and the same password.
+/// Credentials are equal if and only if name and password are.
 impl<A: Allocator> PartialEq for LongTermCredentials<A> {
     ghost eq = { same_user };
 
@@ -223,7 +224,7 @@ impl<A: Allocator> Eq for LongTermCredentials<A> {
     ghost laws = { same_user_equivalence };
 }
 
-/// The name and password of a user at a realm: what a long-term key is made of (RFC 8489, section
+/// The name and password of a user at a realm, of which a long-term key is made (RFC 8489, section
 /// 9.2.2).
 ///
 /// Contracts see the bytes of the three texts. `Debug` shows none of them.
@@ -269,9 +270,9 @@ impl<A: Allocator> LongTermKeyCredentials<A> {
         self.password.as_str()
     }
 
-    /// The key for this algorithm: the hash of `username:realm:password`, 16 bytes of MD5 for
-    /// HMAC-SHA1 and 32 of SHA-256 for HMAC-SHA256 (RFC 8489, sections 9.2.2 and 18.5.1). It does
-    /// not allocate.
+    /// The key for this algorithm: the hash of `username:realm:password` (RFC 8489, sections 9.2.2
+    /// and 18.5.1). It has 16 bytes of MD5 for HMAC-SHA1, and 32 of SHA-256 for HMAC-SHA256. It
+    /// does not allocate.
     pub fn make_key(&self, algorithm: IntegrityAlgorithm) -> IntegrityKey<A>
         ensures { result ≡ long_term_key_of self.now algorithm }
     {
@@ -307,7 +308,7 @@ impl<A: Allocator> fmt::Debug for LongTermKeyCredentials<A> {
         ensures writes { WritesOnOk W.write_str_gives f.old result
             (codes "LongTermKeyCredentials { .. }") f.new }
 
-        // So it is whatever width, precision or other option is asked.
+        // It writes the same with every width, precision and other option.
         ensures styled { WritesStyledOnOk W.write_str_gives f.old result
             (codes "LongTermKeyCredentials { .. }") f.new }
     {
@@ -317,7 +318,7 @@ impl<A: Allocator> fmt::Debug for LongTermKeyCredentials<A> {
 
 /// The credentials that protect a message, of either kind (RFC 8489, section 9).
 ///
-/// For each algorithm they give one key: the password's bytes, or the long-term key. `Debug` shows
+/// They have one key for each algorithm: the password's bytes, or the long-term key. `Debug` shows
 /// their kind alone.
 #[derive(Drop)]
 pub enum MessageIntegrityCredentials<A: Allocator = Global> {
@@ -330,8 +331,8 @@ pub enum MessageIntegrityCredentials<A: Allocator = Global> {
 impl<A: Allocator> MessageIntegrityCredentials<A> {
     ghost use Rattle.stun_base.specs.Keys.OfCredentials.{keys_of};
 
-    /// The key for this algorithm, without an allocation: the password's bytes where they are, or the
-    /// long-term key made in place.
+    /// The key for this algorithm: the password's bytes, borrowed, or the long-term key. It does
+    /// not allocate.
     pub fn key(&self, algorithm: IntegrityAlgorithm) -> CredentialsKey<'_, A>
         ensures { result ≡ keys_of self.now algorithm }
     {
@@ -349,7 +350,9 @@ impl<A: Allocator> MessageIntegrityCredentials<A> {
 
 impl<A: Allocator> From<ShortTermCredentials<A>> for MessageIntegrityCredentials<A> {
     ghost use Rattle.std.specs.Prelude.{◌≡◌};
-    ghost use Rattle.stun_base.specs.declared.credentials.MessageIntegrityCredentials.TheVariants.{ShortTerm};
+    ghost use Rattle.stun_base.specs.declared.credentials.MessageIntegrityCredentials.TheVariants.{
+      ShortTerm,
+    };
 
     ghost from_gives = { λ credentials result. result ≡ ShortTerm credentials };
 
@@ -360,7 +363,9 @@ impl<A: Allocator> From<ShortTermCredentials<A>> for MessageIntegrityCredentials
 
 impl<A: Allocator> From<LongTermKeyCredentials<A>> for MessageIntegrityCredentials<A> {
     ghost use Rattle.std.specs.Prelude.{◌≡◌};
-    ghost use Rattle.stun_base.specs.declared.credentials.MessageIntegrityCredentials.TheVariants.{LongTerm};
+    ghost use Rattle.stun_base.specs.declared.credentials.MessageIntegrityCredentials.TheVariants.{
+      LongTerm,
+    };
 
     ghost from_gives = { λ credentials result. result ≡ LongTerm credentials };
 
@@ -377,7 +382,7 @@ impl<A: Allocator> fmt::Debug for MessageIntegrityCredentials<A> {
     fn fmt<W: fmt::Write>(&self, f: &mut fmt::Formatter<W>) -> fmt::Result
         ensures writes { WritesOnOk W.write_str_gives f.old result (kind_shown self.now) f.new }
 
-        // So it is whatever width, precision or other option is asked.
+        // It writes the same with every width, precision and other option.
         ensures styled { WritesStyledOnOk W.write_str_gives f.old result
             (kind_shown self.now) f.new }
     {
@@ -388,8 +393,7 @@ impl<A: Allocator> fmt::Debug for MessageIntegrityCredentials<A> {
     }
 }
 
-/// The key that credentials give for one algorithm. It borrows a password, or holds a long-term
-/// key.
+/// The key of credentials for one algorithm. It borrows a password, or holds a long-term key.
 ///
 /// Contracts see it as the key's bytes. `Debug` shows none of them.
 #[derive(Drop)]

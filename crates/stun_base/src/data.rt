@@ -6,7 +6,7 @@ use std::alloc::{AllocError, Allocator, Global};
 
 /// A value that holds bytes of its own or borrows them.
 ///
-/// The slice is a function of the value: two calls on one value answer the same bytes.
+/// Two calls on one value return the same bytes.
 pub trait OwnedBytes {
     // The bytes of the value.
     ghost contents: { Self → List ℕ };
@@ -44,9 +44,9 @@ impl<A: Allocator> OwnedBytes for Vec<u8, A> {
 #[derive(Drop)]
 #[derive_where(Debug)]
 pub enum Data<'a, A: Allocator = Global> {
-    /// Bytes of somebody else.
+    /// Borrowed bytes.
     Borrowed(&'a [u8]),
-    /// Bytes of its own.
+    /// Owned bytes.
     Owned(Vec<u8, A>),
 }
 
@@ -68,8 +68,8 @@ impl<'a, A: Allocator> Data<'a, A> {
 
     /// The same bytes, owned.
     ///
-    /// Owned bytes move as they are, with their own allocator: that does not allocate. Borrowed bytes
-    /// are copied into memory of `alloc`; the one error is that this allocation fails.
+    /// Owned bytes are moved, with their own allocator; that does not allocate. Borrowed bytes are
+    /// copied into memory of `alloc`. It fails only if this allocation fails.
     pub fn into_owned<'b>(self, alloc: A) -> Result<Data<'b, A>, AllocError>
         ensures bytes { IfOk result (λ owned. data_bytes owned ≡ data_bytes self.entry) }
         ensures owned { IfOk result (λ owned. IsOwned owned) }

@@ -7,11 +7,11 @@ use thiserror::Error;
 /// Why bytes were not read as a header, a message or an attribute.
 #[derive(Debug, Clone, Copy, PartialEq, Eq, Error)]
 pub enum StunParseError {
-    /// Bytes are missing at the end: of the header, of the message, or of an attribute.
+    /// Bytes are missing at the end of the header, of the message, or of an attribute.
     #[error("the bytes end too early")]
     Truncated,
-    /// The first 20 bytes are no header: its top two bits, its cookie, or a length that is no
-    /// multiple of 4.
+    /// The first 20 bytes are not a header: its top two bits, its cookie or its length is wrong. A
+    /// length is a multiple of 4.
     #[error("the bytes are not a STUN message")]
     NotStun,
     /// Bytes follow the end of the message.
@@ -31,31 +31,31 @@ pub enum ValidateError {
     /// The integrity attribute is missing or malformed, as the error inside says.
     #[error(transparent)]
     Parse(StunParseError),
-    /// The digest that the message has is not the digest of the message under the key.
+    /// The digest in the message is not the digest of the message under the key.
     #[error("the digest is not that of the message")]
     IntegrityFailed,
 }
 
-/// Why something was not written. The writer is then as it was.
+/// Why something was not written. The writer stays as it was.
 #[derive(Debug, Clone, Copy, PartialEq, Eq, Error)]
 pub enum StunWriteError {
-    /// This attribute is written by a call of its own, or by none.
+    /// This call does not write attributes of this type; another call does, or none.
     #[error("the attribute is not written by this call")]
     NotAllowed,
-    /// The message has an integrity attribute, after which no other may be written.
+    /// The message has an integrity attribute. This call writes nothing after one.
     #[error("the message has its integrity attribute already")]
     MessageIntegrityExists,
     /// The message has an attribute of this type.
     #[error("attribute {0} is in the message already")]
     AttributeExists(AttributeType),
-    /// The value would be longer than its attribute may hold, or the message longer than 65532
+    /// The value is longer than its attribute may hold, or the message would have more than 65532
     /// bytes after its header.
     #[error("the value or the message would be too large")]
     TooLarge,
-    /// The room of the writer is less than what would be written.
+    /// The writer has too little room.
     #[error("the writer has too little room")]
     TooSmall,
-    /// The digest cannot be made, since its key is not known.
+    /// The key of the digest is not known.
     #[error("there is no key for the integrity attribute")]
     IntegrityFailed,
     /// An allocation failed.

@@ -1,4 +1,4 @@
-//! The hash functions that digests and keys are made by.
+//! The hash functions of digests and keys.
 
 ghost use Rattle.std.specs.Prelude.{◌≡◌, ◌≤◌, ◌++◌, ℕ, List, [], length};
 ghost use Rattle.md5.specs.Md5.{md5};
@@ -13,11 +13,11 @@ use sha1::Sha1;
 use sha2::{Digest, Sha256};
 use std::convert::AsSlice;
 
-/// A hash function with blocks of 64 bytes, which is fed piece by piece.
+/// A hash function with blocks of 64 bytes. A message is fed to it in pieces.
 pub(crate) trait HashFunction: Drop {
     type Digest: AsSlice<u8> + Drop;
 
-    // The hasher holds this message.
+    // The hasher has been fed this message.
     ghost holds: { Self → List ℕ → Type 0 };
 
     // The digest of a message.
@@ -30,7 +30,7 @@ pub(crate) trait HashFunction: Drop {
         ensures { (message : List ℕ) →
             holds self.old message → holds self.new (message ++ piece.now) };
 
-    /// A hasher that holds the same message.
+    /// A hasher that has been fed the same message.
     fn copy(&self) -> Self
         ensures { (message : List ℕ) → holds self.now message → holds result message };
 

@@ -12,8 +12,7 @@ use std::marker::Model;
 /// The number of bytes of a header.
 pub const HEADER_LENGTH: usize = 20;
 
-/// The magic cookie: what the four bytes after type and length hold, in network order (RFC 8489,
-/// section 5).
+/// The magic cookie: the four bytes after type and length, in network order (RFC 8489, section 5).
 pub const MAGIC_COOKIE: u32 = 0x2112_A442;
 
 /// The header of a message: its first 20 bytes, without the cookie (RFC 8489, section 5).
@@ -48,11 +47,11 @@ impl Model for MessageHeader {
 }
 
 impl MessageHeader {
-    /// The header that these bytes begin with. What follows the 20 bytes is not looked at.
+    /// The header that these bytes begin with. The bytes after the first 20 are not read.
     ///
-    /// The errors, in the order in which they are looked for: `Truncated` for fewer than 20 bytes;
-    /// `NotStun` where the top two bits are not zero, the cookie is another, or the length is
-    /// no multiple of 4. It does not allocate.
+    /// It fails with `Truncated` for fewer than 20 bytes. Then it fails with `NotStun` if the top
+    /// two bits are not zero, the cookie is another, or 4 does not divide the length. It does not
+    /// allocate.
     pub fn from_bytes(bytes: &[u8]) -> Result<MessageHeader, StunParseError>
         ensures ok { IsOk result ↔ BeginsWithHeader bytes.now }
         ensures value { IfOk result (λ header. header ≡ header_of bytes.now) }
@@ -87,7 +86,7 @@ impl MessageHeader {
         self.message_type
     }
 
-    /// How many bytes the message has after its header, by its length field: a multiple of 4.
+    /// The length field: how many bytes the message has after its header. It is a multiple of 4.
     pub fn data_length(&self) -> u16
         ensures value { result ≡ self.now.data_length }
         ensures aligned { result % 4 ≡ 0 }

@@ -21,13 +21,13 @@ pub const SHA256_LENGTH: usize = 32;
 /// The number of bytes of one block of both hash functions.
 const BLOCK_LENGTH: usize = 64;
 
-/// What the key is xored with before the text is hashed.
+/// The byte that each byte of the key is xored with before the text is hashed.
 const INNER_PAD: u8 = 0x36;
 
-/// What the key is xored with before the digest is hashed.
+/// The byte that each byte of the key is xored with before the inner digest is hashed.
 const OUTER_PAD: u8 = 0x5c;
 
-/// The key as one block: a longer key is hashed, and what is shorter is filled up by zeros.
+/// The key as one block: a longer key is hashed, and zeros fill up the block.
 fn key_block<H: HashFunction>(key: &[u8]) -> [u8; BLOCK_LENGTH]
     ensures { result ≡ spec.key_block H.digest key.now }
 {
@@ -44,7 +44,7 @@ fn key_block<H: HashFunction>(key: &[u8]) -> [u8; BLOCK_LENGTH]
 /// The bytes, filled up to a block by zeros.
 fn filled(bytes: &[u8]) -> [u8; BLOCK_LENGTH]
     requires { length bytes.now ≤ 64 }
-    ensures { result ≡ spec.filled bytes.now }
+    ensures { result ≡ spec.block_of bytes.now }
 {
     let mut block = [0; BLOCK_LENGTH];
     block[..bytes.len()].copy_from_slice(bytes);
@@ -53,7 +53,7 @@ fn filled(bytes: &[u8]) -> [u8; BLOCK_LENGTH]
 
 /// Each byte of the block xor the pad.
 fn padded(block: &[u8; BLOCK_LENGTH], pad: u8) -> [u8; BLOCK_LENGTH]
-    ensures { result ≡ spec.padded pad block.now }
+    ensures { result ≡ spec.xor_pad pad block.now }
 {
     let mut masked = [0; BLOCK_LENGTH];
     for i in 0..BLOCK_LENGTH {
@@ -62,9 +62,9 @@ fn padded(block: &[u8; BLOCK_LENGTH], pad: u8) -> [u8; BLOCK_LENGTH]
     masked
 }
 
-/// A hasher that holds the key's block under a pad.
+/// A hasher that has been fed the key's block under a pad.
 fn begun<H: HashFunction>(block: &[u8; BLOCK_LENGTH], pad: u8) -> H
-    ensures { H.holds result (spec.padded pad block.now) }
+    ensures { H.holds result (spec.xor_pad pad block.now) }
 {
     let mut hasher = H::start();
     hasher.feed(&padded(block, pad));
@@ -95,8 +95,9 @@ fn hmac<H: HashFunction>(key: &[u8], pieces: &[&[u8]]) -> H::Digest
     outer.finish()
 }
 
-/// What HMAC does before it reads the text (RFC 2104, section 4): a hasher that holds the key's block under the inner pad, and
-/// one that holds it under the outer pad. Who has them can make digests of the key, so they are kept as a key is.
+/// The part of HMAC that comes before the text (RFC 2104, section 4). One hasher has been fed the
+/// key's block under the inner pad, the other the key's block under the outer pad. They are as
+/// secret as the key: digests under the key can be made with them.
 #[derive(Drop)]
 pub(crate) struct BegunHmac<H: HashFunction> {
     inner: H,
@@ -115,7 +116,7 @@ impl<H: HashFunction> BegunHmac<H> {
         }
     }
 
-    /// HMAC of the pieces in their order as one text, under the key whose hashers these are.
+    /// HMAC of the pieces, in their order as one text, under the key of these hashers.
     #[tactic(auto, unfolding(crate::specs::Hmac::hmac))]
     pub(crate) fn digest(&self, pieces: &[&[u8]]) -> H::Digest
         ensures { (key : List ℕ) →
@@ -131,16 +132,16 @@ impl<H: HashFunction> BegunHmac<H> {
     }
 }
 
-/// HMAC-SHA1 (RFC 2104) of the pieces in their order, as one text. Keys and texts of any length are
-/// taken. It does not allocate.
+/// HMAC-SHA1 (RFC 2104) of the pieces in their order, as one text. Key and text may have any
+/// length. It does not allocate.
 pub fn hmac_sha1(key: &[u8], pieces: &[&[u8]]) -> [u8; SHA1_LENGTH]
     ensures { result ≡ spec.hmac sha1 key.now (concat (map (λ piece. piece.now) pieces.now)) }
 {
     hmac::<Sha1>(key, pieces)
 }
 
-/// HMAC-SHA256 (RFC 2104) of the pieces in their order, as one text. Keys and texts of any length
-/// are taken. It does not allocate.
+/// HMAC-SHA256 (RFC 2104) of the pieces in their order, as one text. Key and text may have any
+/// length. It does not allocate.
 pub fn hmac_sha256(key: &[u8], pieces: &[&[u8]]) -> [u8; SHA256_LENGTH]
     ensures { result ≡ spec.hmac sha256 key.now (concat (map (λ piece. piece.now) pieces.now)) }
 {

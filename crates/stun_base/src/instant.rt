@@ -1,4 +1,4 @@
-//! Moments, which the caller tells: no call reads a clock.
+//! Times, which the caller passes: no call reads a clock.
 
 ghost use Rattle.std.specs.Prelude.{◌≡◌, ◌-◌};
 ghost use Rattle.std.specs.Duration.{as_nanos};
@@ -8,10 +8,10 @@ use std::marker::Model;
 use std::ops::{Add, Sub};
 use std::time::Duration;
 
-/// A moment, in whole nanoseconds from a start that the caller chooses.
+/// A time, in whole nanoseconds since a start that the caller chooses.
 ///
-/// Contracts see it as that number, and moments are ordered as numbers. A sum stops at
-/// `Instant::MAX`, and a difference at zero, so no call refuses.
+/// Contracts see it as that number, and times are ordered as numbers. A sum stops at
+/// `Instant::MAX`, and a difference at zero, so no call fails.
 #[derive(Clone, Copy, Debug, PartialEq, Eq, PartialOrd, Ord, Hash)]
 pub struct Instant {
     nanos: u64,
@@ -28,19 +28,19 @@ impl Model for Instant {
 }
 
 impl Instant {
-    /// The first moment.
+    /// The first time.
     pub const ZERO: Instant = Instant { nanos: 0 };
-    /// The last moment, 2^64 - 1 nanoseconds after the first.
+    /// The last time, 2^64 - 1 nanoseconds after the first.
     pub const MAX: Instant = Instant { nanos: u64::MAX };
 
-    /// The moment so many nanoseconds after the first.
+    /// The time so many nanoseconds after the first.
     pub fn from_nanos(nanos: u64) -> Instant
         ensures { result ≡ nanos }
     {
         Instant { nanos }
     }
 
-    /// The nanoseconds since the first moment.
+    /// The nanoseconds since the first time.
     pub fn as_nanos(self) -> u64
         ensures { result ≡ self }
     {
@@ -48,7 +48,7 @@ impl Instant {
     }
 }
 
-/// The moment `span` later, and `Instant::MAX` where that would be past it.
+/// The time `span` later, at most `Instant::MAX`.
 impl Add<Duration> for Instant {
     type Output = Instant;
 
@@ -62,7 +62,7 @@ impl Add<Duration> for Instant {
     }
 }
 
-/// The span since an earlier moment, and zero since a later one.
+/// The span since an earlier time, and zero since a later one.
 impl Sub for Instant {
     type Output = Duration;
 

@@ -1,6 +1,7 @@
 //! Keys of message integrity (RFC 8489, sections 9.1.1 and 9.2.2), and hashes of user names (14.4).
 
-ghost use Rattle.std.specs.Prelude.{◌≡◌, ◌≤◌, ◌↔◌, [], length, true, IfOk, IsOk, Some, IfSome, IsSome, codes};
+ghost use Rattle.std.specs.Prelude.{◌≡◌, ◌≤◌, ◌↔◌, [], length, true, IfOk};
+ghost use Rattle.std.specs.Prelude.{IsOk, Some, IfSome, IsSome, codes};
 ghost use Rattle.std.specs.Fmt.{WritesOnOk, WritesStyledOnOk};
 ghost use Rattle.std.specs.Str.{is_utf8};
 ghost use Rattle.stun_base.specs.Keys as spec;
@@ -16,7 +17,7 @@ use std::alloc::{AllocError, Allocator, Global};
 use std::fmt;
 use std::marker::Model;
 
-/// The number of bytes of the longest key that is kept without an allocation.
+/// The most bytes of a key that is kept without an allocation.
 const INLINE_LENGTH: usize = 32;
 
 /// The key of a digest. Up to 32 bytes are in the value itself.
@@ -46,8 +47,8 @@ impl<A: Allocator> Model for IntegrityKey<A> {
 }
 
 impl<A: Allocator> IntegrityKey<A> {
-    /// A key of these bytes. Up to 32 bytes are in the key itself; more are allocated by `alloc`,
-    /// and the one error is that this fails.
+    /// A key of these bytes. Up to 32 bytes are in the key itself; more are allocated by `alloc`.
+    /// It fails only if this allocation fails.
     pub fn from_bytes(alloc: A, bytes: &[u8]) -> Result<Self, AllocError>
         ensures ok { IfOk result (λ key. key ≡ bytes.now) }
         ensures succeeds_inline { length bytes.now ≤ 32 → IsOk result }
@@ -70,7 +71,8 @@ impl<A: Allocator> IntegrityKey<A> {
     }
 }
 
-/// The same bytes. Up to 32 are copied without an allocation, more are allocated by the same allocator.
+/// The same bytes. Up to 32 are copied without an allocation, more are allocated by the same
+/// allocator.
 impl<A: Allocator + Copy> Clone for IntegrityKey<A> {
     ghost is_clone = { λ key copy. copy ≡ key };
 
@@ -96,7 +98,7 @@ impl<A: Allocator> fmt::Debug for IntegrityKey<A> {
         ensures writes { WritesOnOk W.write_str_gives f.old result
             (codes "IntegrityKey { .. }") f.new }
 
-        // So it is whatever width, precision or other option is asked.
+        // It writes the same with every width, precision and other option.
         ensures styled { WritesStyledOnOk W.write_str_gives f.old result
             (codes "IntegrityKey { .. }") f.new }
     {
@@ -104,8 +106,9 @@ impl<A: Allocator> fmt::Debug for IntegrityKey<A> {
     }
 }
 
-/// Puts a user's name, realm and password into an empty text, with colons between them, or answers false where they find no
-/// room. It is filled where it is: a text that is moved after it was filled is slower to hash.
+/// Puts a user's name, realm and password into an empty text, with colons between them. Returns
+/// false if they do not fit. The text is filled in place, since one that is moved after it was
+/// filled is slower to hash.
 fn join(text: &mut ShortText, username: &[u8], realm: &[u8], password: &[u8]) -> bool
     requires { text.old ≡ [] }
     ensures { result ≡ true → text.new ≡ spec.with_colon
@@ -118,7 +121,8 @@ fn join(text: &mut ShortText, username: &[u8], realm: &[u8], password: &[u8]) ->
         && text.push(password)
 }
 
-/// The digest of a user's name, realm and password with colons between them, over each in turn.
+/// The digest of a user's name, realm and password with colons between them, fed one after the
+/// other.
 fn digest_in_turn<H: HashFunction>(username: &[u8], realm: &[u8], password: &[u8]) -> H::Digest
     ensures value { H.Digest.items result ≡
         H.digest (spec.with_colon (spec.with_colon username.now realm.now) password.now) }
@@ -154,7 +158,7 @@ fn is_utf8(bytes: &[u8]) -> bool
     simdutf8::basic::from_utf8(bytes).is_ok()
 }
 
-/// The digest of three texts with colons between them, or `None` where one of them is not UTF-8.
+/// The digest of three texts with colons between them, or `None` if one of them is not UTF-8.
 fn digest_of_utf8<H: HashFunction>(
     username: &[u8],
     realm: &[u8],
@@ -164,7 +168,7 @@ fn digest_of_utf8<H: HashFunction>(
         H.digest (spec.with_colon (spec.with_colon username.now realm.now) password.now)) }
     ensures utf8 { IsSome result ↔ (spec.are_utf8 username.now realm.now password.now ≡ true) }
 {
-    // The test comes last, since a processor can make it while it still works on the digest.
+    // The test comes last: a processor can make it while it still works on the digest.
     let mut text = ShortText::new();
     if join(&mut text, username, realm, password) {
         let digest = digest_of::<H>(text.as_bytes());
@@ -176,11 +180,13 @@ fn digest_of_utf8<H: HashFunction>(
     }
 }
 
-/// The long-term key of a user at a realm: 16 bytes of MD5 for HMAC-SHA1, 32 of SHA-256 for
-/// HMAC-SHA256, each the hash of `username:realm:password` (RFC 8489, sections 9.2.2 and 18.5.1).
-/// The texts are taken as they are: to prepare them by OpaqueString (RFC 8265, section 4.2) is the caller's part.
+/// The long-term key of a user at a realm: the hash of `username:realm:password` (RFC 8489,
+/// sections 9.2.2 and 18.5.1). It has 16 bytes of MD5 for HMAC-SHA1, and 32 of SHA-256 for
+/// HMAC-SHA256. The texts are used as they are. The caller prepares them by OpaqueString (RFC 8265,
+/// section 4.2).
 ///
-/// It does not allocate: `alloc` is dropped, and only settles in whose memory longer keys of this type would be.
+/// It does not allocate: `alloc` is dropped. It only names the allocator of longer keys of this
+/// type.
 pub fn long_term_key<A: Allocator>(
     alloc: A,
     algorithm: IntegrityAlgorithm,
@@ -222,26 +228,30 @@ pub(crate) fn hashed_key<A: Allocator>(
 }
 
 /// The long-term key for HMAC-SHA1 of texts that come as bytes: MD5 of `username:realm:password`
-/// (RFC 8489, section 9.2.2), or `None` where one of them is not UTF-8. They are taken as they are. It does not allocate.
+/// (RFC 8489, section 9.2.2). It is `None` if one of them is not UTF-8. They are used as they are.
+/// It does not allocate.
 pub fn md5_key_from_utf8(username: &[u8], realm: &[u8], password: &[u8]) -> Option<[u8; 16]>
-    ensures key { IfSome result (λ key. key ≡ spec.long_term_key IntegrityAlgorithm.Sha1 username.now realm.now password.now) }
+    ensures key { IfSome result (λ key. key
+        ≡ spec.long_term_key IntegrityAlgorithm.Sha1 username.now realm.now password.now) }
     ensures utf8 { IsSome result ↔ (spec.are_utf8 username.now realm.now password.now ≡ true) }
 {
     digest_of_utf8::<Md5>(username, realm, password)
 }
 
 /// The long-term key for HMAC-SHA256 of texts that come as bytes: SHA-256 of
-/// `username:realm:password` (RFC 8489, section 18.5.1), or `None` where one of them is not UTF-8. They are taken as they are.
-/// It does not allocate.
+/// `username:realm:password` (RFC 8489, section 18.5.1). It is `None` if one of them is not UTF-8.
+/// They are used as they are. It does not allocate.
 pub fn sha256_key_from_utf8(username: &[u8], realm: &[u8], password: &[u8]) -> Option<[u8; 32]>
-    ensures key { IfSome result (λ key. key ≡ spec.long_term_key IntegrityAlgorithm.Sha256 username.now realm.now password.now) }
+    ensures key { IfSome result (λ key. key
+        ≡ spec.long_term_key IntegrityAlgorithm.Sha256 username.now realm.now password.now) }
     ensures utf8 { IsSome result ↔ (spec.are_utf8 username.now realm.now password.now ≡ true) }
 {
     digest_of_utf8::<Sha256>(username, realm, password)
 }
 
-/// The hash that names a user at a realm: SHA-256 of `username:realm` (RFC 8489, section 14.4). Both texts are taken as they
-/// are: to prepare them by OpaqueString (RFC 8265, section 4.2) is the caller's part. It does not allocate.
+/// The hash that names a user at a realm: SHA-256 of `username:realm` (RFC 8489, section 14.4).
+/// Both texts are used as they are. The caller prepares them by OpaqueString (RFC 8265, section
+/// 4.2). It does not allocate.
 pub fn userhash(username: &str, realm: &str) -> [u8; 32]
     ensures { result ≡ spec.userhash username.now realm.now }
 {

@@ -1,6 +1,7 @@
-//! Laws of the types of this crate: what a type of a message is made of, then orders, equalities and copies, then constants.
+//! Laws of the types of this crate: the parts of a message type, then orders, equalities and
+//! copies, then constants.
 //!
-//! Each function does in one line what its users do, and its contract says what comes of it.
+//! Each function makes one call, and its contract says what the call returns.
 
 ghost use Rattle.std.specs.Prelude.{◌≡◌, ◌<◌, ◌↔◌, ◌^◌, ◌-◌, ◌∷◌, [], IsTrue, Ok, Some, map};
 ghost use Rattle.std.specs.Ordering.{nat_cmp};
@@ -20,7 +21,7 @@ use crate::words::WordSource;
 use std::alloc::{AllocError, Allocator};
 use std::cmp::Ordering;
 
-/// A type is nothing but its class and its method.
+/// A type has a class and a method, and nothing else.
 pub fn parts(message_type: MessageType) -> (MessageClass, Method)
     ensures { type_number result.0 result.1 ≡ message_type }
 {
@@ -55,14 +56,14 @@ pub fn order_of_ids(one: TransactionId, other: TransactionId) -> Ordering
     one.cmp(&other)
 }
 
-/// Moments are ordered as numbers of nanoseconds.
+/// Times are ordered as numbers of nanoseconds.
 pub fn is_earlier(one: Instant, other: Instant) -> bool
     ensures { IsTrue result ↔ (one < other) }
 {
     one < other
 }
 
-/// Moments are compared as numbers of nanoseconds.
+/// Times are compared as numbers of nanoseconds.
 pub fn order_of_moments(one: Instant, other: Instant) -> Ordering
     ensures { result ≡ nat_cmp one other }
 {
@@ -83,7 +84,7 @@ pub fn is_same_id(one: TransactionId, other: TransactionId) -> bool
     one == other
 }
 
-/// Moments are equal as numbers of nanoseconds.
+/// Times are equal as numbers of nanoseconds.
 pub fn is_same_moment(one: Instant, other: Instant) -> bool
     ensures { IsTrue result ↔ (one ≡ other) }
 {
@@ -111,7 +112,7 @@ pub fn is_same_type(one: MessageType, other: MessageType) -> bool
     one == other
 }
 
-/// Headers are equal where all their fields are.
+/// Headers are equal if and only if all their fields are.
 pub fn is_same_header(one: MessageHeader, other: MessageHeader) -> bool
     ensures { IsTrue result ↔ (one ≡ other) }
 {
@@ -153,7 +154,7 @@ pub fn is_same_write_error(one: StunWriteError, other: StunWriteError) -> bool
     one == other
 }
 
-/// Short-term credentials are equal where their passwords are the same bytes.
+/// Short-term credentials are equal if and only if their passwords are the same bytes.
 pub fn is_same_password<A: Allocator>(
     one: &ShortTermCredentials<A>,
     other: &ShortTermCredentials<A>,
@@ -163,7 +164,7 @@ pub fn is_same_password<A: Allocator>(
     one == other
 }
 
-/// Long-term credentials are equal where name and password are the same bytes.
+/// Long-term credentials are equal if and only if name and password are the same bytes.
 pub fn is_same_user<A: Allocator>(
     one: &LongTermCredentials<A>,
     other: &LongTermCredentials<A>,
@@ -229,14 +230,14 @@ pub fn copied_errors(
     Ok((parse.clone()?, validate.clone()?, write.clone()?))
 }
 
-/// The first moment is 0.
+/// The first time is 0.
 pub fn first_moment() -> Instant
     ensures { result ≡ 0 }
 {
     Instant::ZERO
 }
 
-/// The last moment is the greatest number of 64 bits.
+/// The last time is the greatest number of 64 bits.
 pub fn last_moment() -> Instant
     ensures { result ≡ 2 ^ 64 - 1 }
 {
@@ -262,8 +263,7 @@ pub fn binding_types() -> [MessageType; 4]
     ]
 }
 
-/// Where the bits of a method are in a type: the method 0x5A3 and the class of a success give
-/// 0x1743.
+/// The bits of a method in a type: method 0x5A3 and class success are type 0x1743.
 pub fn spread_type() -> Option<MessageType>
     ensures { result ≡ Some 0x1743 }
 {
@@ -274,7 +274,8 @@ pub fn spread_type() -> Option<MessageType>
 /// The numbers of the registry (RFC 8489, section 18.3), in ascending order.
 pub fn attribute_types() -> [AttributeType; 11]
     ensures { map (λ kind. kind.0) result ≡
-        0x0006 ∷ 0x0008 ∷ 0x0009 ∷ 0x0014 ∷ 0x0015 ∷ 0x001C ∷ 0x001D ∷ 0x001E ∷ 0x0020 ∷ 0x8002 ∷ 0x8028 ∷ [] }
+        0x0006 ∷ 0x0008 ∷ 0x0009 ∷ 0x0014 ∷ 0x0015 ∷ 0x001C ∷ 0x001D ∷ 0x001E ∷ 0x0020
+        ∷ 0x8002 ∷ 0x8028 ∷ [] }
 {
     [
         AttributeType::USERNAME,
@@ -291,7 +292,7 @@ pub fn attribute_types() -> [AttributeType; 11]
     ]
 }
 
-/// Sources are equal where the same words are left.
+/// Sources are equal if and only if the same numbers are left.
 pub fn is_same_source(one: &WordSource, other: &WordSource) -> bool
     ensures { IsTrue result ↔ (one.now ≡ other.now) }
 {

@@ -1,4 +1,5 @@
-//! The parts of STUN (RFC 8489) that the crates above share: headers, types, ids, moments, errors, HMAC, keys and credentials.
+//! The parts of STUN (RFC 8489) that the crates above share: headers, types, ids, moments, errors,
+//! HMAC, keys and credentials.
 #![tactic(auto)]
 
 pub mod algorithm;

@@ -8,9 +8,9 @@ use std::marker::Model;
 /// The class of a message: two bits of its type.
 #[derive(Debug, Clone, Copy, PartialEq, Eq, Hash)]
 pub enum MessageClass {
-    /// A request, which is answered by a success or an error.
+    /// A request. A success or an error answers it.
     Request,
-    /// An indication, which is not answered.
+    /// An indication. Nothing answers it.
     Indication,
     /// The response to a request that was carried out.
     Success,
@@ -47,7 +47,7 @@ impl Model for Method {
 pub const BINDING: Method = Method(0x001);
 
 impl Method {
-    /// The method of this number, or `None` where it takes more than 12 bits.
+    /// The method of this number, or `None` if it has more than 12 bits.
     pub fn new(number: u16) -> Option<Method>
         ensures fits { IsSome result ↔ (number < 2 ^ 12) }
         ensures value { IfSome result (λ method. method ≡ number) }
@@ -70,8 +70,8 @@ impl Method {
 
 /// The type of a message: its class and its method in 14 bits (RFC 8489, section 5).
 ///
-/// Contracts see it as that number. From the top, its bits are M11 to M7, C1, M6 to M4, C0 and M3
-/// to M0 of a method M and a class C.
+/// Contracts see it as that number. Its bits, from the top, are M11 to M7, C1, M6 to M4, C0 and M3
+/// to M0, of method M and class C.
 #[derive(Debug, Clone, Copy, PartialEq, Eq, Hash)]
 pub struct MessageType(u16);
 
@@ -88,7 +88,7 @@ impl Model for MessageType {
 }
 
 impl MessageType {
-    /// The type of this number, or `None` where it takes more than 14 bits.
+    /// The type of this number, or `None` if it has more than 14 bits.
     pub(crate) fn from_number(number: u16) -> Option<MessageType>
         ensures fits { IsSome result ↔ (number < 2 ^ 14) }
         ensures value { IfSome result (λ kind. kind ≡ number) }

@@ -4,7 +4,7 @@ ghost use Rattle.std.specs.Borrow.{ffalse};
 
 use std::alloc::{AllocError, Allocator};
 
-/// An allocator without memory: each allocation is refused.
+/// An allocator without memory: each allocation fails.
 #[derive(Clone, Copy)]
 pub(crate) struct NoMemory;
 

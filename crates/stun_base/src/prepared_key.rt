@@ -1,4 +1,5 @@
-//! A key whose digests are begun ahead, for whoever makes or verifies many of them (RFC 2104, section 4).
+//! A key for many digests: the part of HMAC that comes before the text is done once (RFC 2104,
+//! section 4).
 
 ghost use Rattle.std.specs.Prelude.{◌≡◌, Some, codes, map};
 ghost use Rattle.std.specs.List.{concat};
@@ -16,19 +17,19 @@ use std::alloc::{Allocator, Global};
 use std::fmt;
 use std::marker::Model;
 
-/// A key with what each HMAC under it does before it reads its text (RFC 2104, section 4), for one
-/// algorithm: a digest of that algorithm hashes two blocks fewer than under the key alone, and one of
-/// the other algorithm as many. It takes about 200 bytes more than the key, and no allocation.
+/// A key, and for one algorithm the part of HMAC that comes before the text (RFC 2104, section 4).
+/// A digest of that algorithm hashes two blocks fewer than under the key alone. One of the other
+/// algorithm hashes as many. It has about 200 bytes more than the key, and is not allocated.
 ///
-/// Contracts see its bytes, as those of the key, and no clause counts the blocks. What it holds
-/// beside them is as secret as they are, and `Debug` shows none of it.
+/// Contracts see the bytes of the key. No clause counts the blocks. All that it holds is as secret
+/// as the key, and `Debug` shows none of it.
 #[derive(Drop)]
 pub struct PreparedKey<A: Allocator = Global> {
     key: IntegrityKey<A>,
     begun: Begun,
 }
 
-/// The hashers of the algorithm that was prepared for.
+/// The hashers of one algorithm.
 #[derive(Drop)]
 enum Begun {
     Sha1(BegunHmac<Sha1>),
@@ -65,7 +66,8 @@ impl<A: Allocator> PreparedKey<A> {
         &self.key
     }
 
-    /// HMAC-SHA1 of the pieces in their order, as one text: the same as of `hmac::hmac_sha1`. It does not allocate.
+    /// HMAC-SHA1 of the pieces in their order, as one text: the same as by `hmac::hmac_sha1`. It
+    /// does not allocate.
     pub fn hmac_sha1(&self, pieces: &[&[u8]]) -> [u8; SHA1_LENGTH]
         ensures { result ≡ hmac sha1 self.now (concat (map (λ piece. piece.now) pieces.now)) }
     {
@@ -75,7 +77,8 @@ impl<A: Allocator> PreparedKey<A> {
         }
     }
 
-    /// HMAC-SHA256 of the pieces in their order, as one text: the same as of `hmac::hmac_sha256`. It does not allocate.
+    /// HMAC-SHA256 of the pieces in their order, as one text: the same as by `hmac::hmac_sha256`.
+    /// It does not allocate.
     pub fn hmac_sha256(&self, pieces: &[&[u8]]) -> [u8; SHA256_LENGTH]
         ensures { result ≡ hmac sha256 self.now (concat (map (λ piece. piece.now) pieces.now)) }
     {
@@ -93,7 +96,7 @@ impl<A: Allocator> fmt::Debug for PreparedKey<A> {
         ensures writes { WritesOnOk W.write_str_gives f.old result
             (codes "PreparedKey { .. }") f.new }
 
-        // So it is whatever width, precision or other option is asked.
+        // It writes the same with every width, precision and other option.
         ensures styled { WritesStyledOnOk W.write_str_gives f.old result
             (codes "PreparedKey { .. }") f.new }
     {

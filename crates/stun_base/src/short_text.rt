@@ -10,9 +10,9 @@ use std::simd::prelude::*;
 /// The most bytes of a short text.
 const LONGEST: usize = 64;
 
-/// Bytes in a row, up to 64. To hash or test them at once takes less than to do so piece by piece.
+/// Up to 64 bytes in one block. It is quicker to hash or test them at once than piece by piece.
 ///
-/// Contracts see them as a list. Zeros follow them, so that the test can read the whole block.
+/// Contracts see them as a list. Zeros fill the block, so that the test can read all of it.
 #[derive(Drop)]
 pub(crate) struct ShortText {
     block: [u8; LONGEST],
@@ -26,7 +26,8 @@ impl Model for ShortText {
 
     ghost view = { λ text. take text.length text.block };
 
-    ghost invariant = { λ text. (text.length ≤ 64) × (drop text.length text.block ≡ replicate (64 - text.length) 0) };
+    ghost invariant = { λ text.
+        (text.length ≤ 64) × (drop text.length text.block ≡ replicate (64 - text.length) 0) };
 }
 
 impl ShortText {
@@ -40,7 +41,7 @@ impl ShortText {
         }
     }
 
-    /// Adds a piece, or answers false where there is no room for it.
+    /// Adds a piece, or returns false if it does not fit.
     pub(crate) fn push(&mut self, piece: &[u8]) -> bool
         ensures fits { IsTrue result ↔ (length self.old + length piece.now ≤ 64) }
         ensures added { result ≡ true → self.new ≡ self.old ++ piece.now }

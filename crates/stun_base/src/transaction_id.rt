@@ -37,7 +37,7 @@ impl TransactionId {
         TransactionId(BigEndian::read_uint128(bytes, 12))
     }
 
-    /// The id of this number, or `None` where it takes more than 96 bits.
+    /// The id of this number, or `None` if it has more than 96 bits.
     pub fn from_u128(number: u128) -> Option<TransactionId>
         ensures fits { IsSome result ↔ (number < 2 ^ 96) }
         ensures value { IfSome result (λ id. id ≡ number) }
@@ -49,10 +49,10 @@ impl TransactionId {
         }
     }
 
-    /// A random id, from the next three words of a source, the first word the highest.
+    /// A random id: the next three numbers of 32 bits of a source, the first in the highest bits.
     ///
-    /// RFC 8489, section 5, asks for ids that are uniform and cannot be guessed: hand in a source
-    /// of that quality.
+    /// RFC 8489, section 5, asks for ids that are uniform and cannot be guessed. Pass a source of
+    /// that quality.
     #[tactic(auto, unfolding(crate::specs::Words::next_words, crate::specs::Words::after_words))]
     pub fn generate<R: Rng>(rng: &mut R) -> TransactionId
         ensures value { result ≡ value_of_words (next_words 3 (R.stream rng.old)) }

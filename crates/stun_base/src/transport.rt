@@ -1,4 +1,4 @@
-//! What carries the messages.
+//! The transports that carry messages.
 
 ghost use Rattle.std.specs.Prelude.{Some};
 ghost use Rattle.stun_base.specs.Transport.{name_of};

@@ -1,4 +1,4 @@
-//! Random words that are handed in.
+//! Random numbers that the caller passes.
 
 ghost use Rattle.std.specs.Prelude.{◌≡◌, ◌+◌, length};
 ghost use Rattle.rand_core.specs.Steps.{stream_of, steps_u32};
@@ -8,9 +8,10 @@ use rand_core::utils::NextWord;
 use rand_core::{Rng, utils};
 use std::marker::Model;
 
-/// Sixteen words that are handed in, as a source of random words: it gives them in their order, and zeros after them.
+/// A source of random numbers that the caller passed: sixteen of 32 bits. It returns them in their
+/// order, and zeros after them.
 ///
-/// Contracts see the words that are left.
+/// Contracts see the numbers that are left.
 #[derive(Debug, Drop)]
 pub struct WordSource {
     words: [u32; 16],
@@ -27,7 +28,7 @@ impl Model for WordSource {
     ghost invariant = { λ s. s.taken ≤ 16 };
 }
 
-/// Two sources are equal where the same words are left.
+/// Two sources are equal if and only if the same numbers are left.
 impl PartialEq for WordSource {
     ghost use Rattle.std.specs.Prelude.{nat_eq};
     ghost use Rattle.std.specs.Cmp.{partial_equiv_from_equiv};
@@ -49,7 +50,7 @@ impl Eq for WordSource {
 }
 
 impl WordSource {
-    /// A source of these words.
+    /// A source of these numbers.
     pub fn new(words: [u32; 16]) -> Self
         ensures words { result ≡ words }
         ensures count { length result ≡ 16 }
@@ -57,7 +58,7 @@ impl WordSource {
         WordSource { words, taken: 0 }
     }
 
-    /// How many of the sixteen words were taken.
+    /// How many of the sixteen numbers were taken.
     pub fn taken(&self) -> usize
         ensures { result + length self.now ≡ 16 }
     {

@@ -1,5 +1,6 @@
 -- What is a STUN message (RFC 8489, section 5).
-use Rattle.std.specs.Prelude.{◌≡◌, ℕ, ◌+◌, List, ◌++◌, length, take, drop, Option, Some, None, nat_lt, ◌==◌, if◌then◌else◌}
+use Rattle.std.specs.Prelude.{◌≡◌, ℕ, ◌+◌, List, ◌++◌, length, take, drop}
+use Rattle.std.specs.Prelude.{Option, Some, None, nat_lt, ◌==◌, if◌then◌else◌}
 use Rattle.byteorder.specs.Endian.{big_bytes}
 use Rattle.stun_base.specs.declared.error.StunParseError.{StunParseError}
 use Rattle.stun_base.specs.declared.error.StunParseError.TheVariants.{Truncated, TooLarge}

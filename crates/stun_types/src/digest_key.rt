@@ -1,4 +1,4 @@
-//! What a digest is made under: the bytes of a key, or a key that is prepared.
+//! The key of a digest: its bytes, or a prepared key.
 
 ghost use Rattle.std.specs.Prelude.{◌≡◌, ℕ, List};
 ghost use Rattle.stun_base.specs.Algorithm.{digest};

@@ -1,8 +1,10 @@
-//! What can be written to every writer.
+//! The calls of every writer.
 
-ghost use Rattle.std.specs.Prelude.{◌≡◌, ◌≤◌, ◌+◌, ◌-◌, ◌^◌, ◌↔◌, ◌++◌, false, min, length, None, IsTrue, IsOk, OnErr, OnOk};
+ghost use Rattle.std.specs.Prelude.{◌≡◌, ◌≤◌, ◌+◌, ◌-◌, ◌^◌, ◌↔◌, ◌++◌, false};
+ghost use Rattle.std.specs.Prelude.{min, length, None, IsTrue, IsOk, OnErr, OnOk};
 ghost use Rattle.stun_base.specs.Algorithm.{digest, digest_length};
-ghost use Rattle.stun_base.specs.Header.{BeginsWithHeader, header_of, transaction_id_field};
+ghost use Rattle.stun_base.specs.Header.{BeginsWithHeader, HEADER_LENGTH as header_length};
+ghost use Rattle.stun_base.specs.Header.{header_of, transaction_id_field};
 ghost use Rattle.stun_base.specs.Keys.OfCredentials.{keys_of};
 ghost use Rattle.stun_base.specs.MessageType.{class_in, IsResponse};
 ghost use Rattle.stun_types.specs.Attribute.{attribute_length};
@@ -10,7 +12,11 @@ ghost use Rattle.stun_types.specs.Grammar.{spelled, spelled_attribute};
 ghost use Rattle.stun_types.specs.Limits.{max_length};
 ghost use Rattle.stun_types.specs.Visible.{has_kind};
 ghost use Rattle.stun_types.specs.Walk.{walk};
-ghost use Rattle.stun_types.specs.Writing.{GainsIntegrity, GainsOne, IsOpen, RefusedBy, SpellsOneMore, VerifiesAfter, attribute_refusal, has_integrity, integrity_kind, is_set_apart, length_with, signing_refusal, with_attribute, with_integrity};
+ghost use Rattle.stun_types.specs.Writing.{GainsIntegrity, GainsOne, IsOpen, RefusedBy};
+ghost use Rattle.stun_types.specs.Writing.{SpellsOneMore, VerifiesAfter, attribute_refusal};
+ghost use Rattle.stun_types.specs.Writing.{has_integrity, integrity_kind, is_set_apart};
+ghost use Rattle.stun_types.specs.Writing.{length_with, signing_refusal, with_attribute};
+ghost use Rattle.stun_types.specs.Writing.{with_integrity};
 
 use crate::append::append_attribute;
 use crate::attribute::{Attribute, AttributeType, attribute_length};
@@ -28,7 +34,7 @@ use stun_base::message_type::MessageClass;
 use stun_base::prepared_key::PreparedKey;
 use stun_base::transaction_id::TransactionId;
 
-/// Whether only the calls for integrity write attributes of this type, or nobody.
+/// Whether only the calls that sign write attributes of this type, or no call.
 fn is_set_apart(kind: AttributeType) -> bool
     ensures { result ≡ is_set_apart kind.0 }
 {
@@ -37,16 +43,16 @@ fn is_set_apart(kind: AttributeType) -> bool
         || kind == AttributeType::FINGERPRINT
 }
 
-/// Calls that every writer has: they tell what its message has, add attributes, and sign it.
+/// The calls of every writer: they read the message, add attributes, and sign it.
 ///
-/// The writer is to hold a message without FINGERPRINT, as the builders leave it and each of these calls keeps it. Their
+/// They are for a message without FINGERPRINT: the builders write none, nor do these calls. Their
 /// conditions ask for less: as many bytes as a header has, or a header.
 pub trait MessageWriteExt: MessageWrite {
     /// Whether the message has an attribute of this type, visible or not.
     final fn has_attribute(&self, kind: AttributeType) -> bool
     where
         Self: Sized,
-        requires { 20 ≤ length (Self.bytes self.now) }
+        requires { header_length ≤ length (Self.bytes self.now) }
         ensures { result ≡ has_kind kind.0 (walk (Self.bytes self.now)) }
     {
         has_attribute(self.data(), kind)
@@ -84,28 +90,30 @@ pub trait MessageWriteExt: MessageWrite {
 
     /// Adds an attribute at the end.
     ///
-    /// It refuses by the first of these: a type that this call does not write (`NotAllowed`: the two integrity attributes and
-    /// FINGERPRINT), the message has an integrity attribute (`MessageIntegrityExists`), it has one of this type
-    /// (`AttributeExists`), it would be longer than 65532 bytes after its header (`TooLarge`), no room (`TooSmall`), an
-    /// allocation fails (`OutOfMemory`). A refusal leaves the bytes, the room and what was reserved.
+    /// It fails with the first of these that holds. `NotAllowed`: the type is that of an integrity
+    /// attribute or of FINGERPRINT. `MessageIntegrityExists`: the message has an integrity
+    /// attribute. `AttributeExists`: it has an attribute of this type. `TooLarge`: it would have
+    /// more than 65532 bytes after its header. `TooSmall`: the writer has too little room.
+    /// `OutOfMemory`: an allocation fails. If it fails, bytes, room and reservation stay as they
+    /// were.
     final fn add_attribute<A: Attribute>(&mut self, attribute: &A) -> Result<(), StunWriteError>
     where
         Self: Sized,
-        requires { 20 ≤ length (Self.bytes self.old) }
+        requires { header_length ≤ length (Self.bytes self.old) }
 
-        // The first reason that holds is answered, and with no reason only an allocation can fail.
+        // It fails with the first reason that holds. Without a reason only an allocation can fail.
         ensures refused { RefusedBy (attribute_refusal (Self.bytes self.old) (Self.room self.old)
             (A.kind attribute.now) (length (A.value attribute.now))) result }
         ensures bytes { OnOk result (Self.bytes self.new ≡ with_attribute (Self.bytes self.old)
             (record { kind = A.kind attribute.now; value = A.value attribute.now })) }
 
-        // Where it is reserved already nothing fails.
+        // It succeeds if the bytes are reserved already and there is no reason.
         ensures succeeds { attribute_refusal (Self.bytes self.old) (Self.room self.old)
             (A.kind attribute.now) (length (A.value attribute.now)) ≡ None
             → attribute_length (length (A.value attribute.now)) ≤ Self.reserved self.old
             → IsOk result }
 
-        // Reading finds what it found before, and this attribute after it.
+        // A reader finds the attributes from before, and this one after them.
         ensures added { OnOk result (GainsOne (Self.bytes self.old) (Self.bytes self.new)
             (record { kind = A.kind attribute.now; value = A.value attribute.now })) }
         ensures open { OnOk result (IsOpen (Self.bytes self.old) → IsOpen (Self.bytes self.new)) }
@@ -139,8 +147,8 @@ pub trait MessageWriteExt: MessageWrite {
         Ok(())
     }
 
-    /// Adds the integrity attribute of an algorithm, whose digest is made under the key that the credentials have for it:
-    /// the bytes of a password, or a long-term key. Nothing is allocated for the key. It refuses as
+    /// Adds the integrity attribute of an algorithm, under the key of the credentials for it: the
+    /// bytes of a password, or a long-term key. The key is not allocated. It fails as
     /// `add_message_integrity_with_key` does.
     final fn add_message_integrity<A: Allocator>(
         &mut self,
@@ -149,7 +157,7 @@ pub trait MessageWriteExt: MessageWrite {
     ) -> Result<(), StunWriteError>
     where
         Self: Sized,
-        requires { 20 ≤ length (Self.bytes self.old) }
+        requires { header_length ≤ length (Self.bytes self.old) }
         ensures refused { RefusedBy (signing_refusal (Self.bytes self.old)
             (Self.room self.old) algorithm) result }
         ensures succeeds { signing_refusal (Self.bytes self.old) (Self.room self.old) algorithm
@@ -171,11 +179,12 @@ pub trait MessageWriteExt: MessageWrite {
         add_integrity(self, &key.as_bytes(), algorithm)
     }
 
-    /// Adds the integrity attribute of an algorithm, whose digest is made under this key.
+    /// Adds the integrity attribute of an algorithm, under this key.
     ///
-    /// It refuses by the first of these: the message has an integrity attribute (`MessageIntegrityExists`), it would be longer
-    /// than 65532 bytes after its header (`TooLarge`), no room (`TooSmall`), an allocation fails (`OutOfMemory`). A refusal
-    /// leaves the bytes, the room and what was reserved.
+    /// It fails with the first of these that holds. `MessageIntegrityExists`: the message has an
+    /// integrity attribute. `TooLarge`: it would have more than 65532 bytes after its header.
+    /// `TooSmall`: the writer has too little room. `OutOfMemory`: an allocation fails. If it fails,
+    /// bytes, room and reservation stay as they were.
     final fn add_message_integrity_with_key<A: Allocator>(
         &mut self,
         key: &IntegrityKey<A>,
@@ -183,7 +192,7 @@ pub trait MessageWriteExt: MessageWrite {
     ) -> Result<(), StunWriteError>
     where
         Self: Sized,
-        requires { 20 ≤ length (Self.bytes self.old) }
+        requires { header_length ≤ length (Self.bytes self.old) }
         ensures refused { RefusedBy (signing_refusal (Self.bytes self.old)
             (Self.room self.old) algorithm) result }
         ensures succeeds { signing_refusal (Self.bytes self.old) (Self.room self.old) algorithm
@@ -204,7 +213,7 @@ pub trait MessageWriteExt: MessageWrite {
         add_integrity(self, &key.as_bytes(), algorithm)
     }
 
-    /// The same under a key that is borrowed, of any length.
+    /// The same under the bytes of a key, of any length.
     final fn add_message_integrity_with_key_bytes(
         &mut self,
         key: &[u8],
@@ -212,7 +221,7 @@ pub trait MessageWriteExt: MessageWrite {
     ) -> Result<(), StunWriteError>
     where
         Self: Sized,
-        requires { 20 ≤ length (Self.bytes self.old) }
+        requires { header_length ≤ length (Self.bytes self.old) }
         ensures refused { RefusedBy (signing_refusal (Self.bytes self.old)
             (Self.room self.old) algorithm) result }
         ensures succeeds { signing_refusal (Self.bytes self.old) (Self.room self.old) algorithm
@@ -233,8 +242,8 @@ pub trait MessageWriteExt: MessageWrite {
         add_integrity(self, &key, algorithm)
     }
 
-    /// The same under a key that is prepared: where it is for this algorithm, a digest hashes two blocks
-    /// fewer.
+    /// The same under a prepared key. If it is prepared for this algorithm, two blocks fewer are
+    /// hashed.
     final fn add_message_integrity_with_prepared_key<A: Allocator>(
         &mut self,
         key: &PreparedKey<A>,
@@ -242,7 +251,7 @@ pub trait MessageWriteExt: MessageWrite {
     ) -> Result<(), StunWriteError>
     where
         Self: Sized,
-        requires { 20 ≤ length (Self.bytes self.old) }
+        requires { header_length ≤ length (Self.bytes self.old) }
         ensures refused { RefusedBy (signing_refusal (Self.bytes self.old)
             (Self.room self.old) algorithm) result }
         ensures succeeds { signing_refusal (Self.bytes self.old) (Self.room self.old) algorithm
@@ -263,11 +272,12 @@ pub trait MessageWriteExt: MessageWrite {
         add_integrity(self, key, algorithm)
     }
 
-    /// Adds the integrity attribute of an algorithm to a message that can have it.
+    /// Adds the integrity attribute of an algorithm, without a check.
     ///
-    /// The caller knows that the message has no integrity attribute, that with this one it has at most 65532 bytes after
-    /// its header, and that the writer has room for it: 24 bytes for HMAC-SHA1, 36 for HMAC-SHA256. The one error is that
-    /// an allocation fails; it leaves the bytes, the room and what was reserved.
+    /// The caller knows three things. The message has no integrity attribute. With this one it has
+    /// at most 65532 bytes after its header. The writer has room for it: 24 bytes for HMAC-SHA1, 36
+    /// for HMAC-SHA256. It fails only if an allocation fails; bytes, room and reservation then stay
+    /// as they were.
     final fn add_message_integrity_with_key_unchecked<A: Allocator>(
         &mut self,
         key: &IntegrityKey<A>,
@@ -275,7 +285,7 @@ pub trait MessageWriteExt: MessageWrite {
     ) -> Result<(), AllocError>
     where
         Self: Sized,
-        requires header { 20 ≤ length (Self.bytes self.old) }
+        requires header { header_length ≤ length (Self.bytes self.old) }
         requires unsigned { has_integrity (Self.bytes self.old) ≡ false }
         requires short { length_with (Self.bytes self.old) (digest_length algorithm) ≤ max_length }
         requires room { attribute_length (digest_length algorithm) ≤ Self.room self.old }
@@ -296,7 +306,7 @@ pub trait MessageWriteExt: MessageWrite {
         sign(self, &key.as_bytes(), algorithm)
     }
 
-    /// The same under a key that is prepared.
+    /// The same under a prepared key.
     final fn add_message_integrity_with_prepared_key_unchecked<A: Allocator>(
         &mut self,
         key: &PreparedKey<A>,
@@ -304,7 +314,7 @@ pub trait MessageWriteExt: MessageWrite {
     ) -> Result<(), AllocError>
     where
         Self: Sized,
-        requires header { 20 ≤ length (Self.bytes self.old) }
+        requires header { header_length ≤ length (Self.bytes self.old) }
         requires unsigned { has_integrity (Self.bytes self.old) ≡ false }
         requires short { length_with (Self.bytes self.old) (digest_length algorithm) ≤ max_length }
         requires room { attribute_length (digest_length algorithm) ≤ Self.room self.old }
@@ -338,17 +348,17 @@ fn header(message: &[u8]) -> MessageHeader
 
 /// Whether a message has an integrity attribute.
 fn has_integrity(message: &[u8]) -> bool
-    requires { 20 ≤ length message.now }
+    requires { header_length ≤ length message.now }
     ensures { result ≡ has_integrity message.now }
 {
     has_attribute(message, AttributeType::MESSAGE_INTEGRITY)
         || has_attribute(message, AttributeType::MESSAGE_INTEGRITY_SHA256)
 }
 
-/// The message length after so many bytes more, as far as a `usize` reaches.
+/// The message length with so many bytes more, at most `usize::MAX`.
 fn length_with(message: &[u8], more: usize) -> usize
-    requires { 20 ≤ length message.now }
-    ensures { result ≡ min (length message.now - 20 + more) (2 ^ 64 - 1) }
+    requires { header_length ≤ length message.now }
+    ensures { result ≡ min (length message.now - header_length + more) (2 ^ 64 - 1) }
 {
     (message.len() - HEADER_LENGTH).saturating_add(more)
 }
@@ -360,13 +370,13 @@ fn integrity_length(algorithm: IntegrityAlgorithm) -> usize
     attribute_length(algorithm.digest_length())
 }
 
-/// Adds the integrity attribute of an algorithm, or answers the first reason against it.
+/// Adds the integrity attribute of an algorithm, or fails with the first reason that holds.
 fn add_integrity<W: MessageWrite, K: DigestKey>(
     writer: &mut W,
     key: &K,
     algorithm: IntegrityAlgorithm,
 ) -> Result<(), StunWriteError>
-    requires { 20 ≤ length (W.bytes writer.old) }
+    requires { header_length ≤ length (W.bytes writer.old) }
     ensures refused { RefusedBy (signing_refusal (W.bytes writer.old)
         (W.room writer.old) algorithm) result }
     ensures succeeds { signing_refusal (W.bytes writer.old) (W.room writer.old) algorithm ≡ None
@@ -397,13 +407,13 @@ fn add_integrity<W: MessageWrite, K: DigestKey>(
     Ok(())
 }
 
-/// Raises the length of a message and appends its integrity attribute.
+/// Sets the length of a message for its integrity attribute, and appends the attribute.
 fn sign<W: MessageWrite, K: DigestKey>(
     writer: &mut W,
     key: &K,
     algorithm: IntegrityAlgorithm,
 ) -> Result<(), AllocError>
-    requires header { 20 ≤ length (W.bytes writer.old) }
+    requires header { header_length ≤ length (W.bytes writer.old) }
     requires short { length_with (W.bytes writer.old) (digest_length algorithm) ≤ max_length }
     requires room { attribute_length (digest_length algorithm) ≤ W.room writer.old }
     ensures succeeds { attribute_length (digest_length algorithm) ≤ W.reserved writer.old

@@ -9,7 +9,8 @@ use Rattle.stun_base.specs.declared.algorithm.IntegrityAlgorithm.TheVariants.{Sh
 use Rattle.stun_base.specs.Algorithm.{digest, digest_length}
 
 -- a digest has its length, whatever the key and the text
-pub length-digest : (algorithm : IntegrityAlgorithm) (key text : List ℕ) → length (digest algorithm key text) ≡ digest_length algorithm
+pub length-digest : (algorithm : IntegrityAlgorithm) (key text : List ℕ)
+    → length (digest algorithm key text) ≡ digest_length algorithm
 unfolding hmac sha1 sha256 sha1_bytes sha256_bytes
 length-digest Sha1 key text = refl
 length-digest Sha256 key text = refl

@@ -1,4 +1,4 @@
--- What a prepared key holds beside the key: hashers that have taken in its two padded blocks (RFC 2104, section 4).
+-- The hashers of a prepared key, which have been fed its two padded blocks (RFC 2104, section 4).
 use Rattle.std.specs.Prelude.{ℕ, List}
 use Rattle.sha1.specs.Sha1.{sha1}
 use Rattle.sha1.specs.Sha1.{Holds as HoldsSha1}

@@ -6,4 +6,5 @@ use Rattle.stun_base.proofs.hmac.feed_all.Given as goal
 abbrev pub invariant-loop-piece : goal.invariant-loop-piece
 invariant-loop-piece g l =
     (message : List ℕ) → g.H.HashFunction.holds l.fn.hasher message
-    → g.H.HashFunction.holds l.hasher (message ++ concat (map (λ piece. piece.now) (take l.piece-index l.pieces)))
+    → g.H.HashFunction.holds l.hasher
+    (message ++ concat (map (λ piece. piece.now) (take l.piece-index l.pieces)))

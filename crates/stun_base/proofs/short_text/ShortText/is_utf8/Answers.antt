@@ -9,7 +9,9 @@ returns c =
     let text = c.args.self.now in
     let zeros = replicate (64 - c.self.inside.length) 0 in
     let whole : c.self.inside.block ≡ text ++ zeros =
-    sym (take-append-drop c.self.inside.length c.self.inside.block) ∙ rw (c.self.view_is, c.self.invariant.1) in
+    sym (take-append-drop c.self.inside.length c.self.inside.block)
+    ∙ rw (c.self.view_is, c.self.invariant.1) in
     let said = c.finish.ensures _ (rw whole at (c.step.ensures _ c.new.ensures)) in
-    let behind = IsUtf8-append_ascii text zeros (IsAscii-replicate (64 - c.self.inside.length) 0 ascii) in
+    let behind =
+    IsUtf8-append_ascii text zeros (IsAscii-replicate (64 - c.self.inside.length) 0 ascii) in
     (λ t. behind.0 (said.0 t), λ u. said.1 (behind.1 u))

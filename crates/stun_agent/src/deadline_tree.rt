@@ -60,8 +60,6 @@ impl<A: Allocator> DeadlineTree<A> {
         ensures { IsPermutation (entry ∷ self.old) self.new }
     {
         let Entry { mut deadline, node } = entry;
-        // An id is a number below `IDS`, which its number tells.
-        let _id = deadline.id.as_u128();
         put(&mut self.root, 0, IDS, &mut deadline, node);
     }
 

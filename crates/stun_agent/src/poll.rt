@@ -1,11 +1,11 @@
 //! Ends and retransmissions.
-ghost use Rattle.std.specs.Prelude.{◌≡◌, ◌+◌, ◌≤◌, ◌<◌, length, IfSome, IsSomeAnd, IfOk, OnOk, OnErr};
+ghost use Rattle.std.specs.Prelude.{◌≡◌, ◌+◌, ◌≤◌, ◌<◌, length, None, IfSome, IsSomeAnd, IfOk, OnOk, OnErr};
 ghost use Rattle.std.specs.Borrow.{sem};
 ghost use Rattle.std.specs.Option.{option_map};
 ghost use Rattle.stun_agent.specs.Agent.{poll_answer, after_poll, ended_by_poll, sent_by_poll, after_poll_transmit, datagram_of};
 ghost use Rattle.stun_agent.specs.Datagrams.{lent_datagram};
 ghost use Rattle.stun_agent.specs.Deadlines.{early_requests, IsUnused};
-ghost use Rattle.stun_agent.specs.Transactions.{IsNamed, AreKept, next_awaited, at};
+ghost use Rattle.stun_agent.specs.Transactions.{IsNamed, AreKept, next_awaited, wake_up, at};
 ghost use Rattle.stun_agent.specs.code.Transactions.{contents, told_of_end};
 
 use crate::agent::{StunAgent, StunAgentPollRet};
@@ -42,9 +42,10 @@ impl<A: Allocator + Copy> StunAgent<A> {
         answer
     }
 
-    /// As `poll`, which is this call with a blank of its own, and how many nodes of deadlines were read to find what ends:
-    /// at most one more than there are requests that are cancelled or await at most `now`. The count takes no bytes, and
-    /// contracts alone see it.
+    /// As `poll`, which is this call with a blank of its own, and how often the deadlines of requests
+    /// were read to find what ends or until when to wait: at most once more than there are requests
+    /// that are cancelled or await at most `now`. The count takes no bytes, and contracts alone see
+    /// it.
     pub fn poll_counted<L: Ledger>(
         &mut self,
         now: Instant,
@@ -55,18 +56,25 @@ impl<A: Allocator + Copy> StunAgent<A> {
         ensures after { self.new ≡ after_poll now self.old }
         ensures work { result.1 ≤ early_requests self.old.transport now self.old.transactions + 1 }
     {
-        let (ended, reads) = self.outstanding.first_over::<L>(now, blank);
-        (self.end(now, ended), reads)
+        let (over, until, reads) = self.outstanding.find_over::<L>(now, blank);
+        (self.end(now, over, until), reads)
     }
 
-    /// Ends the request that was found to be over, and else says until when to wait.
-    fn end(&mut self, now: Instant, ended: Option<(TransactionId, bool)>) -> StunAgentPollRet
-        requires { ended ≡ option_map told_of_end (ended_by_poll now self.old) }
+    /// Ends the request that was found to be over, and else tells until when to wait.
+    fn end(
+        &mut self,
+        now: Instant,
+        over: Option<(TransactionId, bool)>,
+        until: Instant,
+    ) -> StunAgentPollRet
+        requires over { over ≡ option_map told_of_end (ended_by_poll now self.old) }
+        requires until { ended_by_poll now self.old ≡ None
+            → until ≡ wake_up self.old.transport now self.old.transactions }
         ensures answer { result ≡ poll_answer now self.old }
         ensures after { self.new ≡ after_poll now self.old }
     {
-        let Some((id, repeats)) = ended else {
-            return StunAgentPollRet::WaitUntil(self.outstanding.wake_up(now));
+        let Some((id, repeats)) = over else {
+            return StunAgentPollRet::WaitUntil(until);
         };
         let _ended = self.outstanding.remove(id);
         counting::count_end(&mut self.stats, repeats);

@@ -1,7 +1,7 @@
 //! What outstanding requests await, in a tree for each kind.
 ghost use Rattle.std.specs.Prelude.{◌≡◌, [], ◌∷◌, ◌+◌, ◌<◌, ◌≤◌, codes, Some, IsSomeAnd, IsPermutation};
 ghost use Rattle.std.specs.Fmt.{WritesOnOk};
-ghost use Rattle.stun_agent.specs.Deadlines.{IsUnused};
+ghost use Rattle.stun_agent.specs.Deadlines.{most_reads, IsUnused};
 ghost use Rattle.stun_agent.specs.code.Deadlines.{earliest, has_come, early, lesser, least_due, least_ended, first_awaited, entries_at, IsReplaced};
 
 use crate::deadline_tree::{DeadlineTree, Entry};
@@ -135,6 +135,7 @@ impl<A: Allocator> DeadlineIndex<A> {
         ensures ended { result.0 ≡ least_ended now self.now }
         ensures first { result.1 ≡ earliest self.now }
         ensures work { result.2 ≤ early now self.now + 1 }
+        ensures path { result.2 ≤ most_reads }
     {
         let mut reads = Reads::<L>::new(blank);
         reads.tick();

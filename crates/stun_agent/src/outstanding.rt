@@ -1,9 +1,9 @@
 //! The requests that wait, with the index of what they await: each call keeps both together.
 ghost use Rattle.std.specs.Prelude.{◌≡◌, ◌+◌, ◌≤◌, ◌<◌, [], length, Some, None, IfSome, IsSomeAnd, IfOk, OnOk, OnErr};
 ghost use Rattle.std.specs.Option.{option_map, option_copied};
-ghost use Rattle.stun_agent.specs.Deadlines.{early_requests, IsUnused};
+ghost use Rattle.stun_agent.specs.Deadlines.{early_requests, most_reads, IsUnused};
 ghost use Rattle.stun_agent.specs.Transactions.{AreKept, at, with, without, changed, first_over, wake_up, next_awaited, next_sent, after_slots, IsNamed};
-ghost use Rattle.stun_agent.specs.code.Transactions.{contents, told_of_end, after_change};
+ghost use Rattle.stun_agent.specs.code.Transactions.{contents, id_and_repeats, after_change};
 
 use crate::deadline_tree::Entry;
 use crate::deadlines::{DeadlineIndex, Reads};
@@ -107,11 +107,12 @@ impl<A: Allocator + Copy> Outstanding<A> {
         blank: Blank,
     ) -> (Option<(TransactionId, bool)>, Instant, Reads<L>)
         requires { IsUnused blank.name blank.parts L.name L.parts }
-        ensures over { result.0 ≡ option_map told_of_end
+        ensures over { result.0 ≡ option_map id_and_repeats
             (first_over self.now.transport now self.now.requests) }
         ensures until { first_over self.now.transport now self.now.requests ≡ None
             → result.1 ≡ wake_up self.now.transport now self.now.requests }
         ensures work { result.2 ≤ early_requests self.now.transport now self.now.requests + 1 }
+        ensures path { result.2 ≤ most_reads }
     {
         let (ended, first, reads) = self.deadlines.find_ended::<L>(now, blank);
         let longest = now + Duration::from_secs(LONGEST_WAIT_SECONDS);

@@ -4,9 +4,9 @@ ghost use Rattle.std.specs.Borrow.{sem};
 ghost use Rattle.std.specs.Option.{option_map};
 ghost use Rattle.stun_agent.specs.Agent.{poll_answer, after_poll, ended_by_poll, sent_by_poll, after_poll_transmit, datagram_of};
 ghost use Rattle.stun_agent.specs.Datagrams.{lent_datagram};
-ghost use Rattle.stun_agent.specs.Deadlines.{early_requests, IsUnused};
+ghost use Rattle.stun_agent.specs.Deadlines.{early_requests, most_reads, IsUnused};
 ghost use Rattle.stun_agent.specs.Transactions.{IsNamed, AreKept, next_awaited, wake_up, at};
-ghost use Rattle.stun_agent.specs.code.Transactions.{contents, told_of_end};
+ghost use Rattle.stun_agent.specs.code.Transactions.{contents, id_and_repeats};
 
 use crate::agent::{StunAgent, StunAgentPollRet};
 use crate::counting;
@@ -44,8 +44,8 @@ impl<A: Allocator + Copy> StunAgent<A> {
 
     /// As `poll`, which is this call with a blank of its own, and how often the deadlines of requests
     /// were read to find what ends or until when to wait: at most once more than there are requests
-    /// that are cancelled or await at most `now`. The count takes no bytes, and contracts alone see
-    /// it.
+    /// that are cancelled or await at most `now`, and at most 195 times. The count takes no bytes,
+    /// and contracts alone see it.
     pub fn poll_counted<L: Ledger>(
         &mut self,
         now: Instant,
@@ -55,6 +55,7 @@ impl<A: Allocator + Copy> StunAgent<A> {
         ensures answer { result.0 ≡ poll_answer now self.old }
         ensures after { self.new ≡ after_poll now self.old }
         ensures work { result.1 ≤ early_requests self.old.transport now self.old.transactions + 1 }
+        ensures path { result.1 ≤ most_reads }
     {
         let (over, until, reads) = self.outstanding.find_over::<L>(now, blank);
         (self.end(now, over, until), reads)
@@ -67,7 +68,7 @@ impl<A: Allocator + Copy> StunAgent<A> {
         over: Option<(TransactionId, bool)>,
         until: Instant,
     ) -> StunAgentPollRet
-        requires over { over ≡ option_map told_of_end (ended_by_poll now self.old) }
+        requires over { over ≡ option_map id_and_repeats (ended_by_poll now self.old) }
         requires until { ended_by_poll now self.old ≡ None
             → until ≡ wake_up self.old.transport now self.old.transactions }
         ensures answer { result ≡ poll_answer now self.old }

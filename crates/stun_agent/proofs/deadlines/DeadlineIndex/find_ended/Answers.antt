@@ -1,5 +1,5 @@
 -- What has ended is an end or cancelled. The index itself is read, and of the nodes these alone.
-use Rattle.std.proofs.Common.{◌≡◌, ◌+◌, ◌∙◌, ap, sym, arith}
+use Rattle.std.proofs.Common.{◌≡◌, ◌+◌, ◌∙◌, ap, sym, refl, arith}
 use Rattle.std.specs.Prelude.{None}
 use Rattle.stun_agent.specs.code.Deadlines.{lesser, least_ended, early}
 use Rattle.stun_agent.specs.code.DeadlineTree.{least_come}
@@ -23,3 +23,11 @@ returns-clause-work g c =
     let one = c.least_come-ended.ensures.work in
     let two = c.least_come-cancelled.ensures.work in
     omega (arith, none, itself, one, two, parts)
+
+pub returns-clause-path : goal.returns-clause-path
+returns-clause-path g c =
+    let none = c.new-reads.ensures in
+    let itself = c.tick.ensures in
+    let one = c.least_come-ended.ensures.path refl in
+    let two = c.least_come-cancelled.ensures.path refl in
+    omega (arith, none, itself, one, two)

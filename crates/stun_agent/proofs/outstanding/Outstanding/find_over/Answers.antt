@@ -4,7 +4,7 @@ use Rattle.std.specs.Prelude.{max, None, fold}
 use Rattle.std.specs.Option.{option_map, option_map_or}
 use Rattle.stun_base.specs.Moments.{moment_after}
 use Rattle.stun_agent.specs.Transactions.{Transaction, first_over, wake_up, awaited, an_hour}
-use Rattle.stun_agent.specs.code.Transactions.{Outstanding, told_of_end}
+use Rattle.stun_agent.specs.code.Transactions.{Outstanding, id_and_repeats}
 use Rattle.stun_agent.specs.Deadlines.{early_requests}
 use Rattle.stun_agent.specs.code.Deadlines.{early}
 use Rattle.stun_agent.proofs.DeadlineLemmas.{index_answers}
@@ -19,7 +19,7 @@ returns-clause-over g c =
     let ordered = c.self.invariant.ascending in
     let told = c.find_ended-ended.ensures.ended ∙ index_answers inside.transport c.args.now inside.requests.entries inside.deadlines c.self.invariant.index ordered in
     over_whole inside.transport c.args.now inside.requests.entries c.find_ended-ended.result.0 c.with_repeats.result ordered told c.with_repeats.ensures
-    ∙ ap (λ (o : Outstanding). option_map told_of_end (first_over o.transport c.args.now o.requests)) c.self.view_is
+    ∙ ap (λ (o : Outstanding). option_map id_and_repeats (first_over o.transport c.args.now o.requests)) c.self.view_is
 
 pub returns-clause-until : goal.returns-clause-until
 returns-clause-until g c over =

@@ -9,7 +9,7 @@ use Rattle.stun_agent.proofs.deadlines.DeadlineIndex.find_ended.Goals as goal
 pub returns-clause-ended : goal.returns-clause-ended
 returns-clause-ended g c =
     let inside = c.self.inside in
-    c.least.ensures ∙ ap (λ a. lesser a c.least_come-cancelled.result) c.least_come-ended.ensures.answer
+    c.least.ensures ∙ ap (λ a. lesser a c.least_come-cancelled.result) {y = least_come c.args.now None inside.ends} c.least_come-ended.ensures.answer
     ∙ ap (lesser (least_come c.args.now None inside.ends)) c.least_come-cancelled.ensures.answer
     ∙ sym (ended_parts inside.slots inside.ends inside.cancelled c.self.invariant c.args.now) ∙ ap (least_ended c.args.now) c.self.view_is
 

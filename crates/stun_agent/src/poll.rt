@@ -25,6 +25,7 @@ impl<A: Allocator + Copy> StunAgent<A> {
     /// Ends at most one request, the one of the least id among those that are cancelled or past their end, and
     /// else says when to poll again: at the least moment that a request awaits, at most an hour from `now`, and
     /// never before `now`. Poll again after an end, after each other call, and at that moment. Does not allocate.
+    /// How often it reads the deadlines of requests is bounded at `poll_counted`, which it calls.
     pub fn poll(&mut self, now: Instant) -> StunAgentPollRet
         ensures answer { result ≡ poll_answer now self.old }
         ensures after { self.new ≡ after_poll now self.old }

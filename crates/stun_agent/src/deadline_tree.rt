@@ -3,7 +3,7 @@ ghost use Rattle.std.specs.Prelude.{◌≡◌, ℕ, [], ◌∷◌, ◌+◌, ◌�
 ghost use Rattle.std.specs.Option.{is_some};
 ghost use Rattle.stun_agent.specs.Transactions.{sooner};
 ghost use Rattle.stun_agent.specs.code.Deadlines.{early, entries_at, is_passed, lesser};
-ghost use Rattle.stun_agent.specs.code.DeadlineTree.{items, below, middle, height, height_below, is_no_later, IsAlone, IsExchanged, IsLast, IsTree, IsBelow, IsWithin, TakesFirst, TakesNext, Takes, first_of, next_of, IsSearch, least_come, first_come, with_id};
+ghost use Rattle.stun_agent.specs.code.DeadlineTree.{items, below, middle, height, height_below, is_no_later, IsAlone, IsExchanged, IsLast, IsTree, IsBelow, IsWithin, TakesFirst, TakesNext, TakesOut, first_of, next_of, IsSearch, least_come, first_has_come, with_id};
 ghost use Rattle.stun_agent.specs.declared.deadline_tree.Link.TheVariants.{Empty};
 
 use crate::deadlines::{Deadline, Reads};
@@ -60,14 +60,12 @@ impl<A: Allocator> DeadlineTree<A> {
         ensures { IsPermutation (entry ∷ self.old) self.new }
     {
         let Entry { mut deadline, node } = entry;
-        // An id is a number below `IDS`, which its number tells.
-        let _id = deadline.id.as_u128();
         put(&mut self.root, 0, IDS, &mut deadline, node);
     }
 
     /// Takes out the entry of an id.
     pub(crate) fn take(&mut self, id: TransactionId) -> Option<Entry<A>>
-        ensures { Takes id self.old result self.new }
+        ensures { TakesOut id self.old result self.new }
     {
         take(&mut self.root, 0, IDS, id)
     }
@@ -213,7 +211,7 @@ fn take<A: Allocator>(
     id: TransactionId,
 ) -> Option<Entry<A>>
     requires { IsTree low high link.old }
-    ensures taken { Takes id (items link.old) result (items link.new) }
+    ensures taken { TakesOut id (items link.old) result (items link.new) }
     ensures tree { IsTree low high link.new }
 {
     match link {
@@ -347,7 +345,7 @@ fn least_of_all<A: Allocator, L: Ledger>(
 
 /// Whether a link leads to a deadline that has come.
 fn has_come<A: Allocator>(link: &Link<A>, now: Instant) -> bool
-    ensures { result ≡ first_come now (items link.now) }
+    ensures { result ≡ first_has_come now (items link.now) }
 {
     match link {
         Link::Empty => false,

@@ -1,7 +1,7 @@
 //! What outstanding requests await, in a tree for each kind.
 ghost use Rattle.std.specs.Prelude.{◌≡◌, [], ◌∷◌, ◌+◌, ◌<◌, ◌≤◌, codes, Some, IsSomeAnd, IsPermutation};
 ghost use Rattle.std.specs.Fmt.{WritesOnOk};
-ghost use Rattle.stun_agent.specs.Deadlines.{IsUnused};
+ghost use Rattle.stun_agent.specs.Deadlines.{most_reads, IsUnused};
 ghost use Rattle.stun_agent.specs.code.Deadlines.{earliest, has_come, early, lesser, least_due, least_ended, first_awaited, entries_at, IsReplaced};
 
 use crate::deadline_tree::{DeadlineTree, Entry};
@@ -105,15 +105,15 @@ impl<A: Allocator> DeadlineIndex<A> {
         }
     }
 
-    /// The first moment, and nothing of whose it is. It is not counted.
-    pub(crate) fn earliest(&self) -> Option<Instant>
+    /// The first moment, and nothing of whose it is.
+    fn earliest(&self) -> Option<Instant>
         ensures { result ≡ earliest self.now }
     {
         let awaited = first(self.slots.earliest(), self.ends.earliest());
         first(awaited, self.cancelled.earliest())
     }
 
-    /// Whether the first moment has come. It is not counted.
+    /// Whether the first moment has come.
     pub(crate) fn has_come(&self, now: Instant) -> bool
         ensures { result ≡ has_come now self.now }
     {
@@ -123,20 +123,25 @@ impl<A: Allocator> DeadlineIndex<A> {
         }
     }
 
-    /// The least id among those whose end has come, and how many nodes were read to tell.
-    pub(crate) fn least_ended<L: Ledger>(
+    /// The least id among those whose end has come, and the first moment; and how often this index
+    /// was read to tell both: once itself, where the first deadline of each tree stands, and each
+    /// node that was read.
+    pub(crate) fn find_ended<L: Ledger>(
         &self,
         now: Instant,
         blank: Blank,
-    ) -> (Option<TransactionId>, Reads<L>)
+    ) -> (Option<TransactionId>, Option<Instant>, Reads<L>)
         requires { IsUnused blank.name blank.parts L.name L.parts }
-        ensures answer { result.0 ≡ least_ended now self.now }
-        ensures work { result.1 ≤ early now self.now + 1 }
+        ensures ended { result.0 ≡ least_ended now self.now }
+        ensures first { result.1 ≡ earliest self.now }
+        ensures work { result.2 ≤ early now self.now + 1 }
+        ensures path { result.2 ≤ most_reads }
     {
         let mut reads = Reads::<L>::new(blank);
+        reads.tick();
         let ended = self.ends.least_come(now, &None, &mut reads);
         let cancelled = self.cancelled.least_come(now, &None, &mut reads);
-        (least(ended, cancelled), reads)
+        (least(ended, cancelled), self.earliest(), reads)
     }
 
     /// The least id, after `last`, of a request whose slot is due.
@@ -194,7 +199,8 @@ fn least(one: Option<TransactionId>, other: Option<TransactionId>) -> Option<Tra
     }
 }
 
-/// How many nodes of trees of deadlines were read. It takes no bytes, and only a tree that reads a node raises it.
+/// How often an index of deadlines was read: itself once, where the first deadline of each tree
+/// stands, and each node that was read. It takes no bytes, and only what reads raises it.
 #[derive(Drop)]
 pub struct Reads<L: Ledger> {
     book: Book<L>,

@@ -1,9 +1,9 @@
 //! The requests that wait, with the index of what they await: each call keeps both together.
 ghost use Rattle.std.specs.Prelude.{◌≡◌, ◌+◌, ◌≤◌, ◌<◌, [], length, Some, None, IfSome, IsSomeAnd, IfOk, OnOk, OnErr};
 ghost use Rattle.std.specs.Option.{option_map, option_copied};
-ghost use Rattle.stun_agent.specs.Deadlines.{early_requests, IsUnused};
+ghost use Rattle.stun_agent.specs.Deadlines.{early_requests, most_reads, IsUnused};
 ghost use Rattle.stun_agent.specs.Transactions.{AreKept, at, with, without, changed, first_over, wake_up, next_awaited, next_sent, after_slots, IsNamed};
-ghost use Rattle.stun_agent.specs.code.Transactions.{contents, told_of_end, after_change};
+ghost use Rattle.stun_agent.specs.code.Transactions.{contents, id_and_repeats, after_change};
 
 use crate::deadline_tree::Entry;
 use crate::deadlines::{DeadlineIndex, Reads};
@@ -99,29 +99,29 @@ impl<A: Allocator + Copy> Outstanding<A> {
         Some(request)
     }
 
-    /// The id of the request that is to end, and whether it was still sent again; and how many nodes of deadlines were
-    /// read to tell, which alone decide.
-    pub(crate) fn first_over<L: Ledger>(
+    /// The id of the request that is to end, and whether it was still sent again; when to poll
+    /// again, where none is to end; and how often deadlines, which alone decide both, were read.
+    pub(crate) fn find_over<L: Ledger>(
         &self,
         now: Instant,
         blank: Blank,
-    ) -> (Option<(TransactionId, bool)>, Reads<L>)
+    ) -> (Option<(TransactionId, bool)>, Instant, Reads<L>)
         requires { IsUnused blank.name blank.parts L.name L.parts }
-        ensures answer { result.0 ≡ option_map told_of_end
+        ensures over { result.0 ≡ option_map id_and_repeats
             (first_over self.now.transport now self.now.requests) }
-        ensures work { result.1 ≤ early_requests self.now.transport now self.now.requests + 1 }
+        ensures until { first_over self.now.transport now self.now.requests ≡ None
+            → result.1 ≡ wake_up self.now.transport now self.now.requests }
+        ensures work { result.2 ≤ early_requests self.now.transport now self.now.requests + 1 }
+        ensures path { result.2 ≤ most_reads }
     {
-        let (ended, reads) = self.deadlines.least_ended::<L>(now, blank);
-        (transactions::with_repeats(&self.requests, ended), reads)
-    }
-
-    /// When to poll again, where nothing is over.
-    pub(crate) fn wake_up(&self, now: Instant) -> Instant
-        requires { first_over self.now.transport now self.now.requests ≡ None }
-        ensures { result ≡ wake_up self.now.transport now self.now.requests }
-    {
+        let (ended, first, reads) = self.deadlines.find_ended::<L>(now, blank);
         let longest = now + Duration::from_secs(LONGEST_WAIT_SECONDS);
-        now.max(transactions::sooner(self.deadlines.earliest(), longest))
+        let until = now.max(transactions::sooner(first, longest));
+        (
+            transactions::with_repeats(&self.requests, ended),
+            until,
+            reads,
+        )
     }
 
     /// The least moment that a request which is not cancelled awaits.

@@ -1,12 +1,12 @@
 //! Ends and retransmissions.
-ghost use Rattle.std.specs.Prelude.{◌≡◌, ◌+◌, ◌≤◌, ◌<◌, length, IfSome, IsSomeAnd, IfOk, OnOk, OnErr};
+ghost use Rattle.std.specs.Prelude.{◌≡◌, ◌+◌, ◌≤◌, ◌<◌, length, None, IfSome, IsSomeAnd, IfOk, OnOk, OnErr};
 ghost use Rattle.std.specs.Borrow.{sem};
 ghost use Rattle.std.specs.Option.{option_map};
 ghost use Rattle.stun_agent.specs.Agent.{poll_answer, after_poll, ended_by_poll, sent_by_poll, after_poll_transmit, datagram_of};
 ghost use Rattle.stun_agent.specs.Datagrams.{lent_datagram};
-ghost use Rattle.stun_agent.specs.Deadlines.{early_requests, IsUnused};
-ghost use Rattle.stun_agent.specs.Transactions.{IsNamed, AreKept, next_awaited, at};
-ghost use Rattle.stun_agent.specs.code.Transactions.{contents, told_of_end};
+ghost use Rattle.stun_agent.specs.Deadlines.{early_requests, most_reads, IsUnused};
+ghost use Rattle.stun_agent.specs.Transactions.{IsNamed, AreKept, next_awaited, wake_up, at};
+ghost use Rattle.stun_agent.specs.code.Transactions.{contents, id_and_repeats};
 
 use crate::agent::{StunAgent, StunAgentPollRet};
 use crate::counting;
@@ -25,6 +25,7 @@ impl<A: Allocator + Copy> StunAgent<A> {
     /// Ends at most one request, the one of the least id among those that are cancelled or past their end, and
     /// else says when to poll again: at the least moment that a request awaits, at most an hour from `now`, and
     /// never before `now`. Poll again after an end, after each other call, and at that moment. Does not allocate.
+    /// How often it reads the deadlines of requests is bounded at `poll_counted`, which it calls.
     pub fn poll(&mut self, now: Instant) -> StunAgentPollRet
         ensures answer { result ≡ poll_answer now self.old }
         ensures after { self.new ≡ after_poll now self.old }
@@ -42,9 +43,10 @@ impl<A: Allocator + Copy> StunAgent<A> {
         answer
     }
 
-    /// As `poll`, which is this call with a blank of its own, and how many nodes of deadlines were read to find what ends:
-    /// at most one more than there are requests that are cancelled or await at most `now`. The count takes no bytes, and
-    /// contracts alone see it.
+    /// As `poll`, which is this call with a blank of its own, and how often the deadlines of requests
+    /// were read to find what ends or until when to wait: at most once more than there are requests
+    /// that are cancelled or await at most `now`, and at most 195 times. The count takes no bytes,
+    /// and contracts alone see it.
     pub fn poll_counted<L: Ledger>(
         &mut self,
         now: Instant,
@@ -54,19 +56,27 @@ impl<A: Allocator + Copy> StunAgent<A> {
         ensures answer { result.0 ≡ poll_answer now self.old }
         ensures after { self.new ≡ after_poll now self.old }
         ensures work { result.1 ≤ early_requests self.old.transport now self.old.transactions + 1 }
+        ensures path { result.1 ≤ most_reads }
     {
-        let (ended, reads) = self.outstanding.first_over::<L>(now, blank);
-        (self.end(now, ended), reads)
+        let (over, until, reads) = self.outstanding.find_over::<L>(now, blank);
+        (self.end(now, over, until), reads)
     }
 
-    /// Ends the request that was found to be over, and else says until when to wait.
-    fn end(&mut self, now: Instant, ended: Option<(TransactionId, bool)>) -> StunAgentPollRet
-        requires { ended ≡ option_map told_of_end (ended_by_poll now self.old) }
+    /// Ends the request that was found to be over, and else tells until when to wait.
+    fn end(
+        &mut self,
+        now: Instant,
+        over: Option<(TransactionId, bool)>,
+        until: Instant,
+    ) -> StunAgentPollRet
+        requires over { over ≡ option_map id_and_repeats (ended_by_poll now self.old) }
+        requires until { ended_by_poll now self.old ≡ None
+            → until ≡ wake_up self.old.transport now self.old.transactions }
         ensures answer { result ≡ poll_answer now self.old }
         ensures after { self.new ≡ after_poll now self.old }
     {
-        let Some((id, repeats)) = ended else {
-            return StunAgentPollRet::WaitUntil(self.outstanding.wake_up(now));
+        let Some((id, repeats)) = over else {
+            return StunAgentPollRet::WaitUntil(until);
         };
         let _ended = self.outstanding.remove(id);
         counting::count_end(&mut self.stats, repeats);

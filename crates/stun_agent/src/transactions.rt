@@ -5,7 +5,7 @@ ghost use Rattle.std.specs.BTreeMap.{get};
 ghost use Rattle.std.specs.Option.{option_map};
 ghost use Rattle.stun_agent.specs.code.Deadlines.{IsIndexOf};
 ghost use Rattle.stun_agent.specs.Transactions.{repeats, IsAscending, at, sooner, is_due, next_sent, after_slot, after_slots, changed};
-ghost use Rattle.stun_agent.specs.code.Transactions.{contents, length_sent, after_change, awaited_around};
+ghost use Rattle.stun_agent.specs.code.Transactions.{contents, length_sent, after_change, deadlines_around};
 
 use crate::deadlines::{Deadline, DeadlineIndex};
 use crate::transaction::{Change, Transaction};
@@ -102,7 +102,7 @@ fn take_slot<A: Allocator>(
 ) -> Option<(Deadline, Deadline, Option<usize>)>
     requires { IfSome (at id all.old.entries) (λ t. IsTrue (is_due transport now t)) }
     ensures told { option_map (λ r. (r.0, r.1)) result
-        ≡ option_map (awaited_around transport (after_slot now) id) (at id all.old.entries) }
+        ≡ option_map (deadlines_around transport (after_slot now) id) (at id all.old.entries) }
     ensures sent { option_map (λ r. r.2) result ≡ option_map length_sent (at id all.old.entries) }
     ensures after { all.new.entries ≡ changed (after_slot now) id all.old.entries }
 {
@@ -123,7 +123,7 @@ pub(crate) fn change<A: Allocator>(
     id: TransactionId,
     change: Change,
 ) -> Option<(Deadline, Deadline)>
-    ensures told { result ≡ option_map (awaited_around transport (after_change change) id)
+    ensures told { result ≡ option_map (deadlines_around transport (after_change change) id)
         (at id all.old.entries) }
     ensures after { all.new.entries ≡ changed (after_change change) id all.old.entries }
 {

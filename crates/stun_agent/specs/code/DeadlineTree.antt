@@ -81,8 +81,8 @@ is_no_later (d ∷ ds) [] = true
 is_no_later (d ∷ ds) (e ∷ es) = nat_le d.moment e.moment
 
 -- the deadline of an id is taken out, if there is one
-abbrev pub Takes : ℕ → List Deadline → Option Deadline → List Deadline → Type 0
-Takes id old taken new =
+abbrev pub TakesOut : ℕ → List Deadline → Option Deadline → List Deadline → Type 0
+TakesOut id old taken new =
     MatchOption taken ((entries_at id old ≡ []) × (new ≡ old)) (λ d. (d.id ≡ id) × IsPermutation old (d ∷ new))
 
 -- the first one is taken out, if there is any
@@ -124,9 +124,9 @@ abbrev pub least_come : ℕ → Option ℕ → List Deadline → Option ℕ
 least_come now last ds = fold sooner None (map (λ d. d.id) (filter (λ d. nat_le d.moment now && not (is_passed last d.id)) ds))
 
 -- the first of these has come, and there is one
-abbrev pub first_come : ℕ → List Deadline → Bool
-first_come now [] = false
-first_come now (d ∷ ds) = nat_le d.moment now
+abbrev pub first_has_come : ℕ → List Deadline → Bool
+first_has_come now [] = false
+first_has_come now (d ∷ ds) = nat_le d.moment now
 
 -- how many nodes may be read to find an id from `low` on, where paths have so many: those of two paths, and those of one
 -- where there is no such id, or where none is passed

@@ -59,31 +59,15 @@ impl<A: Allocator + Copy> StunAgent<A> {
         ensures path { result.1 ≤ most_reads }
     {
         let (over, until, reads) = self.outstanding.find_over::<L>(now, blank);
-        (self.end(now, over, until), reads)
-    }
-
-    /// Ends the request that was found to be over, and else tells until when to wait.
-    fn end(
-        &mut self,
-        now: Instant,
-        over: Option<(TransactionId, bool)>,
-        until: Instant,
-    ) -> StunAgentPollRet
-        requires over { over ≡ option_map id_and_repeats (ended_by_poll now self.old) }
-        requires until { ended_by_poll now self.old ≡ None
-            → until ≡ wake_up self.old.transport now self.old.transactions }
-        ensures answer { result ≡ poll_answer now self.old }
-        ensures after { self.new ≡ after_poll now self.old }
-    {
         let Some((id, repeats)) = over else {
-            return StunAgentPollRet::WaitUntil(until);
+            return (StunAgentPollRet::WaitUntil(until), reads);
         };
         let _ended = self.outstanding.remove(id);
         counting::count_end(&mut self.stats, repeats);
         if repeats {
-            StunAgentPollRet::TransactionTimedOut(id)
+            (StunAgentPollRet::TransactionTimedOut(id), reads)
         } else {
-            StunAgentPollRet::TransactionCancelled(id)
+            (StunAgentPollRet::TransactionCancelled(id), reads)
         }
     }
 

@@ -1,5 +1,5 @@
 //! The one way in which commands write.
-ghost use Rattle.std.specs.Prelude.{◌≡◌, false, OnOk, OnErr, IfOk, string_bytes};
+ghost use Rattle.std.specs.Prelude.{◌≡◌, ◌++◌, ◌∷◌, [], false, OnOk, OnErr, IfOk, string_bytes};
 ghost use Rattle.std.specs.Io.KnownBytes.{Appends};
 ghost use Rattle.stun_cli.specs.Line.{has_line_feed, IsLine};
 ghost use Rattle.stun_cli.specs.Output.{AppendsBeginning};
@@ -52,7 +52,9 @@ pub fn has_line_feed(text: &str) -> bool
 /// The text, or where it has a line feed, other words. It keeps lines apart whatever their texts
 /// are: none that the programs print has a line feed.
 pub fn unbroken<A: Allocator>(alloc: A, text: String<A>) -> Result<String<A>, AllocError>
-    ensures { IfOk result (λ unbroken. has_line_feed (string_bytes unbroken) ≡ false) }
+    ensures unbroken { IfOk result (λ unbroken. has_line_feed (string_bytes unbroken) ≡ false) }
+    ensures same { has_line_feed (string_bytes text) ≡ false
+        → IfOk result (λ same. string_bytes same ≡ string_bytes text) }
 {
     if has_line_feed(text.as_str()) {
         String::from_str(alloc, "(a text of several lines)")
@@ -63,7 +65,9 @@ pub fn unbroken<A: Allocator>(alloc: A, text: String<A>) -> Result<String<A>, Al
 
 /// The line of a text: the text as `unbroken` gives it, and a line feed.
 pub fn line_of<A: Allocator>(alloc: A, text: String<A>) -> Result<String<A>, AllocError>
-    ensures { IfOk result (λ line. IsLine (string_bytes line)) }
+    ensures line { IfOk result (λ line. IsLine (string_bytes line)) }
+    ensures text { has_line_feed (string_bytes text) ≡ false
+        → IfOk result (λ line. string_bytes line ≡ string_bytes text ++ 10 ∷ []) }
 {
     let mut line = unbroken(alloc, text)?;
     line.push('\n')?;

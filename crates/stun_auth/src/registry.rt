@@ -214,7 +214,7 @@ impl<A: Allocator + Copy> Registry<A> {
         }) }
         ensures err { OnErr result (self.new ≡ self.old) }
     {
-        let alloc = *self.realm.allocator();
+        let alloc = *name.allocator();
         let realm = self.realm.as_str();
         let user = User::new(alloc, name.as_str(), realm, secret, self.supported)?;
         let hash = userhash(name.as_str(), self.realm.as_str());

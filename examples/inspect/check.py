@@ -26,7 +26,8 @@ FINGERPRINT = 0x8028
 
 # The most bytes of an input.
 LIMIT = 67_108_864
-ENDLESS = b"stun_inspect: the input does not end within 67108864 bytes and 1048576 reads\n"
+ENDLESS = b"the input does not end within 67108864 bytes and 1048576 reads\n"
+NO_TEXT = b"bad input at line 1, column 1: looked for text, a capture, or a message, which has 2112a442 at its byte 4\n"
 
 
 def names():
@@ -107,13 +108,11 @@ def tells_fingerprints(program):
 
 
 def reads_to_the_limit(program):
-    """An input of exactly the most bytes is read, and one of a byte more is not."""
-    digits = message(b"").hex().encode()
-    longest = digits + b"\t" * (LIMIT - len(digits))
-    wants("lines on an input of the most bytes", 3, len(decoded(program, longest)))
-    program.count += 1
-    ran = subprocess.run([program.path, "decode"], input=longest + b"\t", stdout=subprocess.PIPE, stderr=subprocess.PIPE, timeout=120)
-    wants("an input of a byte more", (2, b"", ENDLESS), (ran.returncode, ran.stdout, ran.stderr))
+    """An input of exactly the most bytes is read, here only to be none, and one of a byte more is not."""
+    for length, words in ((LIMIT, NO_TEXT), (LIMIT + 1, ENDLESS)):
+        program.count += 1
+        ran = subprocess.run([program.path, "decode"], input=b"\xff" * length, stdout=subprocess.PIPE, stderr=subprocess.PIPE, timeout=120)
+        wants(f"an input of {length} bytes", (2, b"", b"stun_inspect: " + words), (ran.returncode, ran.stdout, ran.stderr))
 
 
 def main(paths):

@@ -7,11 +7,11 @@ use Rattle.std.specs.declared.result.Result.TheVariants.{Ok, Err}
 use Rattle.stun_auth.specs.declared.server_reason.LongTermServerAuthErrorReason.TheVariants.{Unauthorized}
 use Rattle.stun_auth.specs.Additions.{Page}
 use Rattle.stun_auth.specs.Client.{ClientState}
-use Rattle.stun_auth.specs.ClientStep.{ClientStep, IsResend, UNAUTHORIZED, client_step}
+use Rattle.stun_auth.specs.ClientStep.{IsResend, UNAUTHORIZED, client_step}
 use Rattle.stun_auth.specs.Reading.{reading_of}
 use Rattle.stun_auth.specs.ServerSigning.{after_signing}
 use Rattle.stun_auth.specs.Validation.{ServerSeen, after_message, answer, sight}
-use Rattle.stun_proto.specs.Negotiation.{Meeting, Round, asked, failure, responded, success}
+use Rattle.stun_proto.specs.Negotiation.{Meeting, asked, failure, responded, success}
 use Rattle.stun_proto.specs.Serving.{after_calls}
 use Rattle.stun_proto.specs.declared.replay.call.ServerCall.{ServerCall}
 

@@ -1,5 +1,5 @@
 -- The challenge is signed and read; the clause of the call that is made then says what follows.
-use Rattle.std.proofs.Common.{◌≡◌, inl, inr, length, take, true, arith, sym, ◌∙◌, ap, subst, Ok, Err}
+use Rattle.std.proofs.Common.{◌≡◌, inl, inr, length, take, true, arith, sym, ◌∙◌, ap, subst, Err}
 use Rattle.std.proofs.lemmas.List.{take_all}
 use Rattle.stun_types.specs.Message.{IsMessage}
 use Rattle.stun_types.specs.WriteVec.{Written}

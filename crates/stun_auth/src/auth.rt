@@ -12,3 +12,4 @@ pub use crate::server_reason::{
 };
 pub use crate::server_user::LongTermServerUser;
 pub use crate::short_term::ShortTermAuth;
+pub use crate::stored_keys::StoredKeys;

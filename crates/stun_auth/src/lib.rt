@@ -20,5 +20,7 @@ mod server_reason;
 mod server_user;
 mod short_term;
 mod short_text;
+mod stored_keys;
 mod supported;
+mod user_secret;
 mod verdict;

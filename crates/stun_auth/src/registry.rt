@@ -1,6 +1,7 @@
 //! The users of a realm, each with a key for each supported algorithm.
 
 ghost use Rattle.std.specs.Prelude.{◌≡◌, Option, None, Some, OnOk, OnErr, IfOk, IfErr, IfNone, IfSome};
+ghost use Rattle.std.specs.FinMap as map;
 ghost use Rattle.std.specs.Ordering.{nat_cmp};
 ghost use Rattle.std.specs.BTreeMap.{Updates, UpdatesBy, get_by_text};
 ghost use Rattle.std.specs.Cmp.Lexicographic.{slice_cmp};
@@ -9,89 +10,96 @@ ghost use Rattle.std.specs.String.{string_bytes, string_cmp};
 ghost use Rattle.stun_auth.specs.Algorithms.{contains};
 ghost use Rattle.stun_auth.specs.Handed.{just};
 ghost use Rattle.stun_auth.specs.Registered.{key_at, key_if, name_with_hash, new_registered, with_user, without_user};
-ghost use Rattle.stun_auth.specs.code.Users.{AllHaveKeys, passwords_seen};
+ghost use Rattle.stun_auth.specs.code.UserSecret.{secret_seen};
+ghost use Rattle.stun_auth.specs.code.Users.{AllHaveKeys, secrets_seen};
 
 use crate::algorithm_set::AlgorithmSet;
 use crate::name_index::NameIndex;
+use crate::user_secret::UserSecret;
 use std::alloc::{AllocError, Allocator};
 use std::collections::BTreeMap;
 use std::marker::Model;
 use stun_base::algorithm::IntegrityAlgorithm;
 use stun_base::credentials::LongTermCredentials;
-use stun_base::key::{long_term_key, userhash};
+use stun_base::key::userhash;
 use stun_base::prepared_key::PreparedKey;
 
-/// A user with a key for each supported algorithm, prepared for the digests that are verified under it.
+/// A user: what the user is known by, and the key for each supported algorithm, prepared for the digests that are verified
+/// under it.
 #[derive(Drop)]
 pub(crate) struct User<A: Allocator> {
-    password: String<A>,
-    /// In a box, since they are long and a tree leaves half of its places empty.
-    keys: Box<UserKeys<A>, A>,
+    /// In a box, since it is long and a tree leaves half of its places empty.
+    kept: Box<KeptUser<A>, A>,
 }
 
-/// The keys of a user.
+/// What is kept of a user.
 #[derive(Drop)]
-pub(crate) struct UserKeys<A: Allocator> {
+pub(crate) struct KeptUser<A: Allocator> {
+    secret: UserSecret<A>,
     sha1: Option<PreparedKey<A>>,
     sha256: Option<PreparedKey<A>>,
 }
 
-/// The key of a user for an algorithm, if it is supported.
+/// The key of a user for an algorithm, if it is supported and the user's secret gives one.
 fn key_if<A: Allocator>(
     alloc: A,
     supported: AlgorithmSet,
     algorithm: IntegrityAlgorithm,
     name: &str,
     realm: &str,
-    password: &str,
+    secret: &UserSecret<A>,
 ) -> Option<PreparedKey<A>>
-    ensures { result ≡ key_if (contains algorithm supported) algorithm name.now realm.now password.now }
+    ensures { result ≡ key_if (contains algorithm supported) algorithm name.now realm.now
+        (secret_seen secret.now) }
 {
     if supported.contains(algorithm) {
-        let key = long_term_key(alloc, algorithm, name, realm, password);
-        Some(PreparedKey::new(key, algorithm))
+        match secret.key(alloc, algorithm, name, realm) {
+            Some(key) => Some(PreparedKey::new(key, algorithm)),
+            None => None,
+        }
     } else {
         None
     }
 }
 
 impl<A: Allocator + Copy> User<A> {
-    ghost use Rattle.stun_auth.specs.code.Users.{HasKeys, key_in};
+    ghost use Rattle.stun_auth.specs.code.Users.{HasKeys, key_in, secret_of};
 
     fn new(
+        alloc: A,
         name: &str,
         realm: &str,
-        password: String<A>,
+        secret: UserSecret<A>,
         supported: AlgorithmSet,
     ) -> Result<Self, AllocError>
         ensures keys { IfOk result (HasKeys realm.now supported name.now) }
-        ensures password { IfOk result (λ user.
-            string_bytes user.password ≡ string_bytes password) }
+        ensures secret { IfOk result (λ user. secret_of user ≡ secret_seen secret) }
     {
-        let none = UserKeys {
+        let kept = KeptUser {
+            secret,
             sha1: None,
             sha256: None,
         };
-        let keys = Box::new(*password.allocator(), none)?;
-        let mut user = User { password, keys };
-        user.set_keys(name, realm, supported);
+        let mut user = User {
+            kept: Box::new(alloc, kept)?,
+        };
+        user.set_keys(alloc, name, realm, supported);
         Ok(user)
     }
 
     /// Makes the keys anew. It does not allocate.
-    fn set_keys(&mut self, name: &str, realm: &str, supported: AlgorithmSet)
+    fn set_keys(&mut self, alloc: A, name: &str, realm: &str, supported: AlgorithmSet)
         ensures keys { HasKeys realm.now supported name.now self.new }
-        ensures password { string_bytes self.new.password ≡ string_bytes self.old.password }
+        ensures secret { secret_of self.new ≡ secret_of self.old }
     {
-        let alloc = *self.password.allocator();
-        let password = self.password.as_str();
+        let secret = &self.kept.secret;
         let sha1 = key_if(
             alloc,
             supported,
             IntegrityAlgorithm::Sha1,
             name,
             realm,
-            password,
+            secret,
         );
         let sha256 = key_if(
             alloc,
@@ -99,18 +107,18 @@ impl<A: Allocator + Copy> User<A> {
             IntegrityAlgorithm::Sha256,
             name,
             realm,
-            password,
+            secret,
         );
-        self.keys.sha1 = sha1;
-        self.keys.sha256 = sha256;
+        self.kept.sha1 = sha1;
+        self.kept.sha256 = sha256;
     }
 
     fn key(&self, algorithm: IntegrityAlgorithm) -> Option<&PreparedKey<A>>
         ensures { option_copied result ≡ key_in self.now algorithm }
     {
         match algorithm {
-            IntegrityAlgorithm::Sha1 => self.keys.sha1.as_ref(),
-            IntegrityAlgorithm::Sha256 => self.keys.sha256.as_ref(),
+            IntegrityAlgorithm::Sha1 => self.kept.sha1.as_ref(),
+            IntegrityAlgorithm::Sha256 => self.kept.sha256.as_ref(),
         }
     }
 }
@@ -135,16 +143,16 @@ impl<A: Allocator> Model for Registry<A> {
     ghost coded = { coded_registered };
 
     ghost use Rattle.stun_auth.specs.code.NameIndex.{IsIndexOf};
-    ghost use Rattle.stun_auth.specs.code.Users.{passwords_seen, AllHaveKeys};
+    ghost use Rattle.stun_auth.specs.code.Users.{secrets_seen, AllHaveKeys};
 
     ghost view = { λ r. record {
       realm = string_bytes r.realm;
       algorithms = r.supported;
-      passwords = passwords_seen r.users.entries;
+      secrets = secrets_seen r.users.entries;
     } };
 
     ghost invariant = { λ r. AllHaveKeys (string_bytes r.realm) r.supported r.users
-        × IsIndexOf (string_bytes r.realm) (passwords_seen r.users.entries) r.hashed };
+        × IsIndexOf (string_bytes r.realm) (secrets_seen r.users.entries) r.hashed };
 }
 
 impl<A: Allocator + Copy> Registry<A> {
@@ -197,15 +205,18 @@ impl<A: Allocator + Copy> Registry<A> {
         ensures err { OnErr result (self.new ≡ self.old) }
     {
         let (name, password) = credentials.into_parts();
-        self.insert(name, password)
+        self.insert(name, UserSecret::Password(password))
     }
 
-    fn insert(&mut self, name: String<A>, password: String<A>) -> Result<(), AllocError>
-        ensures ok { OnOk result (self.new ≡ with_user self.old
-            (record { username = string_bytes name; password = string_bytes password })) }
+    fn insert(&mut self, name: String<A>, secret: UserSecret<A>) -> Result<(), AllocError>
+        ensures ok { OnOk result (self.new ≡ record self.old {
+          secrets = map.insert self.old.secrets (string_bytes name) (secret_seen secret);
+        }) }
         ensures err { OnErr result (self.new ≡ self.old) }
     {
-        let user = User::new(name.as_str(), self.realm.as_str(), password, self.supported)?;
+        let alloc = *self.realm.allocator();
+        let realm = self.realm.as_str();
+        let user = User::new(alloc, name.as_str(), realm, secret, self.supported)?;
         let hash = userhash(name.as_str(), self.realm.as_str());
         self.hashed.insert(hash, name.clone()?)?;
         match put_user(&mut self.users, name, user) {
@@ -219,12 +230,17 @@ impl<A: Allocator + Copy> Registry<A> {
     }
 
     /// The same realm and algorithms, with one user alone.
-    pub(crate) fn with_just(&self, credentials: LongTermCredentials<A>) -> Result<Self, AllocError>
-        ensures { IfOk result (λ users. users ≡ just self.now (Some credentials)) }
+    pub(crate) fn with_just(
+        &self,
+        name: String<A>,
+        secret: UserSecret<A>,
+    ) -> Result<Self, AllocError>
+        ensures { IfOk result (λ users. users ≡ just self.now
+            (Some (record { username = string_bytes name; secret = secret_seen secret }))) }
     {
         let mut users = Registry::new(*self.realm.allocator(), self.realm.clone()?);
         users.set_supported(self.supported);
-        users.add_user(credentials)?;
+        users.insert(name, secret)?;
         Ok(users)
     }
 
@@ -242,7 +258,8 @@ impl<A: Allocator + Copy> Registry<A> {
     pub(crate) fn set_supported(&mut self, supported: AlgorithmSet)
         ensures { self.new ≡ record self.old { algorithms = supported } }
     {
-        make_keys(&mut self.users, self.realm.as_str(), supported);
+        let alloc = *self.realm.allocator();
+        make_keys(&mut self.users, alloc, self.realm.as_str(), supported);
         self.supported = supported;
     }
 }
@@ -284,15 +301,16 @@ fn take_user<A: Allocator + Copy>(
 /// Makes the keys of all users anew. It does not allocate.
 fn make_keys<A: Allocator, B: Allocator + Copy>(
     users: &mut BTreeMap<String<A>, User<B>, A>,
+    alloc: B,
     realm: &str,
     supported: AlgorithmSet,
 )
     ensures keys { AllHaveKeys realm.now supported users.new }
-    ensures passwords { passwords_seen users.new.entries ≡ passwords_seen users.old.entries }
+    ensures secrets { secrets_seen users.new.entries ≡ secrets_seen users.old.entries }
 {
     // All stay: this only walks over the users with their names.
     users.retain(|name, user| {
-        user.set_keys(name.as_str(), realm, supported);
+        user.set_keys(alloc, name.as_str(), realm, supported);
         true
     });
 }

@@ -9,10 +9,11 @@ use std::fmt;
 use std::marker::Model;
 
 /// A user with a key for each algorithm that a server supports, which
-/// `LongTermServerAuth::prepare_user` makes.
+/// `LongTermServerAuth::prepare_user` makes of a password, and `prepare_user_with_keys` of stored
+/// keys.
 ///
-/// Contracts see the realm and the algorithms that the server had then, with this user's password
-/// alone. `Debug` shows nothing of what it holds.
+/// Contracts see the realm and the algorithms that the server had then, with this user alone and
+/// the password or the stored keys. `Debug` shows nothing of what it holds.
 #[derive(Drop)]
 pub struct LongTermServerUser<A: Allocator = Global> {
     pub(crate) registry: Registry<A>,

@@ -22,7 +22,7 @@ use Rattle.stun_auth.specs.Nonces.{asks_for_userhash, nonce_of}
 use Rattle.stun_auth.specs.Places.{with_offer}
 use Rattle.stun_base.specs.MessageType.{is_success}
 use Rattle.stun_auth.specs.Reading.{Reading, reading_of, verified_under}
-use Rattle.stun_auth.specs.Registered.{Registered, user_with_hash}
+use Rattle.stun_auth.specs.Registered.{Registered, of_password, user_by_password, user_with_hash}
 use Rattle.stun_auth.specs.Seen.{PlaceSeen, renewed}
 use Rattle.stun_auth.specs.Signed.{added_under_key, added_without_client, hashed_name, plain_name}
 use Rattle.stun_auth.specs.Server.{Sight, named_by, standing, standing_of}
@@ -65,8 +65,8 @@ success_step s c r a reads =
 
 -- ---- a name that is sent is understood
 named_again : (users : Registered) (feature : Feature) (who : NameAndPassword) (hashes possible : Bool) → HaveOwnHashes users
-    → map.get users.passwords who.username ≡ Some who.password → is_possible feature ≡ hashes
-    → named_by (hashed_name (naming_of (hashes && possible) who.username users.realm)) (plain_name (naming_of (hashes && possible) who.username users.realm)) users feature ≡ Some who
+    → map.get users.secrets who.username ≡ Some (of_password who.password) → is_possible feature ≡ hashes
+    → named_by (hashed_name (naming_of (hashes && possible) who.username users.realm)) (plain_name (naming_of (hashes && possible) who.username users.realm)) users feature ≡ Some (user_by_password who)
 named_again users feature who true true own there feasible = ap (λ b. cond b (user_with_hash users (userhash who.username users.realm)) None) feasible ∙ own_hash users who own there
 named_again users feature who true false own there feasible = own_user users who there
 named_again users feature who false possible own there feasible = own_user users who there

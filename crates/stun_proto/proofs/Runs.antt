@@ -1,28 +1,26 @@
 -- How a run of a meeting ends, or goes on.
 use Rattle.std.proofs.Common.{◌≡◌, Option, Some, None, refl, sym, ◌∙◌, ap, subst, Ok, Err}
-use Rattle.std.specs.Prelude.{IfSome, IsErrAnd}
+use Rattle.std.specs.Prelude.{IfSome, IsErrAnd, MatchOption}
 use Rattle.std.specs.declared.result.Result.{Result}
 use Rattle.stun_base.specs.declared.algorithm.IntegrityAlgorithm.{IntegrityAlgorithm}
 use Rattle.stun_base.specs.declared.error.StunWriteError.{StunWriteError}
 use Rattle.stun_base.specs.declared.error.StunWriteError.TheVariants.{NotAllowed, MessageIntegrityExists, AttributeExists, TooLarge, TooSmall, IntegrityFailed, OutOfMemory}
 use Rattle.stun_types.specs.WriteVec.{Written}
-use Rattle.stun_auth.specs.declared.client_answer.LongTermClientAuthErrorReason.TheVariants as Client
 use Rattle.stun_auth.specs.declared.client_answer.LongTermClientValidation.TheVariants as Read
 use Rattle.stun_auth.specs.declared.server_reason.LongTermServerAuthErrorReason.{LongTermServerAuthErrorReason}
 use Rattle.stun_auth.specs.declared.server_reason.LongTermServerAuthErrorReason.TheVariants as Server
 use Rattle.stun_auth.specs.Additions.{Page, UnlessMemory}
 use Rattle.stun_auth.specs.Client.{ClientState}
-use Rattle.stun_auth.specs.ClientStep.{ClientAnswer}
+use Rattle.stun_auth.specs.ClientStep.{ClientAnswer, IsResend}
 use Rattle.stun_auth.specs.Validation.{ServerSeen}
 use Rattle.stun_proto.specs.code.FirstAnswers.{answer_of, end_of_challenge, end_of_first}
 use Rattle.stun_proto.specs.code.Sides.{IsRun}
 use Rattle.stun_proto.specs.Negotiating.{error_of, met_by}
-use Rattle.stun_proto.specs.Negotiation.{Meeting, Met, challenge_answered, ended, first_answered, unwritten}
+use Rattle.stun_proto.specs.Negotiation.{Meeting, Met, asked, challenge_answered, ended, first_answered, second_asked, unwritten}
 use Rattle.stun_proto.specs.Sides.{Sides, sides}
 use Rattle.stun_proto.specs.declared.replay.negotiation.NegotiateError.{NegotiateError}
 use Rattle.stun_proto.specs.declared.replay.negotiation.NegotiateError.TheVariants.{Memory, Write}
 use Rattle.stun_proto.specs.declared.replay.negotiation.Outcome.{Outcome}
-use Rattle.stun_proto.specs.declared.replay.negotiation.Outcome.TheVariants.{AlreadyValidated, ClientRefused, ServerRefused}
 
 module _ {client : ClientState} {server : ServerSeen} where
   -- with an outcome
@@ -67,31 +65,25 @@ module _ {client : ClientState} {server : ServerSeen} where
 
 -- ---- the answers that end a run, and those that do not
 module _ (m : Meeting) (state : ClientState) (server : ServerSeen) where
-  pub challenge_ends : (given : ClientAnswer) (outcome : Outcome) → end_of_challenge given ≡ Some outcome → ended outcome state server ≡ challenge_answered m server state given
-  challenge_ends (Ok (Read.ResendRequest a)) outcome h = cc
-  challenge_ends (Ok (Read.Validated a)) outcome h = let is : outcome ≡ ClientRefused Client.Unauthorized = cc in ap (λ o. ended o state server) is
-  challenge_ends (Err reason) outcome h = let is : outcome ≡ ClientRefused reason = cc in ap (λ o. ended o state server) is
+  pub first_ends : (given : Result IntegrityAlgorithm LongTermServerAuthErrorReason)
+      → MatchOption (end_of_first given) (Err Server.Unauthorized ≡ answer_of given) (λ outcome. ended outcome state server ≡ first_answered m state server (answer_of given))
+  first_ends (Ok a) = refl
+  first_ends (Err Server.Unauthorized) = refl
+  first_ends (Err Server.IntegrityFailed) = refl
+  first_ends (Err Server.UnsupportedFeature) = refl
+  first_ends (Err Server.BadRequest) = refl
+  first_ends (Err Server.StaleNonce) = refl
+  first_ends (Err Server.OutOfMemory) = refl
 
-  pub first_ends : (given : Result IntegrityAlgorithm LongTermServerAuthErrorReason) (outcome : Outcome) → end_of_first given ≡ Some outcome
-      → ended outcome state server ≡ first_answered m state server (answer_of given)
-  first_ends (Ok a) outcome h = let is : outcome ≡ AlreadyValidated a = cc in ap (λ o. ended o state server) is
-  first_ends (Err Server.Unauthorized) outcome h = cc
-  first_ends (Err Server.IntegrityFailed) outcome h = let is : outcome ≡ ServerRefused Server.IntegrityFailed = cc in ap (λ o. ended o state server) is
-  first_ends (Err Server.UnsupportedFeature) outcome h = let is : outcome ≡ ServerRefused Server.UnsupportedFeature = cc in ap (λ o. ended o state server) is
-  first_ends (Err Server.BadRequest) outcome h = let is : outcome ≡ ServerRefused Server.BadRequest = cc in ap (λ o. ended o state server) is
-  first_ends (Err Server.StaleNonce) outcome h = let is : outcome ≡ ServerRefused Server.StaleNonce = cc in ap (λ o. ended o state server) is
-  first_ends (Err Server.OutOfMemory) outcome h = let is : outcome ≡ ServerRefused Server.OutOfMemory = cc in ap (λ o. ended o state server) is
+  pub challenge_ends : (given : ClientAnswer)
+      → MatchOption (end_of_challenge given) (IsResend given × (second_asked m state server (asked m.second.id state) ≡ challenge_answered m server state given))
+      (λ outcome. ended outcome state server ≡ challenge_answered m server state given)
+  challenge_ends (Ok (Read.ResendRequest a)) = (tt, refl)
+  challenge_ends (Ok (Read.Validated a)) = refl
+  challenge_ends (Err reason) = refl
 
-pub resent : (given : ClientAnswer) → end_of_challenge given ≡ None → (a : Option IntegrityAlgorithm) × (given ≡ Ok (Read.ResendRequest a))
-resent (Ok (Read.ResendRequest a)) h = (a, refl)
-resent (Ok (Read.Validated a)) h = cc
-resent (Err reason) h = cc
+pub ended_by : (o : Option Outcome) (P : Type 0) (Q : Outcome → Type 0) (outcome : Outcome) → o ≡ Some outcome → MatchOption o P Q → Q outcome
+ended_by o P Q outcome is h = subst (λ x. MatchOption x P Q) is h
 
-pub unauthorized : (given : Result IntegrityAlgorithm LongTermServerAuthErrorReason) → end_of_first given ≡ None → given ≡ Err Server.Unauthorized
-unauthorized (Ok a) h = cc
-unauthorized (Err Server.Unauthorized) h = refl
-unauthorized (Err Server.IntegrityFailed) h = cc
-unauthorized (Err Server.UnsupportedFeature) h = cc
-unauthorized (Err Server.BadRequest) h = cc
-unauthorized (Err Server.StaleNonce) h = cc
-unauthorized (Err Server.OutOfMemory) h = cc
+pub not_ended : (o : Option Outcome) (P : Type 0) (Q : Outcome → Type 0) → o ≡ None → MatchOption o P Q → P
+not_ended o P Q is h = subst (λ x. MatchOption x P Q) is h

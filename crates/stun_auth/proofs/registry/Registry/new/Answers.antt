@@ -5,8 +5,8 @@ use Rattle.std.specs.String.{string_bytes}
 use Rattle.stun_auth.specs.declared.algorithm_set.AlgorithmSet.TheVariants.{OnlySha1}
 use Rattle.stun_auth.specs.code.NameIndex.{HashedNames, IsIndexOf}
 use Rattle.stun_auth.specs.declared.registry.User.{User}
-use Rattle.stun_auth.specs.code.Users.{passwords_seen}
-use Rattle.stun_auth.proofs.LeastNames.{Passwords, indexed_none}
+use Rattle.stun_auth.specs.code.Users.{secrets_seen}
+use Rattle.stun_auth.proofs.LeastNames.{Secrets, indexed_none}
 use Rattle.stun_auth.proofs.UserMaps.{keys_where_same}
 use Rattle.stun_auth.proofs.registry.Registry.new.Goals as goal
 
@@ -14,6 +14,6 @@ pub invariant_of-result : goal.invariant_of-result
 invariant_of-result g c =
     let realm = string_bytes c.args.realm in (
       keys_where_same realm OnlySha1 c.new.result [] c.new.ensures.empty (λ name. tt),
-      subst (λ (passwords : Passwords). IsIndexOf realm passwords c.new-2.result) (sym (ap (λ (es : List (String g.row.A.Denot × User g.row.A.Denot)). passwords_seen es) c.new.ensures.empty))
+      subst (λ (secrets : Secrets). IsIndexOf realm secrets c.new-2.result) (sym (ap (λ (es : List (String g.row.A.Denot × User g.row.A.Denot)). secrets_seen es) c.new.ensures.empty))
           (subst (λ (names : HashedNames). IsIndexOf realm fin.empty names) (sym c.new-2.ensures) (indexed_none realm)),
     )

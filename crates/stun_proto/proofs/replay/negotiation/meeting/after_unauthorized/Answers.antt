@@ -14,7 +14,7 @@ use Rattle.stun_proto.specs.code.Sides.{IsRun}
 use Rattle.stun_proto.specs.Negotiation.{asked, challenge_answered, challenged, ended, failure, responded, second_asked, unwritten}
 use Rattle.stun_proto.specs.Serving.{after_calls}
 use Rattle.stun_proto.specs.Sides.{PassesResend, PassesUnauthorized, sides}
-use Rattle.stun_proto.proofs.Runs.{challenge_ends, ends, goes_on, refused, resent, stops}
+use Rattle.stun_proto.proofs.Runs.{challenge_ends, ended_by, ends, goes_on, not_ended, refused, stops}
 use Rattle.stun_proto.proofs.replay.negotiation.meeting.after_unauthorized.Goals as goal
 
 pub returns-in_err-failure-clause-run : goal.returns-in_err-failure-clause-run
@@ -71,7 +71,7 @@ returns-in-Some-clause-run g c =
     let told = c.in_ok-answer.ensures.answer ∙ ap (λ b. (client_step k.settings k.state (reading_of b)).answer) c.data.ensures in
     ends c.in-Some.outcome (PassesUnauthorized m k.state s)
     ((λ i. ended c.in-Some.outcome (taken i).state (left i))
-    ∙ challenge_ends m step.state t c.in_ok-answer.answer c.in-Some.outcome (sym c.end_of_challenge.ensures ∙ c.in-Some.is)
+    ∙ ended_by _ _ _ c.in-Some.outcome (sym c.end_of_challenge.ensures ∙ c.in-Some.is) (challenge_ends m step.state t c.in_ok-answer.answer)
     ∙ ap (challenge_answered m t step.state) told
     ∙ ap (challenged m k.state s) signed)
 
@@ -88,11 +88,10 @@ returns-clause-run g c =
     let taken : c.read.new.client ≡ record k { state = step.state } = c.in_ok-answer.ensures.client ∙ ap (λ b. record k { state = (client_step k.settings k.state (reading_of b)).state }) c.data.ensures in
     let told = c.in_ok-answer.ensures.answer ∙ ap (λ b. (client_step k.settings k.state (reading_of b)).answer) c.data.ensures in
     let r = c.after_resend.result in
-    let again = resent c.in_ok-answer.answer (sym c.end_of_challenge.ensures ∙ c.in-None.is) in
-    let is = sym again.1 ∙ told in
+    let again = not_ended _ _ _ (sym c.end_of_challenge.ensures ∙ c.in-None.is) (challenge_ends m step.state t c.in_ok-answer.answer) in
     goes_on r (PassesUnauthorized m k.state s) (PassesResend m step.state t)
-    (ap (challenge_answered m t step.state) is ∙ ap (challenged m k.state s) signed)
-    (λ x later. inr (page_of c.in_ok-failure.failure.bytes, sym signed, inr (subst IsResend is tt, later)))
+    (again.1 ∙ ap (challenge_answered m t step.state) told ∙ ap (challenged m k.state s) signed)
+    (λ x later. inr (page_of c.in_ok-failure.failure.bytes, sym signed, inr (subst IsResend told again.0, later)))
     (subst (λ (p : ClientSide × ServerSeen). let n = meeting_of p.0.settings meeting in
     IsRun r c.after_resend.new.client.state c.after_resend.new.server (second_asked n p.0.state p.1 (asked n.second.id p.0.state)) (PassesResend n p.0.state p.1))
     (λ i. (taken i, left i)) c.after_resend.ensures.run)

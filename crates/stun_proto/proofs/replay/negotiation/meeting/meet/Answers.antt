@@ -13,7 +13,7 @@ use Rattle.stun_proto.specs.code.Meetings.{meeting_of}
 use Rattle.stun_proto.specs.code.Sides.{IsRun}
 use Rattle.stun_proto.specs.Negotiation.{asked, ended, first_answered, first_asked, unwritten}
 use Rattle.stun_proto.specs.Sides.{Passes, PassesUnauthorized, sides}
-use Rattle.stun_proto.proofs.Runs.{ends, first_ends, goes_on, refused, stops, unauthorized}
+use Rattle.stun_proto.proofs.Runs.{ended_by, ends, first_ends, goes_on, not_ended, refused, stops}
 use Rattle.stun_proto.proofs.replay.negotiation.meeting.meet.Goals as goal
 
 pub message_in-asked-requires : goal.message_in-asked-requires
@@ -47,7 +47,7 @@ returns-in-Some-clause-run g c =
     let told = c.in_ok-answer.ensures.answer ∙ (λ i. answer (sight s m.from) m.first.now m.first.words (reading_of (read i))) in
     ends c.in-Some.outcome (Passes m k.state s)
     ((λ i. ended c.in-Some.outcome (c.in_ok-unproven.ensures.stays i).state (left i))
-    ∙ first_ends m k.state t c.in_ok-answer.answer c.in-Some.outcome (sym c.end_of_first.ensures ∙ c.in-Some.is)
+    ∙ ended_by _ _ _ c.in-Some.outcome (sym c.end_of_first.ensures ∙ c.in-Some.is) (first_ends m k.state t c.in_ok-answer.answer)
     ∙ ap (first_answered m k.state t) told
     ∙ ap (first_asked m k.state s) c.in_ok-unproven.ensures.answer)
 
@@ -68,7 +68,7 @@ returns-clause-run g c =
     let left = c.in_ok-answer.ensures.server ∙ (λ i. after_message s m.from m.first.now m.first.words (reading_of (read i))) in
     let told = c.in_ok-answer.ensures.answer ∙ (λ i. answer (sight s m.from) m.first.now m.first.words (reading_of (read i))) in
     let r = c.after_unauthorized.result in
-    let is = ap answer_of (sym (unauthorized c.in_ok-answer.answer (sym c.end_of_first.ensures ∙ c.in-None.is))) ∙ told in
+    let is = not_ended _ _ _ (sym c.end_of_first.ensures ∙ c.in-None.is) (first_ends m k.state t c.in_ok-answer.answer) ∙ told in
     goes_on r (Passes m k.state s) (PassesUnauthorized m k.state t)
     (ap (first_answered m k.state t) is ∙ ap (first_asked m k.state s) c.in_ok-unproven.ensures.answer)
     (λ x later. inr (page_of c.in_ok-unproven.unproven.bytes, sym c.in_ok-unproven.ensures.answer, sym is, later))

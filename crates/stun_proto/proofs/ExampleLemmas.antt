@@ -91,7 +91,11 @@ module _ (from : SocketAddr) (words more : List ℕ) where
   is_ready : IsReady (a_meeting from words more) a_user a_server
   is_ready = record {
     credentials = refl;
-    present = one_present before_user refl a_user;
+    registered = record {
+      secret = of_password a_user.password;
+      present = one_present before_user refl a_user;
+      keys = λ a supported. refl;
+    };
     hashes = own_hashes before_user refl a_user;
     new_address = map.get-empty address_cmp from;
     others_first = All-nil (λ call. concerns from call ≡ false);

@@ -22,7 +22,7 @@ use Rattle.stun_auth.specs.Nonces.{asks_for_userhash, nonce_of}
 use Rattle.stun_auth.specs.Places.{with_offer}
 use Rattle.stun_base.specs.MessageType.{is_success}
 use Rattle.stun_auth.specs.Reading.{Reading, reading_of, verified_under}
-use Rattle.stun_auth.specs.Registered.{Registered, of_password, user_by_password, user_with_hash}
+use Rattle.stun_auth.specs.Registered.{Registered, user_with_hash}
 use Rattle.stun_auth.specs.Seen.{PlaceSeen, renewed}
 use Rattle.stun_auth.specs.Signed.{added_under_key, added_without_client, hashed_name, plain_name}
 use Rattle.stun_auth.specs.Server.{Sight, named_by, standing, standing_of}
@@ -30,7 +30,7 @@ use Rattle.stun_auth.specs.ServerSigning.{after_signing}
 use Rattle.stun_auth.specs.Validation.{ServerSeen, after_message, answer, place_after, sight}
 use Rattle.stun_proto.specs.Best.{best}
 use Rattle.stun_proto.specs.Honest.{AgreesOn, AreShort, ComesTo, HaveOwnHashes, IsHonest, IsReady}
-use Rattle.stun_proto.specs.Matching.{AreJoined, AreTexts, Matches}
+use Rattle.stun_proto.specs.Matching.{AreJoined, AreTexts, IsRegistered, Matches}
 use Rattle.stun_proto.specs.Negotiation.{Meeting, Met, asked, challenge_read, challenged, success_read, failure, first_answered, first_asked, negotiated, responded, second_answered, second_asked, succeeded, success}
 use Rattle.stun_proto.specs.Serving.{after_calls}
 use Rattle.stun_proto.proofs.Answered.{protected, unprotected}
@@ -65,11 +65,11 @@ success_step s c r a reads =
 
 -- ---- a name that is sent is understood
 named_again : (users : Registered) (feature : Feature) (who : NameAndPassword) (hashes possible : Bool) → HaveOwnHashes users
-    → map.get users.secrets who.username ≡ Some (of_password who.password) → is_possible feature ≡ hashes
-    → named_by (hashed_name (naming_of (hashes && possible) who.username users.realm)) (plain_name (naming_of (hashes && possible) who.username users.realm)) users feature ≡ Some (user_by_password who)
-named_again users feature who true true own there feasible = ap (λ b. cond b (user_with_hash users (userhash who.username users.realm)) None) feasible ∙ own_hash users who own there
-named_again users feature who true false own there feasible = own_user users who there
-named_again users feature who false possible own there feasible = own_user users who there
+    → (known : IsRegistered users who) → is_possible feature ≡ hashes
+    → named_by (hashed_name (naming_of (hashes && possible) who.username users.realm)) (plain_name (naming_of (hashes && possible) who.username users.realm)) users feature ≡ Some (record { username = who.username; secret = known.secret })
+named_again users feature who true true own known feasible = ap (λ b. cond b (user_with_hash users (userhash who.username users.realm)) None) feasible ∙ own_hash users who.username known.secret known.present own
+named_again users feature who true false own known feasible = own_user users who.username known.secret known.present
+named_again users feature who false possible own known feasible = own_user users who.username known.secret known.present
 
 -- a signing that is not refused has a page
 paged : {A : Type 0} (P : Result A StunWriteError → Type 0) (o : Result A StunWriteError) → ((reason : StunWriteError) → o ≡ Err reason → P (Err reason))
@@ -152,9 +152,9 @@ module _ (say : NoncesAsk) (found : SignedIsRead) (m : Meeting) (who : NameAndPa
     algorithms = refl;
     algorithm = had;
     naming = (asks_for_userhash nonce && is_possible m.settings.feature, refl);
-    named = named_again users server.feature who (asks_for_userhash nonce) (is_possible m.settings.feature) ready.hashes ready.present (sym (say.userhash users.algorithms server.feature m.first.words));
+    named = named_again users server.feature who (asks_for_userhash nonce) (is_possible m.settings.feature) ready.hashes ready.registered (sym (say.userhash users.algorithms server.feature m.first.words));
     key = refl;
-    present = ready.present;
+    known = ready.registered;
   }
 
   second_at : standing (seen offering) m.second.now m.second.words ≡ offering
@@ -174,7 +174,7 @@ module _ (say : NoncesAsk) (found : SignedIsRead) (m : Meeting) (who : NameAndPa
       record {
         place = refl;
         client = refl;
-        matches = record { realm = refl; nonce = refl; made = at_offer.made; offered = refl; algorithms = refl; algorithm = had; naming = at_offer.naming; named = at_offer.named; key = refl; present = at_offer.present };
+        matches = record { realm = refl; nonce = refl; made = at_offer.made; offered = refl; algorithms = refl; algorithm = had; naming = at_offer.naming; named = at_offer.named; key = refl; known = at_offer.known };
       }
 
   agreed_on : (a : IntegrityAlgorithm) → contains a users.algorithms ≡ true → (last : ServerSeen) → sight last m.from ≡ seen (taken a)

@@ -2,7 +2,6 @@
 use Rattle.std.proofs.Common.{◌≡◌, ℕ, ◌≤◌, List, length, Option, Some, None, Bool, true, false, refl, sym, ◌∙◌, ap, subst, Ok, Err, arith}
 use Rattle.std.specs.Prelude.{cond, ◌&&◌, IsOk}
 use Rattle.std.specs.Option.{option_map, option_and_then}
-use Rattle.std.specs.FinMap as map
 use Rattle.std.specs.declared.result.Result.{Result}
 use Rattle.std.proofs.lemmas.Bool.{le-leb}
 use Rattle.stun_base.specs.Credentials.{NameAndPassword}

@@ -8,7 +8,6 @@ use Rattle.stun_auth.specs.Additions.{page_of}
 use Rattle.stun_auth.specs.Client.{ClientSide}
 use Rattle.stun_auth.specs.Reading.{reading_of}
 use Rattle.stun_auth.specs.Validation.{ServerSeen, after_message, answer, sight}
-use Rattle.stun_proto.specs.code.FirstAnswers.{answer_of}
 use Rattle.stun_proto.specs.code.Meetings.{meeting_of}
 use Rattle.stun_proto.specs.code.Sides.{IsRun}
 use Rattle.stun_proto.specs.Negotiation.{asked, ended, first_answered, first_asked, unwritten}

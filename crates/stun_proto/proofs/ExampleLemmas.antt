@@ -19,7 +19,7 @@ use Rattle.stun_base.specs.Credentials.{NameAndPassword}
 use Rattle.stun_base.specs.declared.algorithm.IntegrityAlgorithm.TheVariants.{Sha256}
 use Rattle.stun_auth.specs.declared.algorithm_set.AlgorithmSet.TheVariants.{Both}
 use Rattle.stun_auth.specs.Client.{initial}
-use Rattle.stun_auth.specs.Registered.{Registered, name_cmp, new_registered, with_user}
+use Rattle.stun_auth.specs.Registered.{Registered, name_cmp, new_registered, of_password, with_user}
 use Rattle.stun_proto.specs.Headline.{IsReadyClient}
 use Rattle.stun_proto.specs.Honest.{AgreesOn, HaveOwnHashes, IsReady, ShortNamesAreSigned, StrongestIsAgreed}
 use Rattle.stun_proto.specs.Isolation.{concerns}
@@ -28,29 +28,29 @@ use Rattle.stun_proto.specs.MeetingExample.{a_meeting, a_server, a_user}
 use Rattle.stun_proto.specs.Negotiation.{negotiated}
 
 -- ---- one user
-module _ (none : Registered) (nobody : none.passwords ≡ map.empty) (who : NameAndPassword) where
-  present_at : (name : List ℕ) → map.get (with_user none who).passwords name
-      ≡ cond (eq_by_cmp name_cmp name who.username) (Some who.password) None
+module _ (none : Registered) (nobody : none.secrets ≡ map.empty) (who : NameAndPassword) where
+  present_at : (name : List ℕ) → map.get (with_user none who).secrets name
+      ≡ cond (eq_by_cmp name_cmp name who.username) (Some (of_password who.password)) None
   present_at name =
-      ap (λ passwords. map.get (map.insert passwords who.username who.password) name) nobody
-      ∙ get-insert nat_list_cmp_total map.empty who.username who.password name
-      ∙ ap (cond (eq_by_cmp name_cmp name who.username) (Some who.password))
+      ap (λ secrets. map.get (map.insert secrets who.username (of_password who.password)) name) nobody
+      ∙ get-insert nat_list_cmp_total map.empty who.username (of_password who.password) name
+      ∙ ap (cond (eq_by_cmp name_cmp name who.username) (Some (of_password who.password)))
       (map.get-empty name_cmp name)
 
-  one_present : map.get (with_user none who).passwords who.username ≡ Some who.password
+  one_present : map.get (with_user none who).secrets who.username ≡ Some (of_password who.password)
   one_present =
       present_at who.username
-      ∙ ap (λ b. cond b (Some who.password) None)
+      ∙ ap (λ b. cond b (Some (of_password who.password)) None)
       (is_eq-slice_cmp who.username who.username ∙ (bytes_eq-Decides who.username who.username).1
       refl)
 
-  only_one : (name : List ℕ) → is_some (map.get (with_user none who).passwords name) ≡ true
+  only_one : (name : List ℕ) → is_some (map.get (with_user none who).secrets name) ≡ true
       → name ≡ who.username
   only_one name there =
       by (eq_by_cmp name_cmp name who.username) refl (sym (ap is_some (present_at name)) ∙ there)
     where
       by : (b : Bool) → eq_by_cmp name_cmp name who.username ≡ b
-          → is_some (cond b (Some who.password) None) ≡ true → name ≡ who.username
+          → is_some (cond b (Some (of_password who.password)) None) ≡ true → name ≡ who.username
       by true is h = (bytes_eq-Decides name who.username).0
           (sym (is_eq-slice_cmp name who.username) ∙ is)
       by false is h = cc
@@ -91,7 +91,11 @@ module _ (from : SocketAddr) (words more : List ℕ) where
   is_ready : IsReady (a_meeting from words more) a_user a_server
   is_ready = record {
     credentials = refl;
-    present = one_present before_user refl a_user;
+    registered = record {
+      secret = of_password a_user.password;
+      present = one_present before_user refl a_user;
+      keys = λ a supported. refl;
+    };
     hashes = own_hashes before_user refl a_user;
     new_address = map.get-empty address_cmp from;
     others_first = All-nil (λ call. concerns from call ≡ false);

@@ -9,9 +9,8 @@ use Rattle.std.specs.FinMap as map
 use Rattle.std.specs.FinMap.{contains_key-keys}
 use Rattle.std.proofs.lemmas.Map.Text.{is_eq-slice_cmp}
 use Rattle.std.proofs.lemmas.Slice.Eq.{bytes_eq-Decides}
-use Rattle.stun_base.specs.Credentials.{NameAndPassword}
 use Rattle.stun_base.specs.Keys.{userhash}
-use Rattle.stun_auth.specs.Registered.{Registered, name_cmp, name_with_hash, user_named, user_with_hash}
+use Rattle.stun_auth.specs.Registered.{Registered, UserSecret, name_cmp, name_with_hash, user_named, user_with_hash}
 use Rattle.stun_proto.specs.Honest.{HaveOwnHashes}
 
 abbrev same : List ℕ → List ℕ → Bool
@@ -48,20 +47,19 @@ find_only (x ∷ names) test name there passes only =
         absurd_of h = cc
     later h false e t = t
 
-own_name : (users : Registered) (name : List ℕ) → HaveOwnHashes users → is_some (map.get users.passwords name) ≡ true
+own_name : (users : Registered) (name : List ℕ) → HaveOwnHashes users → is_some (map.get users.secrets name) ≡ true
     → name_with_hash users (userhash name users.realm) ≡ Some name
 own_name users name own there =
-    find_only (map.keys users.passwords) (λ x. bytes_eq (userhash x users.realm) (userhash name users.realm)) name
-    (sym (contains_key-keys users.passwords name) ∙ there)
+    find_only (map.keys users.secrets) (λ x. bytes_eq (userhash x users.realm) (userhash name users.realm)) name
+    (sym (contains_key-keys users.secrets name) ∙ there)
     ((bytes_eq-Decides (userhash name users.realm) (userhash name users.realm)).1 refl)
-    (λ x among alike. own x name (contains_key-keys users.passwords x ∙ among) there ((bytes_eq-Decides (userhash x users.realm) (userhash name users.realm)).0 alike))
+    (λ x among alike. own x name (contains_key-keys users.secrets x ∙ among) there ((bytes_eq-Decides (userhash x users.realm) (userhash name users.realm)).0 alike))
 
 -- a present user is named by name
-pub own_user : (users : Registered) (who : NameAndPassword) → map.get users.passwords who.username ≡ Some who.password → user_named users who.username ≡ Some who
-own_user users who present = ap (option_map (λ (password : List ℕ). record { username = who.username; password = password })) present
+module _ (users : Registered) (name : List ℕ) (secret : UserSecret) (present : map.get users.secrets name ≡ Some secret) where
+  pub own_user : user_named users name ≡ Some (record { username = name; secret = secret })
+  own_user = ap (option_map (λ (s : UserSecret). record { username = name; secret = s })) present
 
--- and by hash
-pub own_hash : (users : Registered) (who : NameAndPassword) → HaveOwnHashes users → map.get users.passwords who.username ≡ Some who.password
-    → user_with_hash users (userhash who.username users.realm) ≡ Some who
-own_hash users who own present =
-    ap (option_and_then (user_named users)) (own_name users who.username own (ap is_some present)) ∙ own_user users who present
+  -- and by hash
+  pub own_hash : HaveOwnHashes users → user_with_hash users (userhash name users.realm) ≡ Some (record { username = name; secret = secret })
+  own_hash own = ap (option_and_then (user_named users)) (own_name users name own (ap is_some present)) ∙ own_user

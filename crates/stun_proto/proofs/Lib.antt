@@ -1,7 +1,6 @@
 pub mod AcceptingLemmas
 pub mod AfterCalls
 pub mod AgentLoopLemmas
-pub mod Along
 pub mod Answered
 pub mod AppendedLemmas
 pub mod Chosen
@@ -42,7 +41,6 @@ pub mod Signed
 pub mod SignedRuns
 pub mod SigningLemmas
 pub mod Small
-pub mod Stages
 pub mod Standing
 pub mod Strongest
 pub mod TurnLemmas

@@ -14,7 +14,7 @@ use Rattle.stun_auth.specs.Algorithms.{contains, listed, offered_list}
 use Rattle.stun_auth.specs.Client.{Challenge, Naming, plain, hashed}
 use Rattle.stun_auth.specs.Nonces.{asks_for_algorithms}
 use Rattle.stun_auth.specs.Reading.{Reading, verified_under}
-use Rattle.stun_auth.specs.Registered.{Registered, key_at, key_if, key_of}
+use Rattle.stun_auth.specs.Registered.{Registered, RegisteredUser, key_at, key_if, key_of}
 use Rattle.stun_auth.specs.Seen.{ClientSeen, PlaceSeen}
 use Rattle.stun_auth.specs.Signed.{hashed_name, plain_name}
 use Rattle.stun_auth.specs.Server.{agreed, choice, client_of, named, named_by, nonce_refusal, or_refused, proven, verified_for, their_nonce, verdict}
@@ -41,11 +41,16 @@ module _ (say : NoncesAsk) (users : Registered) (feature : Feature) (p : PlaceSe
   asks = ap asks_for_algorithms matches.made.1 ∙ say.algorithms users.algorithms feature matches.made.0
 
   -- the server has the key that the client has
-  pub key_there : key_of users who c.algorithm ≡ Some c.key
-  key_there = ap (λ b. key_if b c.algorithm who.username users.realm who.password) matches.algorithm ∙ ap Some (sym matches.key)
+  abbrev user : RegisteredUser
+  user = record { username = who.username; secret = matches.known.secret }
+
+  pub key_there : key_of users user c.algorithm ≡ Some c.key
+  key_there =
+      ap (λ b. key_if b c.algorithm who.username users.realm matches.known.secret) matches.algorithm
+      ∙ matches.known.keys c.algorithm matches.algorithm ∙ ap Some (sym matches.key)
 
   pub key_found : key_at users who.username c.algorithm ≡ Some c.key
-  key_found = ap (option_and_then (λ user. key_of users user c.algorithm)) (own_user users who matches.present) ∙ key_there
+  key_found = ap (option_and_then (λ present. key_of users present c.algorithm)) (own_user users who.username matches.known.secret matches.known.present) ∙ key_there
 
   module _ (r : Reading) (reads : IsRequest c r) where
     pub agrees : agreed r p.nonce p.offered ≡ Some c.algorithm
@@ -62,7 +67,7 @@ module _ (say : NoncesAsk) (users : Registered) (feature : Feature) (p : PlaceSe
     agrees_so : agreed r (their_nonce r) p.offered ≡ Some c.algorithm
     agrees_so = ap (λ n. agreed r n p.offered) theirs ∙ agrees
 
-    named_so : named users feature r ≡ Some who
+    named_so : named users feature r ≡ Some user
     named_so = ap (λ o. named_by o r.username users feature) reads.userhash ∙ ap (λ o. named_by (hashed_name c.naming) o users feature) reads.username ∙ matches.named
 
     unnamed : (n : Naming) → (is_none (hashed_name n) && is_none (plain_name n)) ≡ false
@@ -107,7 +112,7 @@ module _ (say : NoncesAsk) (users : Registered) (feature : Feature) (p : PlaceSe
 
     client_so : client_of users feature p.nonce p.offered r ≡ client
     client_so =
-        ap (λ (o : Option NameAndPassword). record { name = option_map_or (λ (user : NameAndPassword). user.username) o []; algorithm = unwrap_or (agreed r (their_nonce r) p.offered) Sha1 }) named_so
+        ap (λ (o : Option RegisteredUser). record { name = option_map_or (λ (present : RegisteredUser). present.username) o []; algorithm = unwrap_or (agreed r (their_nonce r) p.offered) Sha1 }) named_so
         ∙ ap (λ (o : Option IntegrityAlgorithm). record { name = who.username; algorithm = unwrap_or o Sha1 }) agrees_so
 
     pub matched_verdict : verdict users feature p.nonce p.offered r ≡ Ok client

@@ -2,7 +2,6 @@
 use Rattle.std.proofs.Common.{◌≡◌, ℕ, ◌≤◌, List, length, Option, Some, None, Bool, true, false, refl, sym, ◌∙◌, ap, subst, Ok, Err, arith}
 use Rattle.std.specs.Prelude.{cond, ◌&&◌, IsOk}
 use Rattle.std.specs.Option.{option_map, option_and_then}
-use Rattle.std.specs.FinMap as map
 use Rattle.std.specs.declared.result.Result.{Result}
 use Rattle.std.proofs.lemmas.Bool.{le-leb}
 use Rattle.stun_base.specs.Credentials.{NameAndPassword}
@@ -30,7 +29,7 @@ use Rattle.stun_auth.specs.ServerSigning.{after_signing}
 use Rattle.stun_auth.specs.Validation.{ServerSeen, after_message, answer, place_after, sight}
 use Rattle.stun_proto.specs.Best.{best}
 use Rattle.stun_proto.specs.Honest.{AgreesOn, AreShort, ComesTo, HaveOwnHashes, IsHonest, IsReady}
-use Rattle.stun_proto.specs.Matching.{AreJoined, AreTexts, Matches}
+use Rattle.stun_proto.specs.Matching.{AreJoined, AreTexts, IsRegistered, Matches}
 use Rattle.stun_proto.specs.Negotiation.{Meeting, Met, asked, challenge_read, challenged, success_read, failure, first_answered, first_asked, negotiated, responded, second_answered, second_asked, succeeded, success}
 use Rattle.stun_proto.specs.Serving.{after_calls}
 use Rattle.stun_proto.proofs.Answered.{protected, unprotected}
@@ -65,11 +64,11 @@ success_step s c r a reads =
 
 -- ---- a name that is sent is understood
 named_again : (users : Registered) (feature : Feature) (who : NameAndPassword) (hashes possible : Bool) → HaveOwnHashes users
-    → map.get users.passwords who.username ≡ Some who.password → is_possible feature ≡ hashes
-    → named_by (hashed_name (naming_of (hashes && possible) who.username users.realm)) (plain_name (naming_of (hashes && possible) who.username users.realm)) users feature ≡ Some who
-named_again users feature who true true own there feasible = ap (λ b. cond b (user_with_hash users (userhash who.username users.realm)) None) feasible ∙ own_hash users who own there
-named_again users feature who true false own there feasible = own_user users who there
-named_again users feature who false possible own there feasible = own_user users who there
+    → (known : IsRegistered users who) → is_possible feature ≡ hashes
+    → named_by (hashed_name (naming_of (hashes && possible) who.username users.realm)) (plain_name (naming_of (hashes && possible) who.username users.realm)) users feature ≡ Some (record { username = who.username; secret = known.secret })
+named_again users feature who true true own known feasible = ap (λ b. cond b (user_with_hash users (userhash who.username users.realm)) None) feasible ∙ own_hash users who.username known.secret known.present own
+named_again users feature who true false own known feasible = own_user users who.username known.secret known.present
+named_again users feature who false possible own known feasible = own_user users who.username known.secret known.present
 
 -- a signing that is not refused has a page
 paged : {A : Type 0} (P : Result A StunWriteError → Type 0) (o : Result A StunWriteError) → ((reason : StunWriteError) → o ≡ Err reason → P (Err reason))
@@ -152,9 +151,9 @@ module _ (say : NoncesAsk) (found : SignedIsRead) (m : Meeting) (who : NameAndPa
     algorithms = refl;
     algorithm = had;
     naming = (asks_for_userhash nonce && is_possible m.settings.feature, refl);
-    named = named_again users server.feature who (asks_for_userhash nonce) (is_possible m.settings.feature) ready.hashes ready.present (sym (say.userhash users.algorithms server.feature m.first.words));
+    named = named_again users server.feature who (asks_for_userhash nonce) (is_possible m.settings.feature) ready.hashes ready.registered (sym (say.userhash users.algorithms server.feature m.first.words));
     key = refl;
-    present = ready.present;
+    known = ready.registered;
   }
 
   second_at : standing (seen offering) m.second.now m.second.words ≡ offering
@@ -174,7 +173,7 @@ module _ (say : NoncesAsk) (found : SignedIsRead) (m : Meeting) (who : NameAndPa
       record {
         place = refl;
         client = refl;
-        matches = record { realm = refl; nonce = refl; made = at_offer.made; offered = refl; algorithms = refl; algorithm = had; naming = at_offer.naming; named = at_offer.named; key = refl; present = at_offer.present };
+        matches = record { realm = refl; nonce = refl; made = at_offer.made; offered = refl; algorithms = refl; algorithm = had; naming = at_offer.naming; named = at_offer.named; key = refl; known = at_offer.known };
       }
 
   agreed_on : (a : IntegrityAlgorithm) → contains a users.algorithms ≡ true → (last : ServerSeen) → sight last m.from ≡ seen (taken a)

@@ -141,9 +141,9 @@ module _ (say : NoncesAsk) (found : SignedIsRead) (m : Renewal) (who : NameAndPa
     algorithms = algorithms ∙ matches.algorithms;
     algorithm = subst (λ (a : IntegrityAlgorithm). contains a users.algorithms ≡ true) (sym algorithm) matches.algorithm;
     naming = (matches.naming.0, naming ∙ matches.naming.1);
-    named = subst (λ n. named_by (hashed_name n) (plain_name n) users server.feature ≡ Some who) (sym naming) matches.named;
+    named = subst (λ n. named_by (hashed_name n) (plain_name n) users server.feature ≡ Some (record { username = who.username; secret = matches.known.secret })) (sym naming) matches.named;
     key = key ∙ matches.key ∙ ap (λ a. long_term_key a who.username users.realm who.password) (sym algorithm);
-    present = matches.present;
+    known = matches.known;
   }
 
   -- what is read of the first request

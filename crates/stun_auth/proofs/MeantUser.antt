@@ -38,7 +38,7 @@ nothing (x ∷ es) e = absurd (omega arith)
 nobody : fin.entries (fin.empty {X = UserSecret} {R = name_cmp}) ≡ []
 nobody = nothing _ (sym (fin.len-entries fin.empty) ∙ fin.len-empty name_cmp UserSecret)
 
-one : (name : List ℕ) (secret : UserSecret)
+pub one : (name : List ℕ) (secret : UserSecret)
     → fin.entries (fin.insert (fin.empty {R = name_cmp}) name secret) ≡ (name, secret) ∷ []
 one name secret = fin.entries-insert nat_list_cmp_total fin.empty name secret
     ∙ ap (fin.put name_cmp name secret) nobody

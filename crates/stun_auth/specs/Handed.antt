@@ -1,16 +1,21 @@
 -- A user who is handed in with a message, for a server that keeps no list of its users (RFC 8489,
 -- section 9.2.4).
-use Rattle.std.specs.Prelude.{ℕ, List, if◌then◌else◌, Option, Some, None}
+use Rattle.std.specs.Prelude.{◌≡◌, ℕ, List, if◌then◌else◌, true, Option, Some, None}
 use Rattle.std.specs.Option.{option_and_then, option_map}
 use Rattle.std.specs.FinMap as map
 use Rattle.std.specs.declared.net.socket_addr.SocketAddr.{SocketAddr}
+use Rattle.stun_base.specs.Credentials.{NameAndPassword}
+use Rattle.stun_base.specs.Keys.{long_term_key}
 use Rattle.stun_base.specs.MessageType.{is_response}
+use Rattle.stun_base.specs.declared.algorithm.IntegrityAlgorithm.{IntegrityAlgorithm}
 use Rattle.stun_auth.specs.declared.feature.Feature.{Feature}
 use Rattle.stun_auth.specs.declared.named_user.NamedUser.{NamedUser}
 use Rattle.stun_auth.specs.declared.named_user.NamedUser.TheVariants.{ByName, ByHash}
+use Rattle.stun_auth.specs.declared.stored_keys.StoredKeys.{StoredKeys}
+use Rattle.stun_auth.specs.Algorithms.{contains}
 use Rattle.stun_auth.specs.Feature.{is_possible}
 use Rattle.stun_auth.specs.Reading.{Reading}
-use Rattle.stun_auth.specs.Registered.{Registered, RegisteredUser, UserSecret, name_cmp, user_named, user_with_hash}
+use Rattle.stun_auth.specs.Registered.{Registered, RegisteredUser, UserSecret, name_cmp, stored_key, user_named, user_with_hash}
 use Rattle.stun_auth.specs.Seen.{ClientSeen, PlaceSeen}
 use Rattle.stun_auth.specs.Server.{Sight}
 use Rattle.stun_auth.specs.Validation.{ServerSeen, sight}
@@ -61,6 +66,16 @@ only_user (Some user) = map.insert map.empty user.username user.secret
 abbrev pub just : Registered → Option RegisteredUser → Registered
 just users user = record users { secrets = only_user user }
 
+-- the keys are those that a user's password makes at the realm, for each supported algorithm
+abbrev pub AreKeysOf : Registered → NameAndPassword → StoredKeys → Type 0
+AreKeysOf users user keys =
+    (a : IntegrityAlgorithm) → contains a users.algorithms ≡ true
+    → stored_key keys a ≡ Some (long_term_key a user.username users.realm user.password)
+
 -- the server with other users in the place of its own
 abbrev pub with_users : ServerSeen → Registered → ServerSeen
 with_users s users = record s { registered = users }
+
+-- the server with one user in the place of its own
+abbrev pub with_just : ServerSeen → RegisteredUser → ServerSeen
+with_just s user = with_users s (just s.registered (Some user))

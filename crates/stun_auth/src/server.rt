@@ -47,8 +47,9 @@ pub fn minimum_nonce_expiry_duration() -> Duration
 
 /// The server's side of long-term authentication: the users of a realm, and for each address the nonce that was made for it.
 ///
-/// Contracts see the realm, the supported algorithms, each user's password by name, the settings, and the place of each
-/// address: its nonce with the nonce's end, the algorithms that were offered, and the client.
+/// Contracts see the realm, the supported algorithms, what each user is known by (a password, or
+/// stored keys), the settings, and the place of each address: its nonce with the nonce's end, the
+/// algorithms that were offered, and the client.
 ///
 /// Each request or indication from a new address makes a place, unless it has integrity and lacks REALM, NONCE or a name
 /// (none of these need be right), so whoever can send from many addresses makes the server grow. A place stays until

@@ -4,7 +4,8 @@ ghost use Rattle.std.specs.Prelude.{◌≡◌, ◌↔◌, ⊤, true, IsTrue, Opt
 ghost use Rattle.std.specs.FinMap as map;
 ghost use Rattle.std.specs.Option.{option_copied, option_map};
 ghost use Rattle.stun_base.specs.Words.{next_words, after_words};
-ghost use Rattle.stun_auth.specs.Reading.{reading_of};
+ghost use Rattle.stun_auth.specs.Reading.{reading_of, verified_under};
+ghost use Rattle.stun_auth.specs.Registered.{key_at};
 ghost use Rattle.stun_auth.specs.Seen.{PlaceSeen};
 ghost use Rattle.stun_auth.specs.code.Places.{client_seen, place_seen};
 ghost use Rattle.stun_auth.specs.Reasons.{OrMemory};
@@ -125,6 +126,27 @@ fn is_known<A: Allocator>(place: Option<&Place<A>>, accepted: Accepted<'_>) -> b
 }
 
 impl<A: Allocator + Copy> LongTermServerAuth<A> {
+    /// The algorithm whose digest verifies, of those that a message has, under the key that the registered user of a name has
+    /// for a supported algorithm. `None` where none verifies, and where there is no such user or key.
+    ///
+    /// It is for a check of a user's key, and for a tool that must know who could have signed a message. It is no verdict: it
+    /// reads no nonce, realm, name or choice of the message, so a message that is sent again verifies again. It shows no key,
+    /// changes nothing and does not allocate.
+    pub fn user_verifies(
+        &self,
+        name: &str,
+        algorithm: IntegrityAlgorithm,
+        message: &Message<'_>,
+    ) -> Option<IntegrityAlgorithm>
+        ensures { result ≡ option_and_then (verified_under (reading_of message.now))
+            (key_at self.now.registered name.now algorithm) }
+    {
+        match self.registry.key(name, algorithm) {
+            Some(key) => Reading::of(message).verified_under(key),
+            None => None,
+        }
+    }
+
     /// Judges a message that came from an address.
     ///
     /// A response is `Validated` where its digest verifies under the key of the address's client, else refused by

@@ -20,8 +20,8 @@ invariant_of-self-in-Ok g c =
     let name = string_bytes c.args.name in
     let keys : HasKeys realm r.supported name c.in_ok-user.user =
     subst (λ n. HasKeys realm r.supported n c.in_ok-user.user) c.as_str.ensures.value
-    (subst (λ n. HasKeys n r.supported c.as_str.result.now c.in_ok-user.user) c.as_str-2.ensures.value c.in_ok-user.ensures.keys) in
-    let hash : c.userhash-hash.result ≡ userhash name realm = c.userhash-hash.ensures ∙ (λ i. userhash (c.as_str-3.ensures.value i) (c.as_str-4.ensures.value i)) in
+    (subst (λ n. HasKeys n r.supported c.as_str.result.now c.in_ok-user.user) c.as_str-realm.ensures.value c.in_ok-user.ensures.keys) in
+    let hash : c.userhash-hash.result ≡ userhash name realm = c.userhash-hash.ensures ∙ (λ i. userhash (c.as_str-2.ensures.value i) (c.as_str-3.ensures.value i)) in
     let copied : string_bytes c.in_ok-clone.field-0 ≡ name = search rules in (
       keys_after_add realm r.supported r.users c.put_user.new.users name c.in_ok-user.user c.in-Ok.ensures.ok keys c.self.invariant.0,
       index_after_add realm name (secrets_seen r.users.entries) r.hashed c.self.invariant.1 c.userhash-hash.result (string_bytes c.in_ok-clone.field-0) hash copied
@@ -34,7 +34,7 @@ invariant_of-self-in-Err g c =
     let r = c.self.inside in
     let realm = string_bytes r.realm in
     let name = string_bytes c.args.name in
-    let hash : c.userhash-hash.result ≡ userhash name realm = c.userhash-hash.ensures ∙ (λ i. userhash (c.as_str-3.ensures.value i) (c.as_str-4.ensures.value i)) in
+    let hash : c.userhash-hash.result ≡ userhash name realm = c.userhash-hash.ensures ∙ (λ i. userhash (c.as_str-2.ensures.value i) (c.as_str-3.ensures.value i)) in
     let copied : string_bytes c.in_ok-clone.field-0 ≡ name = search rules in
     let absent : map.contains_key (secrets_seen r.users.entries) name ≡ false =
     ap is_some (get-secrets_seen r.users name ∙ ap (option_map (λ (u : User g.row.A.Denot). secret_of u)) c.in-Err.ensures.absent) in

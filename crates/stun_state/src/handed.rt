@@ -111,10 +111,10 @@ fn prepared(
     name: &[u8],
     given: Given<'_>,
 ) -> Result<LongTermServerUser<Global>, Refusal>
-    ensures ok { IfOk result (λ user. just_given server.now.registered (user_given name.now given)
+    ensures ok { IfOk result (λ user. just_given server.now.registered (user_given name.now given.entry)
         ≡ Ok user) }
     ensures err { IfErr result (λ refusal. OrMemory result
-        (just_given server.now.registered (user_given name.now given) ≡ Err refusal) ⊤) }
+        (just_given server.now.registered (user_given name.now given.entry) ≡ Err refusal) ⊤) }
 {
     let name = text(name)?;
     match given {
@@ -144,11 +144,11 @@ pub fn validate(
 ) -> Result<IntegrityAlgorithm, Refusal>
     ensures answer { OrMemory result
         (result ≡ at_address (socket_address from.now)
-        (validated_of kept.old message.now now words.now (user_given name.now given))) ⊤ }
+        (validated_of kept.old message.now now words.now (user_given name.now given.entry))) ⊤ }
     ensures state { OrMemory result
         (kept.new ≡ record kept.old {
           server = kept_after_validating_of kept.old message.now from.now now words.now
-              (user_given name.now given);
+              (user_given name.now given.entry);
         })
         (kept.new ≡ kept.old) }
 {
@@ -196,12 +196,12 @@ pub fn sign(
     given: Given<'_>,
 ) -> Result<usize, Refusal>
     ensures answer { OrMemory result (result ≡ length_of
-        (signed_of server.old buffer.old length to.now (user_given name.now given))) ⊤ }
+        (signed_of server.old buffer.old length to.now (user_given name.now given.entry))) ⊤ }
     ensures written { OrMemory result (buffer.new ≡ buffer_after
-        (signed_of server.old buffer.old length to.now (user_given name.now given)) buffer.old)
+        (signed_of server.old buffer.old length to.now (user_given name.now given.entry)) buffer.old)
         (buffer.new ≡ buffer.old) }
     ensures state { OnOk result (server.new ≡ kept_after_signing_of server.old buffer.old length
-        to.now (user_given name.now given)) }
+        to.now (user_given name.now given.entry)) }
     ensures refused { OnErr result (server.new ≡ server.old) }
 {
     let mut user = prepared(alloc, server, name, given)?;

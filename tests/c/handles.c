@@ -582,10 +582,13 @@ static void users_elsewhere(bool is_hidden) {
 }
 
 /* The keys of a password, and which of them are stored. */
-struct keys { uint8_t sha1[STUNP_SHA1_KEY_LENGTH], sha256[STUNP_SHA256_KEY_LENGTH]; size_t sha1_length, sha256_length; };
+struct keys {
+    uint8_t sha1[STUNP_SHA1_KEY_LENGTH], sha256[STUNP_SHA256_KEY_LENGTH];
+    size_t sha1_length, sha256_length;
+};
 
 static struct keys keys_of(const char *password) {
-    struct keys keys = {.sha1_length = STUNP_SHA1_KEY_LENGTH, .sha256_length = STUNP_SHA256_KEY_LENGTH};
+    struct keys keys = {.sha1_length = sizeof keys.sha1, .sha256_length = sizeof keys.sha256};
     want("for SHA-1", stunp_long_term_key(STUNP_SHA1, "name", 4, "realm", 5, password,
          strlen(password), keys.sha1, sizeof keys.sha1), STUNP_SHA1_KEY_LENGTH);
     want("for SHA-256", stunp_long_term_key(STUNP_SHA256, "name", 4, "realm", 5, password,

@@ -590,14 +590,20 @@ enum handing { NOT_HANDED, BY_PASSWORD, BY_KEYS };
 #define HANDED TEXT("name"), TEXT("word")
 
 /* That user's keys, and how many bytes of them are handed in. */
-static struct { uint8_t sha1[STUNP_SHA1_KEY_LENGTH + 1], sha256[STUNP_SHA256_KEY_LENGTH + 1]; size_t sha1_length, sha256_length; } stored;
+static struct {
+    uint8_t sha1[STUNP_SHA1_KEY_LENGTH + 1], sha256[STUNP_SHA256_KEY_LENGTH + 1];
+    size_t sha1_length, sha256_length;
+} stored;
 #define STORED TEXT("name"), stored.sha1, stored.sha1_length, stored.sha256, stored.sha256_length
 
-/* Two bits of a setting: not handed in, by the password, by both keys, or by keys of other lengths. */
+/* Two bits of a setting: not handed in, by the password, by both keys, or by keys of lengths that
+ * the setting says. */
 static enum handing handing_of(unsigned bits, uint8_t setting) {
     if (bits < 2) return bits == 0 ? NOT_HANDED : BY_PASSWORD;
-    stunp_long_term_key(STUNP_SHA1, TEXT("name"), TEXT("realm"), TEXT("word"), stored.sha1, sizeof stored.sha1);
-    stunp_long_term_key(STUNP_SHA256, TEXT("name"), TEXT("realm"), TEXT("word"), stored.sha256, sizeof stored.sha256);
+    stunp_long_term_key(STUNP_SHA1, TEXT("name"), TEXT("realm"), TEXT("word"), stored.sha1,
+                        sizeof stored.sha1);
+    stunp_long_term_key(STUNP_SHA256, TEXT("name"), TEXT("realm"), TEXT("word"), stored.sha256,
+                        sizeof stored.sha256);
     stored.sha1_length = STUNP_SHA1_KEY_LENGTH, stored.sha256_length = STUNP_SHA256_KEY_LENGTH;
     if (bits == 3) {
         stored.sha1_length -= setting % 2 == 0 ? 16 : setting % 18u - 1;
@@ -628,11 +634,14 @@ static size_t answer_to(const uint8_t *id, int64_t verdict, const stunp_address 
     if (length < 0) return 0;
     memcpy(before, out, ROOM);
     int64_t answer =
-        by == BY_KEYS       ? stunp_server_sign_of_keys(&world.server, out, room, (size_t)length, to, STORED)
-        : by == BY_PASSWORD ? stunp_server_sign_of(&world.server, out, room, (size_t)length, to, HANDED)
-                            : stunp_server_sign(&world.server, out, room, (size_t)length, to);
+        by == BY_KEYS
+            ? stunp_server_sign_of_keys(&world.server, out, room, (size_t)length, to, STORED)
+        : by == BY_PASSWORD
+            ? stunp_server_sign_of(&world.server, out, room, (size_t)length, to, HANDED)
+            : stunp_server_sign(&world.server, out, room, (size_t)length, to);
     if (are_refused(by))
-        require(answer == (world.server.is_full ? STUNP_BAD_ARGUMENT : STUNP_EMPTY_HANDLE), "signed by keys of other lengths");
+        require(answer == (world.server.is_full ? STUNP_BAD_ARGUMENT : STUNP_EMPTY_HANDLE),
+                "signed by keys of other lengths");
     return signed_length(answer, room, (size_t)length);
 }
 
@@ -663,7 +672,8 @@ static int64_t server_hears(const uint8_t *message, size_t length, const stunp_a
     ask_who(message, length, from, length % 64);
     int64_t verdict = named(
         by == BY_KEYS
-            ? stunp_server_validate_of_keys(&world.server, message, length, from, world.now, words, STORED)
+            ? stunp_server_validate_of_keys(&world.server, message, length, from, world.now, words,
+                                            STORED)
         : by == BY_PASSWORD
             ? stunp_server_validate_of(&world.server, message, length, from, world.now, words, HANDED)
             : stunp_server_validate(&world.server, message, length, from, world.now, words));

@@ -37,7 +37,7 @@ use stun_types::prelude::*;
 
 /// What a caller gives of a user beside the name.
 #[derive(Clone, Copy)]
-pub enum Given<'a> {
+pub(crate) enum Given<'a> {
     /// The password.
     Password(&'a [u8]),
     /// The stored keys for HMAC-SHA1, of 16 bytes, and for HMAC-SHA256, of 32. A key that is not
@@ -132,7 +132,7 @@ fn prepared(
 }
 
 /// Who signed a message, where the server has just the user of a name.
-pub fn validate(
+pub(crate) fn validate(
     alloc: Global,
     kept: &mut Server,
     message: &[u8],
@@ -186,7 +186,7 @@ fn validate_message(
 
 /// Signs the message in the first `length` bytes of a buffer, which goes to an address, where the
 /// server has just the user of a name. A refusal leaves the buffer.
-pub fn sign(
+pub(crate) fn sign(
     alloc: Global,
     server: &mut LongTermServerAuth<Global>,
     buffer: &mut [u8],

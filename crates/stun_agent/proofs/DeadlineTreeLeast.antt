@@ -8,9 +8,9 @@ use Rattle.std.proofs.lemmas.Bool.{le-leb, lt-leb, leb-true, leb-false, ltb-true
 use Rattle.std.proofs.lemmas.List.{map-append}
 use Rattle.std.proofs.lemmas.List.Elements.{filter-append}
 use Rattle.std.proofs.lemmas.List.Sums.{fold-append}
-use Rattle.stun_agent.specs.declared.deadlines.Deadline.{Deadline}
-use Rattle.stun_agent.specs.declared.deadline_tree.Link.{Link}
-use Rattle.stun_agent.specs.declared.deadline_tree.Node.{Node}
+use Rattle.stun_agent.specs.declared.state.deadlines.Deadline.{Deadline}
+use Rattle.stun_agent.specs.declared.state.deadline_tree.Link.{Link}
+use Rattle.stun_agent.specs.declared.state.deadline_tree.Node.{Node}
 use Rattle.stun_agent.specs.Transactions.{sooner}
 use Rattle.stun_agent.specs.code.Deadlines.{is_passed, lesser}
 use Rattle.stun_agent.specs.code.DeadlineTree.{items, middle, IsFirst, IsTree, IsBelow, least_come, first_has_come, with_id}

@@ -6,10 +6,10 @@ use Rattle.std.proofs.lemmas.Bool.{leb-true, leb-false, ne_eqb, eqb-true, eqb-fa
 use Rattle.std.proofs.lemmas.List.Elements.{All-from_recursion, recursion_from_All, filter-append}
 use Rattle.std.proofs.lemmas.List.Sorted.{All-permutation, IsPermutation-refl, IsPermutation-sym, IsPermutation-trans, IsPermutation-cons, IsPermutation-middle, IsPermutation-append_left, IsPermutation-append_right}
 use Rattle.stun_agent.specs.code.Deadlines.{entries_at}
-use Rattle.stun_agent.specs.declared.deadlines.Deadline.{Deadline}
-use Rattle.stun_agent.specs.declared.deadline_tree.Link.{Link}
-use Rattle.stun_agent.specs.declared.deadline_tree.Link.TheVariants.{Empty, Held'}
-use Rattle.stun_agent.specs.declared.deadline_tree.Node.{Node}
+use Rattle.stun_agent.specs.declared.state.deadlines.Deadline.{Deadline}
+use Rattle.stun_agent.specs.declared.state.deadline_tree.Link.{Link}
+use Rattle.stun_agent.specs.declared.state.deadline_tree.Link.TheVariants.{Empty, Held'}
+use Rattle.stun_agent.specs.declared.state.deadline_tree.Node.{Node}
 use Rattle.stun_agent.specs.code.DeadlineTree.{items, below, middle, is_no_later, IsWithin, IsFirst, IsTop, IsTree, IsBelow, IsExchanged, IsAlone, IsNextTaken, TakesOut, TakesFirst, TakesNext, first_of, next_of}
 
 -- ---- lists

@@ -6,11 +6,11 @@ use Rattle.std.specs.Map.{set_value}
 use Rattle.std.specs.Ordering.{nat_cmp}
 use Rattle.std.specs.BTreeMap.{is_at}
 use Rattle.std.specs.List.{AllByRecursion}
-use Rattle.stun_base.specs.declared.transport.TransportType.{TransportType}
-use Rattle.stun_agent.specs.declared.deadlines.Deadline.{Deadline}
+use Rattle.stun_base.specs.declared.wire.transport.TransportType.{TransportType}
+use Rattle.stun_agent.specs.declared.state.deadlines.Deadline.{Deadline}
 use Rattle.stun_agent.specs.Transactions.{Transaction, Transactions, IsAscending, IsNamed, at, with, without, changed, slot_passed, after_slots}
-use Rattle.stun_agent.specs.declared.transaction.Change.{Change}
-use Rattle.stun_agent.specs.declared.transaction.Change.TheVariants.{Silence, Cancel, Configure}
+use Rattle.stun_agent.specs.declared.state.transaction.Change.{Change}
+use Rattle.stun_agent.specs.declared.state.transaction.Change.TheVariants.{Silence, Cancel, Configure}
 use Rattle.stun_agent.specs.code.Deadlines.{deadline_of, entries_at, AreIndexed, IsIndexOf, IsReplaced}
 use Rattle.stun_agent.specs.code.Transactions.{after_change, deadlines_around}
 use Rattle.stun_agent.proofs.Ascending.{IsAscending-insert, IsAscending-remove, IsAscending-map}

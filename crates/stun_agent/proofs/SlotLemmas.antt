@@ -6,8 +6,8 @@ use Rattle.std.specs.Map.{keys_of}
 use Rattle.std.specs.Ordering.{nat_cmp}
 use Rattle.std.specs.BTreeMap.{is_at}
 use Rattle.std.proofs.lemmas.Map.Keys.{sorted_head, sorted_tail}
-use Rattle.stun_base.specs.declared.transport.TransportType.{TransportType}
-use Rattle.stun_agent.specs.declared.deadlines.Deadline.{Deadline}
+use Rattle.stun_base.specs.declared.wire.transport.TransportType.{TransportType}
+use Rattle.stun_agent.specs.declared.state.deadlines.Deadline.{Deadline}
 use Rattle.stun_agent.specs.Transactions.{Transaction, Transactions, IsAscending, at, awaited, is_cancelled, has_slots, is_over, repeats, first_over}
 use Rattle.stun_agent.specs.code.Deadlines.{deadline_of, earliest, IsIndexOf}
 use Rattle.stun_agent.specs.code.Transactions.{id_and_repeats}

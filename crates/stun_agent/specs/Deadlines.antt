@@ -1,6 +1,6 @@
 -- The work of a poll: which deadlines it reads, and how they are counted.
 use Rattle.std.specs.Prelude.{ℕ, ◌≡◌, ◌<◌, ◌+◌, ◌*◌, Bool, ◌||◌, nat_le, count_by}
-use Rattle.stun_base.specs.declared.transport.TransportType.{TransportType}
+use Rattle.stun_base.specs.declared.wire.transport.TransportType.{TransportType}
 use Rattle.stun_agent.specs.Transactions.{Transaction, Transactions, awaited, is_cancelled}
 
 -- a transaction that is cancelled, or awaits at most this moment

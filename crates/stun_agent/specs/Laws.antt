@@ -4,7 +4,7 @@ use Rattle.std.specs.declared.net.socket_addr.SocketAddr.{SocketAddr}
 use Rattle.stun_base.specs.Header.{transaction_id_field}
 use Rattle.stun_base.specs.MessageType.{IsResponse, class_in}
 use Rattle.stun_base.specs.Moments.{moment_after}
-use Rattle.stun_base.specs.declared.transport.TransportType.TheVariants.{Udp, Tcp}
+use Rattle.stun_base.specs.declared.wire.transport.TransportType.TheVariants.{Udp, Tcp}
 use Rattle.stun_agent.specs.declared.agent.StunAgentPollRet.TheVariants.{WaitUntil}
 use Rattle.stun_agent.specs.Agent.{Agent, takes_message, after_message, poll_answer, after_poll, ended_by_poll, sent_by_poll, request_refusal, after_send_request}
 use Rattle.stun_agent.specs.Statistics.{LeavesOutstanding, IsNotFull}

@@ -6,13 +6,13 @@ use Rattle.std.specs.FinMap as fin
 use Rattle.std.specs.Str.{bytes_eq}
 use Rattle.std.specs.declared.result.Result.{Result}
 use Rattle.std.proofs.lemmas.Slice.Eq.{bytes_eq-Decides}
-use Rattle.stun_base.specs.declared.algorithm.IntegrityAlgorithm.{IntegrityAlgorithm}
+use Rattle.stun_base.specs.declared.keys.algorithm.IntegrityAlgorithm.{IntegrityAlgorithm}
 use Rattle.stun_auth.specs.declared.algorithm_set.AlgorithmSet.{AlgorithmSet}
 use Rattle.stun_auth.specs.declared.feature.Feature.{Feature}
-use Rattle.stun_auth.specs.declared.server_reason.Refusal.{Refusal}
-use Rattle.stun_auth.specs.declared.server_reason.Refusal.TheVariants as Refused
-use Rattle.stun_auth.specs.declared.server_reason.LongTermServerAuthErrorReason.TheVariants.{BadRequest}
-use Rattle.stun_auth.specs.declared.server_reason.LongTermServerValidation.TheVariants.{Validated}
+use Rattle.stun_auth.specs.declared.server.reason.Refusal.{Refusal}
+use Rattle.stun_auth.specs.declared.server.reason.Refusal.TheVariants as Refused
+use Rattle.stun_auth.specs.declared.server.reason.LongTermServerAuthErrorReason.TheVariants.{BadRequest}
+use Rattle.stun_auth.specs.declared.server.reason.LongTermServerValidation.TheVariants.{Validated}
 use Rattle.stun_auth.specs.Algorithms.{contains}
 use Rattle.stun_base.specs.MessageType.{is_response}
 use Rattle.stun_auth.specs.Reading.{Reading, verified_under}

@@ -8,7 +8,7 @@ use Rattle.std.specs.Map.Calls.{RetainsPairs}
 use Rattle.stun_auth.specs.declared.algorithm_set.AlgorithmSet.{AlgorithmSet}
 use Rattle.stun_auth.specs.Registered.{UserSecret}
 use Rattle.stun_auth.specs.code.Users.{HasKeys, secret_of}
-use Rattle.stun_auth.specs.declared.registry.User.{User}
+use Rattle.stun_auth.specs.declared.server.registry.User.{User}
 
 -- a name and what the user is known by
 abbrev pub pair_seen : {A B : Type 0} → String A × User B → List ℕ × UserSecret

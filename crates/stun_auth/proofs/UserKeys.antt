@@ -10,8 +10,8 @@ use Rattle.std.proofs.lemmas.Map.Text.{is_eq-slice_cmp}
 use Rattle.std.proofs.lemmas.Slice.Eq.{bytes_eq-Decides}
 use Rattle.stun_base.specs.Credentials.{NameAndPassword}
 use Rattle.stun_base.specs.Keys.{long_term_key}
-use Rattle.stun_base.specs.declared.algorithm.IntegrityAlgorithm.{IntegrityAlgorithm}
-use Rattle.stun_auth.specs.declared.stored_keys.StoredKeys.{StoredKeys}
+use Rattle.stun_base.specs.declared.keys.algorithm.IntegrityAlgorithm.{IntegrityAlgorithm}
+use Rattle.stun_auth.specs.declared.server.stored_keys.StoredKeys.{StoredKeys}
 use Rattle.stun_auth.specs.Algorithms.{contains}
 use Rattle.stun_auth.specs.Handed.{AreKeysOf, just, only_user}
 use Rattle.stun_auth.specs.Registered.{Registered, RegisteredUser, UserSecret, key_at, key_if, key_of, name_cmp, of_keys, of_password, user_by_keys, user_by_password, with_user, without_user}

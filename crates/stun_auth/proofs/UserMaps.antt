@@ -12,11 +12,11 @@ use Rattle.std.specs.Map.{lookup}
 use Rattle.std.proofs.lemmas.Map.Lookups.{exact_bytes}
 use Rattle.std.proofs.lemmas.Map.Text.{btree_map_updates_text, is_eq-slice_cmp}
 use Rattle.std.proofs.lemmas.Slice.Eq.{bytes_eq-Decides}
-use Rattle.stun_base.specs.declared.algorithm.IntegrityAlgorithm.{IntegrityAlgorithm}
+use Rattle.stun_base.specs.declared.keys.algorithm.IntegrityAlgorithm.{IntegrityAlgorithm}
 use Rattle.stun_auth.specs.declared.algorithm_set.AlgorithmSet.{AlgorithmSet}
 use Rattle.stun_auth.specs.Registered.{Registered, RegisteredUser, UserSecret, key_of, key_at}
 use Rattle.stun_auth.specs.code.Users.{key_in, HasKeys, AllHaveKeys, secret_of, secrets_seen}
-use Rattle.stun_auth.specs.declared.registry.User.{User}
+use Rattle.stun_auth.specs.declared.server.registry.User.{User}
 use Rattle.stun_auth.proofs.Maps.{get-seen, seen_inserted, seen_removed}
 
 pub get-secrets_seen : {A : Type 0} (m : BTreeMap (String A) (User A)) (name : List ℕ) → fin.get (secrets_seen m.entries) name ≡ option_map (λ u. secret_of u) (get_by_text m name)

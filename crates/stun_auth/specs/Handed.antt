@@ -7,11 +7,11 @@ use Rattle.std.specs.declared.net.socket_addr.SocketAddr.{SocketAddr}
 use Rattle.stun_base.specs.Credentials.{NameAndPassword}
 use Rattle.stun_base.specs.Keys.{long_term_key}
 use Rattle.stun_base.specs.MessageType.{is_response}
-use Rattle.stun_base.specs.declared.algorithm.IntegrityAlgorithm.{IntegrityAlgorithm}
+use Rattle.stun_base.specs.declared.keys.algorithm.IntegrityAlgorithm.{IntegrityAlgorithm}
 use Rattle.stun_auth.specs.declared.feature.Feature.{Feature}
-use Rattle.stun_auth.specs.declared.named_user.NamedUser.{NamedUser}
-use Rattle.stun_auth.specs.declared.named_user.NamedUser.TheVariants.{ByName, ByHash}
-use Rattle.stun_auth.specs.declared.stored_keys.StoredKeys.{StoredKeys}
+use Rattle.stun_auth.specs.declared.server.named_user.NamedUser.{NamedUser}
+use Rattle.stun_auth.specs.declared.server.named_user.NamedUser.TheVariants.{ByName, ByHash}
+use Rattle.stun_auth.specs.declared.server.stored_keys.StoredKeys.{StoredKeys}
 use Rattle.stun_auth.specs.Algorithms.{contains}
 use Rattle.stun_auth.specs.Feature.{is_possible}
 use Rattle.stun_auth.specs.Reading.{Reading}

@@ -1,5 +1,5 @@
 //! Laws over the definitions that the contracts of this crate cite.
-ghost use Rattle.std.specs.Prelude.{◌≡◌, ◌≢◌, ◌<◌, ◌≤◌, ◌^◌, ◌||◌, ℕ, ◌+◌, Bool, true, false, List, [], ◌∷◌, ◌++◌, length, Ok, Err, Option, Some, None, if◌then◌else◌, IsOk, IsTrue, IsUtf8, ◌↔◌, ◌⊎◌};
+ghost use Rattle.std.specs.Prelude.{◌≡◌, ◌≢◌, ◌<◌, ◌≤◌, ◌^◌, ◌||◌, ℕ, ◌+◌, Bool, true, false, List, [], ◌∷◌, ◌++◌, length, Ok, Err, Option, Some, None, if◌then◌else◌, IsOk, IsUtf8, ◌⊎◌};
 ghost use Rattle.std.specs.List.{AllByRecursion};
 ghost use Rattle.std.specs.Option.{IsSome, IsSomeAnd, is_some};
 ghost use Rattle.std.specs.FinMap as map;
@@ -7,9 +7,9 @@ ghost use Rattle.std.specs.declared.net.socket_addr.SocketAddr.{SocketAddr};
 ghost use Rattle.stun_base.specs.Credentials.{NameAndPassword};
 ghost use Rattle.stun_base.specs.Keys.{long_term_key};
 ghost use Rattle.stun_base.specs.MessageType.{class_of, class_in, is_error};
-ghost use Rattle.stun_base.specs.declared.algorithm.IntegrityAlgorithm.{IntegrityAlgorithm};
-ghost use Rattle.stun_base.specs.declared.algorithm.IntegrityAlgorithm.TheVariants.{Sha256};
-ghost use Rattle.stun_base.specs.declared.message_type.MessageClass.{MessageClass};
+ghost use Rattle.stun_base.specs.declared.keys.algorithm.IntegrityAlgorithm.{IntegrityAlgorithm};
+ghost use Rattle.stun_base.specs.declared.keys.algorithm.IntegrityAlgorithm.TheVariants.{Sha256};
+ghost use Rattle.stun_base.specs.declared.wire.message_type.MessageClass.{MessageClass};
 ghost use Rattle.stun_types.specs.ErrorCode.{CodeAndReason, IsError};
 ghost use Rattle.stun_types.specs.Grammar.{spelled};
 ghost use Rattle.stun_types.specs.Message.{LENGTH_LIMIT};
@@ -17,7 +17,7 @@ ghost use Rattle.stun_types.specs.Tail.{AgreeUpToIntegrity};
 ghost use Rattle.stun_types.specs.Writing.{IsOpen};
 ghost use Rattle.stun_auth.specs.declared.algorithm_set.AlgorithmSet.{AlgorithmSet};
 ghost use Rattle.stun_auth.specs.declared.feature.Feature.{Feature as TheFeature};
-ghost use Rattle.stun_auth.specs.declared.stored_keys.StoredKeys.{StoredKeys};
+ghost use Rattle.stun_auth.specs.declared.server.stored_keys.StoredKeys.{StoredKeys};
 ghost use Rattle.stun_auth.specs.Additions.{Addition, Page, added_all, growth};
 ghost use Rattle.stun_auth.specs.Algorithms.{contains};
 ghost use Rattle.stun_auth.specs.Client.{ClientSettings, ClientState};
@@ -38,16 +38,6 @@ ghost use Rattle.stun_auth.specs.ServerSigning.{after_signing, server_additions,
 ghost use Rattle.stun_auth.specs.ShortTerm.{Secret, short_term_answer};
 ghost use Rattle.stun_auth.specs.Signed.{Added, ClientMaySign, HasRoomFor, IsBuilt, IsSignable, IsSmall, IsText, IsUnsigned, IsWithinLimits, ReadsAs, ServerMaySign, added_by_client, added_by_server, additions_of, error_attribute};
 ghost use Rattle.stun_auth.specs.Validation.{ChangesNothing, ServerSeen, ValidatesAccepted, after_message, answer, draws, needs_nonce, sight, verdict_at};
-
-use crate::client_answer::{
-    LongTermClientAuthError, LongTermClientAuthErrorReason, LongTermClientValidation,
-};
-use crate::feature::Feature;
-use crate::nonce::NonceSecurityBits;
-use crate::server_reason::{
-    LongTermServerAuthError, LongTermServerAuthErrorReason, LongTermServerValidation,
-};
-use std::alloc::AllocError;
 
 /// What was added is what is read: after successful additions to an open message, its own attributes count as before and
 /// then the added ones, and the digest that was added last verifies under its key.
@@ -363,131 +353,4 @@ pub fn server_messages_are_read()
 {
     signed_messages_are_read();
     sides_add_by_attribute();
-}
-
-/// Where nothing else is said user names are sent as their hash where the peer can do it too.
-pub fn default_feature() -> Feature
-    ensures { result ≡ Feature.Auto }
-{
-    Feature::default()
-}
-
-/// Where nothing else is said no security bit is set.
-pub fn default_security_bits() -> NonceSecurityBits
-    ensures { result ≡ 0 ∷ 0 ∷ 0 ∷ [] }
-{
-    NonceSecurityBits::default()
-}
-
-/// Copies of a feature and of security bits are the same values.
-pub fn copied_parts(
-    feature: &Feature,
-    bits: &NonceSecurityBits,
-) -> Result<(Feature, NonceSecurityBits), AllocError>
-    ensures { result ≡ Ok (feature.now, bits.now) }
-{
-    Ok((feature.clone()?, bits.clone()?))
-}
-
-/// Copies of answers and of reasons are the same values.
-pub fn copied_answers(
-    server: &LongTermServerValidation,
-    client: &LongTermClientValidation,
-    server_reason: &LongTermServerAuthErrorReason,
-    client_reason: &LongTermClientAuthErrorReason,
-) -> Result<
-    (
-        LongTermServerValidation,
-        LongTermClientValidation,
-        LongTermServerAuthErrorReason,
-        LongTermClientAuthErrorReason,
-    ),
-    AllocError,
->
-    ensures { result ≡ Ok (server.now, client.now, server_reason.now, client_reason.now) }
-{
-    Ok((
-        server.clone()?,
-        client.clone()?,
-        server_reason.clone()?,
-        client_reason.clone()?,
-    ))
-}
-
-/// Copies of refusals have the same reason.
-pub fn copied_refusals(
-    server: &LongTermServerAuthError,
-    client: &LongTermClientAuthError,
-) -> Result<(LongTermServerAuthError, LongTermClientAuthError), AllocError>
-    ensures { result ≡ Ok (server.now, client.now) }
-{
-    Ok((server.clone()?, client.clone()?))
-}
-
-/// Features are equal as values.
-pub fn is_same_feature(one: Feature, other: Feature) -> bool
-    ensures { IsTrue result ↔ (one ≡ other) }
-{
-    one == other
-}
-
-/// Security bits are equal as bytes.
-pub fn are_same_security_bits(one: NonceSecurityBits, other: NonceSecurityBits) -> bool
-    ensures { IsTrue result ↔ (one ≡ other) }
-{
-    one == other
-}
-
-/// A server's validations are equal as values.
-pub fn is_same_server_validation(
-    one: LongTermServerValidation,
-    other: LongTermServerValidation,
-) -> bool
-    ensures { IsTrue result ↔ (one ≡ other) }
-{
-    one == other
-}
-
-/// A client's validations are equal as values.
-pub fn is_same_client_validation(
-    one: LongTermClientValidation,
-    other: LongTermClientValidation,
-) -> bool
-    ensures { IsTrue result ↔ (one ≡ other) }
-{
-    one == other
-}
-
-/// A server's reasons are equal as values.
-pub fn is_same_server_reason(
-    one: LongTermServerAuthErrorReason,
-    other: LongTermServerAuthErrorReason,
-) -> bool
-    ensures { IsTrue result ↔ (one ≡ other) }
-{
-    one == other
-}
-
-/// A client's reasons are equal as values.
-pub fn is_same_client_reason(
-    one: LongTermClientAuthErrorReason,
-    other: LongTermClientAuthErrorReason,
-) -> bool
-    ensures { IsTrue result ↔ (one ≡ other) }
-{
-    one == other
-}
-
-/// A server's refusals are equal where their reasons are.
-pub fn is_same_server_refusal(one: LongTermServerAuthError, other: LongTermServerAuthError) -> bool
-    ensures { IsTrue result ↔ (one ≡ other) }
-{
-    one == other
-}
-
-/// A client's refusals are equal where their reasons are.
-pub fn is_same_client_refusal(one: LongTermClientAuthError, other: LongTermClientAuthError) -> bool
-    ensures { IsTrue result ↔ (one ≡ other) }
-{
-    one == other
 }

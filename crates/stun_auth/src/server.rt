@@ -17,8 +17,8 @@ ghost use Rattle.stun_auth.specs.Validation.{new_server};
 
 use crate::algorithm_set::AlgorithmSet;
 use crate::feature::Feature;
-use crate::places::Places;
-use crate::registry::Registry;
+use crate::server::places::Places;
+use crate::server::registry::Registry;
 use std::alloc::{AllocError, Allocator, Global};
 use std::fmt;
 use std::marker::Model;
@@ -29,8 +29,17 @@ use stun_base::credentials::LongTermCredentials;
 use stun_base::instant::Instant;
 
 mod handed;
+pub(crate) mod name_index;
+pub(crate) mod named_user;
+pub(crate) mod places;
+pub(crate) mod reason;
+pub(crate) mod registry;
 mod signing;
+pub(crate) mod stored_keys;
+pub(crate) mod user;
+pub(crate) mod user_secret;
 mod validation;
+pub(crate) mod verdict;
 
 /// The seconds that a nonce may last at the least.
 const MINIMUM_NONCE_EXPIRY_SECONDS: u64 = 30;

@@ -4,8 +4,8 @@
 use Rattle.std.specs.Prelude.{◌≤◌, ◌^◌, ◌%◌, ℕ, Bool, IsTrue, List, length, drop}
 use Rattle.std.specs.Prelude.{Option, Some, None, nat_lt, ◌&&◌, ◌==◌, if◌then◌else◌}
 use Rattle.byteorder.specs.Endian.{big_number}
-use Rattle.stun_base.specs.declared.error.StunParseError.{StunParseError}
-use Rattle.stun_base.specs.declared.error.StunParseError.TheVariants.{Truncated, NotStun}
+use Rattle.stun_base.specs.declared.wire.error.StunParseError.{StunParseError}
+use Rattle.stun_base.specs.declared.wire.error.StunParseError.TheVariants.{Truncated, NotStun}
 
 -- the number of bytes of a header (section 5)
 abbrev pub HEADER_LENGTH : ℕ

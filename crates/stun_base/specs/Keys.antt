@@ -5,8 +5,8 @@ use Rattle.std.specs.Str.{is_utf8}
 use Rattle.md5.specs.Md5.{md5}
 use Rattle.sha2.specs.Sha256.{sha256}
 use Rattle.stun_base.specs.Credentials.{UserAtRealm}
-use Rattle.stun_base.specs.declared.algorithm.IntegrityAlgorithm.{IntegrityAlgorithm}
-use Rattle.stun_base.specs.declared.algorithm.IntegrityAlgorithm.TheVariants.{Sha1, Sha256}
+use Rattle.stun_base.specs.declared.keys.algorithm.IntegrityAlgorithm.{IntegrityAlgorithm}
+use Rattle.stun_base.specs.declared.keys.algorithm.IntegrityAlgorithm.TheVariants.{Sha1, Sha256}
 
 -- two texts with a colon between them (section 9.2.2)
 abbrev pub with_colon : List ℕ → List ℕ → List ℕ

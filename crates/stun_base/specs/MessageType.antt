@@ -2,10 +2,10 @@
 -- C0 M3..M0, of method M and class C.
 use Rattle.std.specs.Prelude.{ℕ, Bool, true, false, IsTrue, ◌+◌, ◌*◌}
 use Rattle.std.specs.Prelude.{◌/◌, ◌%◌, ◌==◌, if◌then◌else◌, List}
-use Rattle.stun_base.specs.declared.message_type.MessageClass.{MessageClass}
+use Rattle.stun_base.specs.declared.wire.message_type.MessageClass.{MessageClass}
 use Rattle.stun_base.specs.Header.{type_field}
-use Rattle.stun_base.specs.declared.message_type.MessageClass.TheVariants.{Request, Indication}
-use Rattle.stun_base.specs.declared.message_type.MessageClass.TheVariants.{Success, Error}
+use Rattle.stun_base.specs.declared.wire.message_type.MessageClass.TheVariants.{Request, Indication}
+use Rattle.stun_base.specs.declared.wire.message_type.MessageClass.TheVariants.{Success, Error}
 
 -- the two bits C1 C0 of a class
 abbrev pub class_number : MessageClass → ℕ

@@ -3,8 +3,8 @@ use Rattle.std.proofs.Common.{◌≡◌, ◌∙◌, ◌≤◌, ◌+◌, ℕ, Boo
 use Rattle.std.specs.Prelude.{nat_lt, not, ◌||◌, if◌then◌else◌, IfSome, IfOk, MatchOption, Option, Some, None, Result, Ok, Err}
 use Rattle.std.proofs.lemmas.List.{drop-drop, length-take, take_min}
 use Rattle.stun_base.specs.Header.{HEADER_LENGTH}
-use Rattle.stun_base.specs.declared.error.StunParseError.{StunParseError}
-use Rattle.stun_base.specs.declared.error.StunParseError.TheVariants.{MissingAttribute}
+use Rattle.stun_base.specs.declared.wire.error.StunParseError.{StunParseError}
+use Rattle.stun_base.specs.declared.wire.error.StunParseError.TheVariants.{MissingAttribute}
 use Rattle.stun_types.specs.Attribute.{TypedValue, has_attribute, value_length_field}
 use Rattle.stun_types.specs.Reading.{attribute_answer}
 use Rattle.stun_types.specs.Integrity.{first_of}

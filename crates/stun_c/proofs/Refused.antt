@@ -5,8 +5,8 @@ use Rattle.std.proofs.lemmas.List.{append-nil, drop-drop, drop_at, take_at}
 use Rattle.byteorder.specs.Endian.{big_bytes}
 use Rattle.stun_base.specs.Header.{MAGIC_COOKIE, transaction_id_field, type_field}
 use Rattle.stun_base.specs.MessageType.{method_of, type_number}
-use Rattle.stun_base.specs.declared.attribute_type.AttributeType.{AttributeType}
-use Rattle.stun_base.specs.declared.message_type.MessageClass.TheVariants.{Error}
+use Rattle.stun_base.specs.declared.wire.attribute_type.AttributeType.{AttributeType}
+use Rattle.stun_base.specs.declared.wire.message_type.MessageClass.TheVariants.{Error}
 use Rattle.stun_types.specs.Attribute.{attribute_length}
 use Rattle.stun_types.specs.Grammar.{spelled, spelled_attribute}
 use Rattle.stun_types.specs.Message.{with_length}

@@ -3,10 +3,10 @@ use Rattle.std.specs.Prelude.{ℕ, ℤ, pos, ◌+◌, ◌-◌, List, [], ◌++�
 use Rattle.std.specs.Option.{option_or, option_map}
 use Rattle.stun_base.specs.Attributes.{ERROR_CODE, FINGERPRINT}
 use Rattle.stun_base.specs.MessageType.{class_in, class_number}
-use Rattle.stun_base.specs.declared.attribute_type.AttributeType.{AttributeType}
-use Rattle.stun_base.specs.declared.error.StunWriteError.{StunWriteError}
-use Rattle.stun_base.specs.declared.error.StunWriteError.TheVariants.{NotAllowed as WriteNotAllowed, MessageIntegrityExists, AttributeExists as WriteAttributeExists, IntegrityFailed as WriteIntegrityFailed, OutOfMemory, TooLarge as WriteTooLarge, TooSmall}
-use Rattle.stun_base.specs.declared.message_type.MessageClass.TheVariants.{Error}
+use Rattle.stun_base.specs.declared.wire.attribute_type.AttributeType.{AttributeType}
+use Rattle.stun_base.specs.declared.wire.error.StunWriteError.{StunWriteError}
+use Rattle.stun_base.specs.declared.wire.error.StunWriteError.TheVariants.{NotAllowed as WriteNotAllowed, MessageIntegrityExists, AttributeExists as WriteAttributeExists, IntegrityFailed as WriteIntegrityFailed, OutOfMemory, TooLarge as WriteTooLarge, TooSmall}
+use Rattle.stun_base.specs.declared.wire.message_type.MessageClass.TheVariants.{Error}
 use Rattle.stun_types.specs.Attribute.{TypedValue}
 use Rattle.stun_types.specs.ErrorCode.{error_value}
 use Rattle.stun_types.specs.Message.{refusal}

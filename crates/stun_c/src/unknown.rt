@@ -2,7 +2,7 @@
 
 ghost use Rattle.std.specs.Prelude.{◌≡◌, ◌≤◌, ◌<◌, ◌+◌, ◌*◌, ◌++◌, ◌^◌, length, pos, take, drop, set, IfOk, IfErr, OnOk, Some, None, Ok, Err};
 ghost use Rattle.byteorder.specs.Endian.{big_bytes};
-ghost use Rattle.stun_base.specs.declared.message_type.MessageClass.{MessageClass};
+ghost use Rattle.stun_base.specs.declared.wire.message_type.MessageClass.{MessageClass};
 ghost use Rattle.stun_types.specs.Attribute.{attribute_length};
 ghost use Rattle.stun_types.specs.Grammar.{spelled_attribute};
 ghost use Rattle.stun_types.specs.Writing.{empty_answer, with_attribute};

@@ -4,7 +4,7 @@ use Rattle.std.specs.Prelude.{◌≡◌, ◌≢◌, ℕ, List, [], ◌∷◌, �
 use Rattle.std.specs.Io.KnownBytes.{Appends}
 use Rattle.hex.specs.Hex.{encode_lower}
 use Rattle.stun_base.specs.Keys.{short_term_key, long_term_key, userhash}
-use Rattle.stun_base.specs.declared.algorithm.IntegrityAlgorithm.{IntegrityAlgorithm}
+use Rattle.stun_base.specs.declared.keys.algorithm.IntegrityAlgorithm.{IntegrityAlgorithm}
 use Rattle.stun_inspect.specs.declared.command.Command.{Command}
 use Rattle.stun_inspect.specs.declared.command.Command.TheVariants.{Help, Version, Decode, Verify, Key, Userhash, Nonce}
 use Rattle.stun_inspect.specs.declared.command.User.{User}

@@ -4,7 +4,7 @@
 -- step first, and begins with the sides as they stand there.
 use Rattle.std.specs.Prelude.{◌≡◌, ◌≤◌, ◌⊎◌, ℕ, List, true, IsOk, length, take}
 use Rattle.std.specs.declared.result.Result.TheVariants.{Ok, Err}
-use Rattle.stun_auth.specs.declared.server_reason.LongTermServerAuthErrorReason.TheVariants.{Unauthorized}
+use Rattle.stun_auth.specs.declared.server.reason.LongTermServerAuthErrorReason.TheVariants.{Unauthorized}
 use Rattle.stun_auth.specs.Additions.{Page}
 use Rattle.stun_auth.specs.Client.{ClientState}
 use Rattle.stun_auth.specs.ClientStep.{IsResend, UNAUTHORIZED, client_step}

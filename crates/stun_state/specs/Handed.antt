@@ -2,12 +2,12 @@
 -- whom its caller hands in (RFC 8489, section 9.2.4).
 use Rattle.std.specs.Prelude.{ℕ, ℤ, ◌==◌, if◌then◌else◌, List, length, Option, Some, None, Result, Ok, Err}
 use Rattle.std.specs.declared.net.socket_addr.SocketAddr.{SocketAddr}
-use Rattle.stun_base.specs.declared.algorithm.IntegrityAlgorithm.{IntegrityAlgorithm}
+use Rattle.stun_base.specs.declared.keys.algorithm.IntegrityAlgorithm.{IntegrityAlgorithm}
 use Rattle.stun_types.specs.Message.{refusal}
 use Rattle.stun_auth.specs.Handed.{Named, by_hash, by_name, judged_by, just, with_users}
 use Rattle.stun_auth.specs.Reading.{reading_of}
 use Rattle.stun_auth.specs.Registered.{Registered, RegisteredUser, user_by_keys, user_by_password}
-use Rattle.stun_auth.specs.declared.stored_keys.StoredKeys.{StoredKeys}
+use Rattle.stun_auth.specs.declared.server.stored_keys.StoredKeys.{StoredKeys}
 use Rattle.stun_auth.specs.Validation.{ServerSeen, after_message, answer, sight}
 use Rattle.stun_state.specs.Addresses.{socket_address}
 use Rattle.stun_state.specs.Answers.{after_address, at_address, kept_if_refused, message_refusal, text_refusal, texts_refusal, unless_refused}

@@ -6,7 +6,7 @@ use Rattle.std.specs.Prelude.{Some}
 use Rattle.std.proofs.lemmas.List.{drop-append-le}
 use Rattle.byteorder.specs.Numbers.{big_from-append}
 use Rattle.stun_base.specs.Header.{transaction_id_field, type_field}
-use Rattle.stun_base.specs.declared.algorithm.IntegrityAlgorithm.{IntegrityAlgorithm}
+use Rattle.stun_base.specs.declared.keys.algorithm.IntegrityAlgorithm.{IntegrityAlgorithm}
 use Rattle.stun_types.specs.Integrity.{deciding, verified_by}
 use Rattle.stun_types.specs.Message.{with_length}
 use Rattle.stun_types.specs.Tail.{AgreeUpToIntegrity, besides_fingerprint}

@@ -11,8 +11,8 @@ use Rattle.std.proofs.lemmas.List.Folds.{find-append}
 use Rattle.stun_base.specs.Algorithm.{digest, digest_length}
 use Rattle.stun_base.specs.code.Algorithm.{length-digest}
 use Rattle.stun_base.specs.Attributes.{MESSAGE_INTEGRITY, MESSAGE_INTEGRITY_SHA256}
-use Rattle.stun_base.specs.declared.algorithm.IntegrityAlgorithm.{IntegrityAlgorithm}
-use Rattle.stun_base.specs.declared.algorithm.IntegrityAlgorithm.TheVariants.{Sha1, Sha256}
+use Rattle.stun_base.specs.declared.keys.algorithm.IntegrityAlgorithm.{IntegrityAlgorithm}
+use Rattle.stun_base.specs.declared.keys.algorithm.IntegrityAlgorithm.TheVariants.{Sha1, Sha256}
 use Rattle.stun_types.specs.Grammar.{spelled_attribute}
 use Rattle.stun_types.specs.Integrity.{integrity_algorithm, covered, deciding}
 use Rattle.stun_types.specs.Integrity.{first_of, is_digest, verified_at, verified_by}

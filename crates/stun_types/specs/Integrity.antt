@@ -3,12 +3,12 @@ use Rattle.std.specs.Prelude.{ℕ, ◌+◌, ◌-◌, ◌%◌, Bool, List, length
 use Rattle.std.specs.Prelude.{nat_le, ◌==◌, ◌&&◌, ◌||◌, Option, Some, None, if◌then◌else◌}
 use Rattle.std.specs.Option.{option_or, option_and_then}
 use Rattle.std.specs.Cmp.Lexicographic.{pointwise}
-use Rattle.stun_base.specs.declared.error.StunParseError.TheVariants.{MissingAttribute}
-use Rattle.stun_base.specs.declared.error.StunParseError.TheVariants.{InvalidAttributeData}
-use Rattle.stun_base.specs.declared.error.ValidateError.{ValidateError}
-use Rattle.stun_base.specs.declared.error.ValidateError.TheVariants.{Parse, IntegrityFailed}
-use Rattle.stun_base.specs.declared.algorithm.IntegrityAlgorithm.{IntegrityAlgorithm}
-use Rattle.stun_base.specs.declared.algorithm.IntegrityAlgorithm.TheVariants.{Sha1, Sha256}
+use Rattle.stun_base.specs.declared.wire.error.StunParseError.TheVariants.{MissingAttribute}
+use Rattle.stun_base.specs.declared.wire.error.StunParseError.TheVariants.{InvalidAttributeData}
+use Rattle.stun_base.specs.declared.wire.error.ValidateError.{ValidateError}
+use Rattle.stun_base.specs.declared.wire.error.ValidateError.TheVariants.{Parse, IntegrityFailed}
+use Rattle.stun_base.specs.declared.keys.algorithm.IntegrityAlgorithm.{IntegrityAlgorithm}
+use Rattle.stun_base.specs.declared.keys.algorithm.IntegrityAlgorithm.TheVariants.{Sha1, Sha256}
 use Rattle.stun_base.specs.Attributes.{MESSAGE_INTEGRITY, MESSAGE_INTEGRITY_SHA256}
 use Rattle.stun_base.specs.Header.{HEADER_LENGTH}
 use Rattle.stun_base.specs.Algorithm.{digest, digest_length}

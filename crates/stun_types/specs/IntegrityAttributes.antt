@@ -4,7 +4,7 @@ use Rattle.std.specs.Prelude.{Some, None, ◌==◌, ◌&&◌, if◌then◌else�
 use Rattle.std.proofs.Common.{rules}
 use Rattle.stun_base.specs.Attributes.{MESSAGE_INTEGRITY, MESSAGE_INTEGRITY_SHA256}
 use Rattle.stun_base.specs.Algorithm.{digest_length}
-use Rattle.stun_base.specs.declared.algorithm.IntegrityAlgorithm.TheVariants.{Sha1, Sha256}
+use Rattle.stun_base.specs.declared.keys.algorithm.IntegrityAlgorithm.TheVariants.{Sha1, Sha256}
 use Rattle.stun_types.specs.Attribute.{TypedValue}
 use Rattle.stun_types.specs.Integrity.{LEAST_SHA256_LENGTH, is_well_formed}
 

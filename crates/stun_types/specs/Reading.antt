@@ -1,7 +1,7 @@
 -- The results of reading attributes.
 use Rattle.std.specs.Prelude.{Option, Some, None, Result, Ok, Err}
-use Rattle.stun_base.specs.declared.error.StunParseError.{StunParseError}
-use Rattle.stun_base.specs.declared.error.StunParseError.TheVariants.{InvalidAttributeData}
+use Rattle.stun_base.specs.declared.wire.error.StunParseError.{StunParseError}
+use Rattle.stun_base.specs.declared.wire.error.StunParseError.TheVariants.{InvalidAttributeData}
 
 -- the result of reading: the attribute, or that it is malformed
 abbrev pub attribute_answer : {A : Type 0} → Option A → Result A StunParseError

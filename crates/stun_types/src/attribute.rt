@@ -9,14 +9,15 @@ ghost use Rattle.stun_types.specs.Attribute.{has_attribute, first_attribute};
 ghost use Rattle.stun_types.specs.Grammar.{spelled_attribute};
 ghost use Rattle.stun_types.specs.Limits.{max_length};
 
-use crate::append::append_attribute;
 use crate::write::MessageWrite;
+use crate::write::append::append_attribute;
 use byteorder::{BigEndian, ByteOrder};
 use std::alloc::AllocError;
 use std::marker::Model;
 pub use stun_base::attribute_type::AttributeType;
 use stun_base::error::StunParseError;
 
+pub mod derives;
 mod error_code;
 pub mod laws;
 mod message_integrity;

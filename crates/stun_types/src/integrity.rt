@@ -14,9 +14,11 @@ ghost use Rattle.stun_types.specs.Integrity.{first_of as first_member_of, integr
 ghost use Rattle.stun_types.specs.Integrity.{deciding, is_digest, is_integrity, is_well_formed};
 ghost use Rattle.stun_types.specs.Integrity.{verified_algorithm, verified_by, integrity_refusal};
 
+pub(crate) mod digest_key;
+
 use crate::attribute::{ATTRIBUTE_HEADER_LENGTH, AttributeType, RawAttribute};
+use crate::message::walk::{deciding_place, first_place};
 use crate::message::{Message, StunParseError, ValidateError};
-use crate::walk::{deciding_place, first_place};
 use std::alloc::Allocator;
 use stun_base::algorithm::IntegrityAlgorithm;
 use stun_base::compare::is_same_text;

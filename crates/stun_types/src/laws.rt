@@ -2,8 +2,7 @@
 //! constants.
 //!
 //! A law is a function whose contract is the law. It does nothing, or makes one call.
-
-ghost use Rattle.std.specs.Prelude.{◌≡◌, ◌↔◌, IsTrue, ℕ, false, Some, ◌≤◌, ◌<◌, ◌^◌};
+ghost use Rattle.std.specs.Prelude.{◌≡◌, ℕ, false, Some, ◌≤◌, ◌<◌, ◌^◌};
 ghost use Rattle.std.specs.Prelude.{List, [], ◌∷◌, ◌++◌, length, take, slice_index};
 ghost use Rattle.stun_base.specs.Algorithm.{digest_length};
 ghost use Rattle.stun_base.specs.Attributes.{FINGERPRINT, MESSAGE_INTEGRITY};
@@ -22,8 +21,6 @@ ghost use Rattle.stun_types.specs.Writing.{HasOneMore, IsAddable, IsOpen};
 ghost use Rattle.stun_types.specs.Writing.{integrity_attribute, is_set_apart};
 ghost use Rattle.stun_types.specs.Writing.{length_with, with_attribute, with_integrity};
 
-use crate::limits::{LENGTH_LIMIT, MAX_LENGTH, TEXT_LIMIT, USERNAME_LIMIT};
-use crate::message::Message;
 use stun_base::algorithm::IntegrityAlgorithm;
 
 /// A message is a header and its attributes, spelled one after the other. No others are found in
@@ -105,17 +102,3 @@ pub fn what_follows_integrity_is_hidden()
     ensures appended { (bytes others : List ℕ) (m : Member)
         → IsContinuedAnew bytes others m → AgreeUpToIntegrity bytes others }
 {}
-
-/// Messages are equal if and only if their bytes are.
-pub fn is_same_message(one: &Message<'_>, other: &Message<'_>) -> bool
-    ensures { IsTrue result ↔ (one.now ≡ other.now) }
-{
-    one == other
-}
-
-/// The limits in bytes: of texts, of a user name, of the message length, and of a message.
-pub fn limits() -> [usize; 4]
-    ensures { result ≡ 763 ∷ 513 ∷ 65532 ∷ 65552 ∷ [] }
-{
-    [TEXT_LIMIT, USERNAME_LIMIT, MAX_LENGTH, LENGTH_LIMIT]
-}

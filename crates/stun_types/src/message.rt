@@ -16,10 +16,13 @@ ghost use Rattle.stun_types.specs.Visible.{visible};
 ghost use Rattle.stun_types.specs.Walk.{walk};
 ghost use Rattle.stun_types.specs.Writing.{IsOpen, empty_message, empty_answer};
 
+pub(crate) mod attributes_iter;
+pub(crate) mod walk;
+
 use crate::attribute::{AttributeFromRaw, AttributeStaticType};
-pub use crate::attributes_iter::MessageAttributesIter;
 use crate::integrity::first_of;
-use crate::walk::kind_at;
+pub use crate::message::attributes_iter::MessageAttributesIter;
+use crate::message::walk::kind_at;
 use crate::write::MessageWrite;
 pub use crate::write::{MessageWriteMutSlice, MessageWriteVec};
 use std::alloc::AllocError;

@@ -8,6 +8,8 @@ ghost use Rattle.stun_types.specs.Message.{with_length};
 use stun_base::data::OwnedBytes;
 use stun_base::error::StunWriteError;
 
+pub(crate) mod append;
+pub(crate) mod ext;
 mod mut_slice;
 mod vec;
 

@@ -1,10 +1,10 @@
 -- Deadlines in a tree: which it holds, in which order, and the least id of those that have come.
 use Rattle.std.specs.Prelude.{ℕ, ◌≡◌, ◌+◌, ◌-◌, ◌*◌, ◌/◌, ◌^◌, ◌<◌, ◌≤◌, ◌⊎◌, max, Bool, true, false, not, ◌&&◌, ◌==◌, nat_le, if◌then◌else◌, List, [], ◌∷◌, ◌++◌, Option, Some, None, MatchOption, map, filter, fold, IsPermutation}
 use Rattle.std.specs.List.{AllByRecursion, IsDistinct}
-use Rattle.stun_agent.specs.declared.deadlines.Deadline.{Deadline}
-use Rattle.stun_agent.specs.declared.deadline_tree.Link.{Link}
-use Rattle.stun_agent.specs.declared.deadline_tree.Link.TheVariants.{Empty, Held'}
-use Rattle.stun_agent.specs.declared.deadline_tree.Node.{Node}
+use Rattle.stun_agent.specs.declared.state.deadlines.Deadline.{Deadline}
+use Rattle.stun_agent.specs.declared.state.deadline_tree.Link.{Link}
+use Rattle.stun_agent.specs.declared.state.deadline_tree.Link.TheVariants.{Empty, Held'}
+use Rattle.stun_agent.specs.declared.state.deadline_tree.Node.{Node}
 use Rattle.stun_agent.specs.Transactions.{sooner}
 use Rattle.stun_agent.specs.code.Deadlines.{entries_at, is_passed}
 

@@ -1,10 +1,10 @@
 -- What the map of outstanding requests holds, and how one of them is changed.
 use Rattle.std.specs.Prelude.{ℕ, Bool, List, Option, Some, None, if◌then◌else◌, length}
 use Rattle.std.specs.declared.net.socket_addr.SocketAddr.{SocketAddr}
-use Rattle.stun_base.specs.declared.transport.TransportType.{TransportType}
-use Rattle.stun_agent.specs.declared.deadlines.Deadline.{Deadline}
-use Rattle.stun_agent.specs.declared.transaction.Change.{Change}
-use Rattle.stun_agent.specs.declared.transaction.Change.TheVariants.{Silence, Cancel, Configure}
+use Rattle.stun_base.specs.declared.wire.transport.TransportType.{TransportType}
+use Rattle.stun_agent.specs.declared.state.deadlines.Deadline.{Deadline}
+use Rattle.stun_agent.specs.declared.state.transaction.Change.{Change}
+use Rattle.stun_agent.specs.declared.state.transaction.Change.TheVariants.{Silence, Cancel, Configure}
 use Rattle.stun_agent.specs.Timing.{settings_of}
 use Rattle.stun_agent.specs.Transactions.{Transaction, Transactions, repeats, silenced, cancelled, configured}
 use Rattle.stun_agent.specs.code.Deadlines.{deadline_of}

@@ -1,7 +1,7 @@
 -- What a user is known by, as it is kept.
 use Rattle.std.specs.String.{string_bytes}
-use Rattle.stun_auth.specs.declared.user_secret.UserSecret.{UserSecret as KeptSecret}
-use Rattle.stun_auth.specs.declared.user_secret.UserSecret.TheVariants.{Password, Keys}
+use Rattle.stun_auth.specs.declared.server.user_secret.UserSecret.{UserSecret as KeptSecret}
+use Rattle.stun_auth.specs.declared.server.user_secret.UserSecret.TheVariants.{Password, Keys}
 use Rattle.stun_auth.specs.Registered.{UserSecret, of_keys, of_password}
 
 abbrev pub secret_seen : {A : Type 0} → KeptSecret A → UserSecret

@@ -25,13 +25,13 @@ ghost use Rattle.stun_auth.specs.Validation.{ChangesNothing, ValidatesAccepted, 
 ghost use Rattle.stun_auth.specs.code.ReadingSeen.{reading_seen};
 
 use crate::feature::Feature;
-use crate::named_user::NamedUser;
-use crate::reading::Reading;
+use crate::message::reading::Reading;
 use crate::server::LongTermServerAuth;
-use crate::server_reason::{LongTermServerAuthError, LongTermServerValidation};
-use crate::server_user::LongTermServerUser;
-use crate::stored_keys::StoredKeys;
-use crate::user_secret::UserSecret;
+use crate::server::named_user::NamedUser;
+use crate::server::reason::{LongTermServerAuthError, LongTermServerValidation};
+use crate::server::stored_keys::StoredKeys;
+use crate::server::user::LongTermServerUser;
+use crate::server::user_secret::UserSecret;
 use rand_core::Rng;
 use std::alloc::{AllocError, Allocator};
 use std::mem;

@@ -15,16 +15,16 @@ ghost use Rattle.stun_auth.specs.code.Judging.{ChangesNoPlace, IsJudged, answere
 ghost use Rattle.stun_auth.specs.code.ReadingSeen.{reading_seen};
 
 use crate::algorithm_set::AlgorithmSet;
-use crate::nonce::make_nonce;
-use crate::places::{Client, Place};
-use crate::reading::Reading;
+use crate::message::nonce::make_nonce;
+use crate::message::reading::Reading;
 use crate::server::LongTermServerAuth;
-use crate::server_reason::{
+use crate::server::places::{Client, Place};
+use crate::server::reason::{
     LongTermServerAuthError, LongTermServerAuthErrorReason, LongTermServerValidation, Refusal,
     refused,
 };
+use crate::server::verdict::{Accepted, verdict};
 use crate::short_text::ShortText;
-use crate::verdict::{Accepted, verdict};
 use rand_core::Rng;
 use std::alloc::{AllocError, Allocator};
 use std::net::SocketAddr;

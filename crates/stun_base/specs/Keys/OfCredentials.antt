@@ -1,12 +1,12 @@
 -- The keys of credentials of either kind (RFC 8489, section 9).
 use Rattle.std.specs.Prelude.{ℕ, List, codes}
 use Rattle.stun_base.specs.Keys.{short_term_key, long_term_key_of}
-use Rattle.stun_base.specs.declared.algorithm.IntegrityAlgorithm.{IntegrityAlgorithm}
-use Rattle.stun_base.specs.declared.credentials.MessageIntegrityCredentials.{
+use Rattle.stun_base.specs.declared.keys.algorithm.IntegrityAlgorithm.{IntegrityAlgorithm}
+use Rattle.stun_base.specs.declared.keys.credentials.MessageIntegrityCredentials.{
   MessageIntegrityCredentials,
 }
-use Rattle.stun_base.specs.declared.credentials.MessageIntegrityCredentials.TheVariants.{ShortTerm}
-use Rattle.stun_base.specs.declared.credentials.MessageIntegrityCredentials.TheVariants.{LongTerm}
+use Rattle.stun_base.specs.declared.keys.credentials.MessageIntegrityCredentials.TheVariants.{ShortTerm}
+use Rattle.stun_base.specs.declared.keys.credentials.MessageIntegrityCredentials.TheVariants.{LongTerm}
 
 -- the key for each algorithm: the password's bytes (section 9.1.1), or the long-term key (section
 -- 9.2.2)

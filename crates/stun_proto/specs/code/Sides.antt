@@ -2,7 +2,7 @@
 use Rattle.std.specs.Prelude.{◌≡◌, ◌≢◌, IfSome}
 use Rattle.std.specs.declared.result.Result.{Result}
 use Rattle.std.specs.declared.result.Result.TheVariants.{Err}
-use Rattle.stun_base.specs.declared.error.StunWriteError.TheVariants.{OutOfMemory}
+use Rattle.stun_base.specs.declared.wire.error.StunWriteError.TheVariants.{OutOfMemory}
 use Rattle.stun_auth.specs.Client.{ClientState}
 use Rattle.stun_auth.specs.Validation.{ServerSeen}
 use Rattle.stun_proto.specs.Negotiating.{met_by}

@@ -10,13 +10,13 @@ ghost use Rattle.stun_types.specs.ErrorCode.{error_of, error_refusal, error_valu
 ghost use Rattle.stun_types.specs.Limits.{TEXT_LIMIT};
 ghost use Rattle.stun_types.specs.ErrorCodeLaws.{error_of-written};
 
-use crate::append::{append_header, append_padding};
 use crate::attribute::text::read_short_text;
 use crate::attribute::{
     Attribute, AttributeFromRaw, AttributeStaticType, AttributeType, RawAttribute,
 };
 use crate::limits::TEXT_LIMIT;
 use crate::write::MessageWrite;
+use crate::write::append::{append_header, append_padding};
 use std::alloc::AllocError;
 use std::marker::Model;
 use stun_base::error::{StunParseError, StunWriteError};

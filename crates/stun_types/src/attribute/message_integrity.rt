@@ -6,17 +6,17 @@ ghost use Rattle.std.specs.Prelude.{◌≡◌, length, ⊤};
 ghost use Rattle.std.specs.Cmp.{partial_equiv_from_equiv};
 ghost use Rattle.stun_base.specs.Credentials.{same_text, same_text_equivalence};
 ghost use Rattle.stun_base.specs.Algorithm.{digest_length};
-ghost use Rattle.stun_base.specs.declared.algorithm.IntegrityAlgorithm.TheVariants.{Sha1};
+ghost use Rattle.stun_base.specs.declared.keys.algorithm.IntegrityAlgorithm.TheVariants.{Sha1};
 ghost use Rattle.stun_base.specs.Attributes.{MESSAGE_INTEGRITY, MESSAGE_INTEGRITY_SHA256};
 ghost use Rattle.stun_types.specs.IntegrityAttributes.{IsSha256Digest, digest_of};
 ghost use Rattle.stun_types.specs.IntegrityAttributes.{digest_of-written, digest_of-written_sha256};
 
-use crate::append::append_attribute;
 use crate::attribute::{
     Attribute, AttributeFromRaw, AttributeStaticType, AttributeType, RawAttribute,
 };
 use crate::integrity::is_well_formed;
 use crate::write::MessageWrite;
+use crate::write::append::append_attribute;
 use std::alloc::AllocError;
 use std::marker::Model;
 use stun_base::error::StunParseError;

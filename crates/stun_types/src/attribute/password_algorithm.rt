@@ -7,11 +7,11 @@ ghost use Rattle.stun_types.specs.PasswordAlgorithms.{password_algorithm_in-writ
 ghost use Rattle.stun_types.specs.PasswordAlgorithms.{entry_at_front, integrity_of};
 ghost use Rattle.stun_types.specs.PasswordAlgorithms.{password_algorithm_of, spelled_entry};
 
-use crate::append::append_attribute;
 use crate::attribute::{
     Attribute, AttributeFromRaw, AttributeStaticType, AttributeType, RawAttribute,
 };
 use crate::write::MessageWrite;
+use crate::write::append::append_attribute;
 use byteorder::{BigEndian, ByteOrder};
 use std::marker::Model;
 use stun_base::algorithm::IntegrityAlgorithm;

@@ -8,13 +8,13 @@ ghost use Rattle.stun_types.specs.PasswordAlgorithms.{password_algorithms_in-wri
 ghost use Rattle.stun_types.specs.PasswordAlgorithms.{spelled_entries};
 ghost use Rattle.stun_types.specs.code.PasswordAlgorithms.{are_entries, entry_list};
 
-use crate::append::{append_header, append_padding};
 use crate::attribute::password_algorithm::{ENTRY_LENGTH, read_entry};
 use crate::attribute::{
     Attribute, AttributeFromRaw, AttributeStaticType, AttributeType, PasswordAlgorithmValue,
     RawAttribute,
 };
 use crate::write::MessageWrite;
+use crate::write::append::{append_header, append_padding};
 use std::alloc::AllocError;
 use std::marker::Model;
 use stun_base::error::StunParseError;

@@ -5,11 +5,11 @@ ghost use Rattle.stun_base.specs.Attributes.{USERHASH};
 ghost use Rattle.stun_base.specs.Keys as keys;
 ghost use Rattle.stun_types.specs.Userhash.{USERHASH_LENGTH, hash_of, hash_of-written};
 
-use crate::append::append_attribute;
 use crate::attribute::{
     Attribute, AttributeFromRaw, AttributeStaticType, AttributeType, RawAttribute,
 };
 use crate::write::MessageWrite;
+use crate::write::append::append_attribute;
 use std::marker::Model;
 use stun_base::error::StunParseError;
 use stun_base::key::userhash;

@@ -8,13 +8,13 @@ ghost use Rattle.stun_base.specs.Attributes.{USERNAME};
 ghost use Rattle.stun_types.specs.Limits.{USERNAME_LIMIT};
 ghost use Rattle.stun_types.specs.Text.{text_of, text_of-written};
 
-use crate::append::append_attribute;
 use crate::attribute::text::{read_text, within_limit};
 use crate::attribute::{
     Attribute, AttributeFromRaw, AttributeStaticType, AttributeType, RawAttribute,
 };
 use crate::limits::USERNAME_LIMIT;
 use crate::write::MessageWrite;
+use crate::write::append::append_attribute;
 use std::alloc::AllocError;
 use std::marker::Model;
 use stun_base::error::{StunParseError, StunWriteError};

@@ -11,11 +11,11 @@ ghost use Rattle.stun_types.specs.XorMappedAddress.{xored_address, xored_of, xor
 ghost use Rattle.stun_types.specs.XorMappedAddressLaws.{xored_of-written};
 ghost use Rattle.stun_types.specs.code.XoredOctets.{HasOctetsOfFamily, family_of_octets, octets_of};
 
-use crate::append::append_header;
 use crate::attribute::{
     Attribute, AttributeFromRaw, AttributeStaticType, AttributeType, RawAttribute,
 };
 use crate::write::MessageWrite;
+use crate::write::append::append_header;
 use byteorder::{BigEndian, ByteOrder};
 use std::marker::Model;
 use std::net::{IpAddr, Ipv4Addr, Ipv6Addr, SocketAddr};

@@ -4,8 +4,8 @@
 ghost use Rattle.std.specs.Prelude.{◌≡◌, Ok, Err};
 ghost use Rattle.stun_base.specs.Header.{transaction_id_field, type_field};
 ghost use Rattle.stun_base.specs.MessageType.{method_of};
-ghost use Rattle.stun_auth.specs.declared.server_reason.LongTermServerAuthErrorReason.TheVariants.{Unauthorized};
-ghost use Rattle.stun_auth.specs.declared.server_reason.LongTermServerValidation.TheVariants.{Validated};
+ghost use Rattle.stun_auth.specs.declared.server.reason.LongTermServerAuthErrorReason.TheVariants.{Unauthorized};
+ghost use Rattle.stun_auth.specs.declared.server.reason.LongTermServerValidation.TheVariants.{Validated};
 ghost use Rattle.stun_proto.specs.Negotiation.{BINDING as BINDING_METHOD, asked, first_answered, negotiated, outcome_of_success, second_answered, second_asked};
 ghost use Rattle.stun_proto.specs.Sides.{Passes, PassesAccepted, PassesResend, PassesUnauthorized};
 ghost use Rattle.stun_proto.specs.code.FirstAnswers.{end_of_challenge, end_of_first};

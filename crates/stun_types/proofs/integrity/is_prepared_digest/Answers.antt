@@ -1,7 +1,7 @@
 -- The two pieces are what the attribute covers, and its algorithm is the one that the digest was
 -- made with.
 use Rattle.std.proofs.Common.{◌≡◌, length, sym, ◌∙◌, refl}
-use Rattle.stun_base.specs.declared.algorithm.IntegrityAlgorithm.TheVariants.{Sha1, Sha256}
+use Rattle.stun_base.specs.declared.keys.algorithm.IntegrityAlgorithm.TheVariants.{Sha1, Sha256}
 use Rattle.stun_types.specs.Integrity.{integrity_algorithm}
 use Rattle.stun_types.proofs.IntegrityLemmas.{covered_pieces, test_of_texts}
 use Rattle.stun_types.proofs.integrity.is_prepared_digest.Goals as goal

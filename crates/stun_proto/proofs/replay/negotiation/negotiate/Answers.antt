@@ -8,7 +8,7 @@ use Rattle.stun_proto.specs.Negotiating.{lists, meeting, met_by}
 use Rattle.stun_proto.specs.Negotiation.{Meeting, Round, negotiated}
 use Rattle.stun_proto.specs.Sides.{Passes}
 use Rattle.stun_proto.specs.code.Sides.{IsRun}
-use Rattle.stun_proto.proofs.Outcomes.{ends_at_strongest}
+use Rattle.stun_proto.proofs.meetings.Outcomes.{ends_at_strongest}
 use Rattle.stun_proto.proofs.replay.negotiation.negotiate.Goals as goal
 
 if_some_map : {A : Type 0} {P Q : A → Type 0} (o : Option A) → ((a : A) → P a → Q a) → IfSome o P → IfSome o Q

@@ -9,7 +9,7 @@ use Rattle.stun_auth.specs.Validation.{sight}
 use Rattle.stun_proto.specs.code.Meetings.{meeting_of}
 use Rattle.stun_proto.specs.Negotiation.{ended, outcome_of_success, responded, succeeded, success, unwritten}
 use Rattle.stun_proto.specs.Sides.{PassesAccepted, sides}
-use Rattle.stun_proto.proofs.Runs.{ends, refused, stops}
+use Rattle.stun_proto.proofs.meetings.Runs.{ends, refused, stops}
 use Rattle.stun_proto.proofs.replay.negotiation.meeting.after_accepted.Goals as goal
 
 pub returns-in_err-granted-clause-run : goal.returns-in_err-granted-clause-run

@@ -5,7 +5,7 @@ use Rattle.std.specs.Prelude.{IsOk}
 use Rattle.stun_base.specs.Header.{transaction_id_field, type_field}
 use Rattle.stun_base.specs.MessageType.{method_of}
 use Rattle.stun_types.specs.Message.{IsMessage}
-use Rattle.stun_auth.specs.declared.server_reason.LongTermServerValidation.TheVariants.{Validated}
+use Rattle.stun_auth.specs.declared.server.reason.LongTermServerValidation.TheVariants.{Validated}
 use Rattle.stun_auth.specs.Additions.{page_of}
 use Rattle.stun_auth.specs.Client.{ClientSide}
 use Rattle.stun_auth.specs.Reading.{reading_of}
@@ -17,7 +17,7 @@ use Rattle.stun_proto.specs.Negotiation.{asked, ended, second_answered, second_a
 use Rattle.stun_proto.specs.Serving.{after_calls}
 use Rattle.stun_proto.specs.Sides.{PassesAccepted, PassesResend, sides}
 use Rattle.stun_proto.specs.declared.replay.negotiation.Outcome.TheVariants.{ServerRefused}
-use Rattle.stun_proto.proofs.Runs.{ends, goes_on, refused, stops}
+use Rattle.stun_proto.proofs.meetings.Runs.{ends, goes_on, refused, stops}
 use Rattle.stun_proto.proofs.replay.negotiation.meeting.after_resend.Goals as goal
 
 pub message_in-again-requires : goal.message_in-again-requires

@@ -14,7 +14,7 @@ use Rattle.stun_proto.specs.code.Sides.{IsRun}
 use Rattle.stun_proto.specs.Negotiation.{asked, challenge_answered, challenged, ended, failure, responded, second_asked, unwritten}
 use Rattle.stun_proto.specs.Serving.{after_calls}
 use Rattle.stun_proto.specs.Sides.{PassesResend, PassesUnauthorized, sides}
-use Rattle.stun_proto.proofs.Runs.{challenge_ends, ended_by, ends, goes_on, not_ended, refused, stops}
+use Rattle.stun_proto.proofs.meetings.Runs.{challenge_ends, ended_by, ends, goes_on, not_ended, refused, stops}
 use Rattle.stun_proto.proofs.replay.negotiation.meeting.after_unauthorized.Goals as goal
 
 pub returns-in_err-failure-clause-run : goal.returns-in_err-failure-clause-run

@@ -3,7 +3,7 @@ use Rattle.std.proofs.Common.{inl, inr, sym, ◌∙◌, ap, subst, Err}
 use Rattle.stun_base.specs.Header.{transaction_id_field, type_field}
 use Rattle.stun_base.specs.MessageType.{method_of}
 use Rattle.stun_types.specs.Message.{IsMessage}
-use Rattle.stun_auth.specs.declared.server_reason.LongTermServerAuthErrorReason.TheVariants.{Unauthorized}
+use Rattle.stun_auth.specs.declared.server.reason.LongTermServerAuthErrorReason.TheVariants.{Unauthorized}
 use Rattle.stun_auth.specs.Additions.{page_of}
 use Rattle.stun_auth.specs.Client.{ClientSide}
 use Rattle.stun_auth.specs.Reading.{reading_of}
@@ -12,7 +12,7 @@ use Rattle.stun_proto.specs.code.Meetings.{meeting_of}
 use Rattle.stun_proto.specs.code.Sides.{IsRun}
 use Rattle.stun_proto.specs.Negotiation.{asked, ended, first_answered, first_asked, unwritten}
 use Rattle.stun_proto.specs.Sides.{Passes, PassesUnauthorized, sides}
-use Rattle.stun_proto.proofs.Runs.{ended_by, ends, first_ends, goes_on, not_ended, refused, stops}
+use Rattle.stun_proto.proofs.meetings.Runs.{ended_by, ends, first_ends, goes_on, not_ended, refused, stops}
 use Rattle.stun_proto.proofs.replay.negotiation.meeting.meet.Goals as goal
 
 pub message_in-asked-requires : goal.message_in-asked-requires

@@ -4,7 +4,7 @@ ghost use Rattle.stun_base.specs.Keys.{long_term_key};
 ghost use Rattle.stun_base.specs.Keys.OfCredentials.{keys_of};
 ghost use Rattle.stun_inspect.specs.Decode.{PrintsDecoded};
 ghost use Rattle.stun_inspect.specs.Input.{is_raw};
-ghost use Rattle.stun_inspect.specs.Run.{Answers, PrintsDigits, PrintsText, keys_for};
+ghost use Rattle.stun_inspect.specs.Run.{Answers, PrintsDigits, PrintsLine, PrintsText, keys_for};
 ghost use Rattle.stun_cli.specs.Line.{IsLine};
 ghost use Rattle.stun_cli.specs.Verdict.{verdict_of};
 ghost use Rattle.stun_inspect.specs.Verify.{PrintsVerdict};
@@ -51,10 +51,7 @@ pub fn run_command<R: CountedRead, W: Write, A: Allocator + Copy>(
         Command::Userhash(user) => {
             print_digits(alloc, &Userhash::compute(user.name, user.realm), writer)
         }
-        Command::Nonce(nonce) => {
-            let line = nonce_line(alloc, nonce)?;
-            print(writer, line.as_bytes())
-        }
+        Command::Nonce(nonce) => print_nonce(alloc, nonce, writer),
     }
 }
 
@@ -301,6 +298,20 @@ fn password_of<'a>(word: &'a str, input: &'a [u8]) -> Result<(&'a str, &'a [u8])
             wanted: Wanted::Password,
         })),
     }
+}
+
+/// Prints the line on the security bits of a nonce.
+fn print_nonce<W: Write, A: Allocator + Copy>(
+    alloc: A,
+    nonce: &str,
+    writer: &mut W,
+) -> Result<Status, Failure>
+    ensures { IfOk result (λ status.
+        PrintsLine status (W.contents writer.old) (W.contents writer.new)) }
+{
+    let line = nonce_line(alloc, nonce)?;
+    write_text(writer, line.as_bytes())?;
+    Ok(Status::Good)
 }
 
 /// The line on the security bits of a nonce.

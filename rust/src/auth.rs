@@ -482,7 +482,11 @@ impl LongTermServerAuth {
 
     /// A user with stored keys in the place of a password: those that were made of it
     /// at the server's realm. A key for an algorithm that the server does not support is not used.
-    pub fn prepare_user_with_keys(&self, username: String, keys: StoredKeys) -> LongTermServerUser {
+    pub fn prepare_user_with_keys(
+        &self,
+        username: String,
+        keys: StoredKeys,
+    ) -> LongTermServerUser {
         LongTermServerUser {
             proved: granted(self.proved.prepare_user_with_keys(text(username), keys)),
         }

@@ -7,8 +7,8 @@ use Rattle.stun_cli.specs.declared.failure.Failure.{Failure}
 use Rattle.stun_cli.specs.declared.failure.Failure.TheVariants.{Io, Memory, NoEnd}
 
 -- how often a command asks its reader, at most
-abbrev pub most_reads : ℕ
-most_reads = 1048576
+abbrev pub most_tries : ℕ
+most_tries = 1048576
 
 -- how often a reader has been asked after so many reads more; a count ends at 2 ^ 32 - 1
 abbrev pub asked_after : ℕ → ℕ → ℕ
@@ -23,5 +23,5 @@ IsFailed read = MatchResult read (λ _. ⊥) (λ error. error_kind error ≢ Int
 abbrev pub IsReason : Failure → ℕ → Option (List ℕ) → ℕ → ℕ → Bool → Type 0
 IsReason Io most given asked asked_now failed = failed ≡ true
 IsReason NoEnd most given asked asked_now failed =
-    IfSome given (λ input. most < length input) ⊎ (asked_now ≡ asked_after most_reads asked)
+    IfSome given (λ input. most < length input) ⊎ (asked_now ≡ asked_after most_tries asked)
 IsReason Memory most given asked asked_now failed = ⊤

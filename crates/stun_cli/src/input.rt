@@ -2,7 +2,7 @@
 ghost use Rattle.std.specs.Prelude.{◌≡◌, ◌≤◌, ◌+◌, ◌↔◌, ℕ, Bool, true, IfErr, IfOk, IfSome, length};
 ghost use Rattle.std.specs.Io.{ReadsAtMost};
 ghost use Rattle.std.specs.Io.KnownBytes.{ReadConsumes};
-ghost use Rattle.stun_cli.specs.Input.{most_reads, asked_after, IsFailed, IsReason};
+ghost use Rattle.stun_cli.specs.Input.{most_tries, asked_after, IsFailed, IsReason};
 
 use crate::failure::Failure;
 use std::alloc::Allocator;
@@ -86,7 +86,7 @@ pub fn read_to_end<R: CountedRead, A: Allocator>(
     ensures all { IfSome (R.remaining reader.old)
         (λ input. IfOk result (λ bytes. bytes.items ≡ input)) }
     ensures limit { IfOk result (λ bytes. length bytes.items ≤ most) }
-    ensures asked { R.asked reader.new ≤ R.asked reader.old + most_reads }
+    ensures asked { R.asked reader.new ≤ R.asked reader.old + most_tries }
     ensures reason { IfErr result (λ failure. IsReason failure most (R.remaining reader.old)
         (R.asked reader.old) (R.asked reader.new) (R.failed reader.new)) }
 {

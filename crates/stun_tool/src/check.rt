@@ -1,7 +1,7 @@
 //! The command `check`.
 ghost use Rattle.std.specs.Prelude.{◌≡◌, ◌≢◌, ◌≤◌, ◌+◌, ◌↔◌, length, IfSome};
 ghost use Rattle.stun_tool.specs.Check.{Prints};
-ghost use Rattle.stun_cli.specs.Input.{most_reads};
+ghost use Rattle.stun_cli.specs.Input.{most_tries};
 
 use crate::verdict::{line, verdict_on_input};
 use std::alloc::Allocator;
@@ -27,7 +27,7 @@ pub fn check<R: CountedRead, W: Write, A: Allocator + Copy>(
         × (writer.new ≡ writer.old) }
     ensures prints { IfSome (R.remaining reader.old)
         (λ input. Prints words.now input result (W.contents writer.old) (W.contents writer.new)) }
-    ensures asked { R.asked reader.new ≤ R.asked reader.old + most_reads }
+    ensures asked { R.asked reader.new ≤ R.asked reader.old + most_tries }
 {
     let [password] = words else {
         return Status::NotJudged;

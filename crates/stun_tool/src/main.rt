@@ -3,7 +3,7 @@
 
 ghost use Rattle.std.specs.Prelude.{◌≡◌, ◌≢◌, ◌≤◌, ◌+◌, ◌↔◌, length, IfSome, IfNone};
 ghost use Rattle.stun_tool.specs.Check.{Prints};
-ghost use Rattle.stun_cli.specs.Input.{most_reads};
+ghost use Rattle.stun_cli.specs.Input.{most_tries};
 ghost use Rattle.stun_tool.specs.code.Output.{AppendsUnlessFailed};
 ghost use Rattle.stun_tool.specs.code.Run.{words_of_check, words_of_negotiate, words_of_schedule, words_of_serve, usage_line};
 
@@ -63,7 +63,7 @@ fn run<R: CountedRead, W: Write, E: Write>(
     ensures silent { result ≢ Status.NotJudged → errors.new ≡ errors.old }
     ensures prints { IfSome (words_of_check words.now) (λ others. IfSome (R.remaining reader.old)
         (λ input. Prints others input result (W.contents writer.old) (W.contents writer.new))) }
-    ensures asked { R.asked reader.new ≤ R.asked reader.old + most_reads }
+    ensures asked { R.asked reader.new ≤ R.asked reader.old + most_tries }
 {
     let status = match words {
         [command, others @ ..] if command.as_str() == "check" => {

@@ -1,6 +1,6 @@
 //! The command `serve`.
 ghost use Rattle.std.specs.Prelude.{◌≡◌, ◌≢◌, ◌≤◌, ◌+◌, ◌↔◌, length};
-ghost use Rattle.stun_cli.specs.Input.{most_reads};
+ghost use Rattle.stun_cli.specs.Input.{most_tries};
 
 use crate::names::{algorithm_name, error_name, server_reason_name};
 use crate::script::{Script, read_script};
@@ -30,7 +30,7 @@ pub fn serve<R: CountedRead, W: Write>(
     ensures wrong_words { (result ≡ Status.NotJudged) ↔ (length words.now ≢ 1) }
     ensures untouched { result ≡ Status.NotJudged → (reader.new ≡ reader.old)
         × (writer.new ≡ writer.old) }
-    ensures asked { R.asked reader.new ≤ R.asked reader.old + most_reads }
+    ensures asked { R.asked reader.new ≤ R.asked reader.old + most_tries }
 {
     let [realm] = words else {
         return Status::NotJudged;

@@ -18,12 +18,12 @@ import sys
 import ratchet
 
 AT_MOST = {
-    "antt lines": 6284,
+    "antt lines": 395,
     "c lines": 497,
     "md lines": 405,
     "py lines": 508,
     "rs lines": 83,
-    "rt lines": 618,
+    "rt lines": 125,
     "sh lines": 60,
     "antt files": 1,
     "c files": 5,

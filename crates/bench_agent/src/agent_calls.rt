@@ -74,7 +74,8 @@ pub fn call_named(name: &str) -> Option<Call> {
     }
 }
 
-/// How many of so many calls did what they were to do, at an agent with so many outstanding requests.
+/// How many of so many calls did what they were to do, at an agent with so many outstanding
+/// requests.
 pub fn count_of(alloc: Global, call: Call, size: u32, times: u32) -> Option<u32> {
     let is_sent_once = matches!(call, Call::EndsOne | Call::EndsOfAll);
     let mut agent = agent_of(alloc, is_sent_once, size)?;

@@ -47,9 +47,10 @@ pub(crate) struct Meeting<'a> {
     pub(crate) second: Turn<'a>,
 }
 
-/// The two sides meet: a request, its challenge, the request with credentials and its success, each read by the other side. The
-/// server makes its first calls just before the challenge is read, and its second just before the second request is. The first
-/// answer that is no step of this is the outcome.
+/// The two sides meet: a request, its challenge, the request with credentials and its success, each
+/// read by the other side. The server makes its first calls just before the challenge is read, and
+/// its second just before the second request is. The first answer that is no step of this is the
+/// outcome.
 #[tactic(auto)]
 pub(crate) fn meet<A: Allocator + Copy>(
     alloc: A,
@@ -72,7 +73,8 @@ pub(crate) fn meet<A: Allocator + Copy>(
     }
 }
 
-/// The first request is to be challenged: the server signs a 401, makes its first calls, and the client reads the 401.
+/// The first request is to be challenged: the server signs a 401 and makes its first calls, and the
+/// client reads the 401.
 #[tactic(auto)]
 fn after_unauthorized<A: Allocator + Copy>(
     alloc: A,
@@ -97,7 +99,8 @@ fn after_unauthorized<A: Allocator + Copy>(
     }
 }
 
-/// The client is to ask again: it signs a request, the server makes its second calls and reads the request.
+/// The client is to ask again: it signs a request, and the server makes its second calls and reads
+/// the request.
 #[tactic(auto)]
 fn after_resend<A: Allocator + Copy>(
     alloc: A,
@@ -121,7 +124,8 @@ fn after_resend<A: Allocator + Copy>(
     }
 }
 
-/// The second request is accepted with an algorithm: the server signs a success, and the client reads it.
+/// The second request is accepted with an algorithm: the server signs a success, and the client
+/// reads it.
 #[tactic(auto)]
 fn after_accepted<A: Allocator + Copy>(
     alloc: A,

@@ -75,8 +75,8 @@ pub(crate) fn meet<A: Allocator + Copy>(
     }
 }
 
-/// The first request is to be challenged: the server signs a 401, makes its first calls, and the
-/// client reads the 401.
+/// The first request is to be challenged: the server signs a 401 and makes its first calls, and
+/// the client reads the 401.
 #[tactic(auto)]
 fn after_unauthorized<A: Allocator + Copy>(
     alloc: A,
@@ -101,8 +101,8 @@ fn after_unauthorized<A: Allocator + Copy>(
     }
 }
 
-/// The client is to ask again: it signs a request, the server makes its second calls and reads the
-/// request.
+/// The client is to ask again: it signs a request, and the server makes its second calls and reads
+/// the request.
 #[tactic(auto)]
 fn after_resend<A: Allocator + Copy>(
     alloc: A,

@@ -29,7 +29,8 @@ same_name name = (eq_by_cmp_equiv nat_list_cmp_total).refl name
 tied : (name other : List ℕ) → eq_by_cmp name_cmp name other ≡ true → name ≡ other
 tied name other h = (bytes_eq-Decides name other).0 (sym (is_eq-slice_cmp name other) ∙ h)
 
-other_name : {V : Type 0} (name gone : List ℕ) → name ≢ gone → (v o : V) → cond (eq_by_cmp name_cmp name gone) v o ≡ o
+other_name : {V : Type 0} (name gone : List ℕ) → name ≢ gone → (v o : V)
+    → cond (eq_by_cmp name_cmp name gone) v o ≡ o
 other_name name gone other v o = by (eq_by_cmp name_cmp name gone) refl
   where
     by : (b : Bool) → eq_by_cmp name_cmp name gone ≡ b → cond b v o ≡ o
@@ -46,7 +47,8 @@ key-added users user a =
     (fin.get-insert nat_list_cmp_total users.secrets user.username (of_password user.password) user.username
     ∙ ap (λ b. cond b (Some (of_password user.password)) (fin.get users.secrets user.username)) (same_name user.username))
 
-pub key-removed : (users : Registered) (name : List ℕ) (a : IntegrityAlgorithm) → key_at (without_user users name) name a ≡ None
+pub key-removed : (users : Registered) (name : List ℕ) (a : IntegrityAlgorithm)
+    → key_at (without_user users name) name a ≡ None
 key-removed users name a =
     ap (key_by users name a)
     (fin.get-remove nat_list_cmp_total users.secrets name name ∙ ap (λ b. cond b None (fin.get users.secrets name)) (same_name name))
@@ -58,7 +60,8 @@ key-by_others users user name a other =
     (fin.get-insert nat_list_cmp_total users.secrets user.username (of_password user.password) name
     ∙ other_name name user.username other (Some (of_password user.password)) (fin.get users.secrets name))
 
-pub key-of_others : (users : Registered) (gone name : List ℕ) (a : IntegrityAlgorithm) → name ≢ gone
+pub key-of_others : (users : Registered) (gone name : List ℕ) (a : IntegrityAlgorithm)
+    → name ≢ gone
     → key_at (without_user users gone) name a ≡ key_at users name a
 key-of_others users gone name a other =
     ap (key_by users name a)
@@ -68,19 +71,24 @@ key-of_others users gone name a other =
 
 module _ (users : Registered) (user : NameAndPassword) (keys : StoredKeys) (are : AreKeysOf users user keys) where
   -- the names are the same: the one name
-  pub same_names : fin.keys (only_user (Some (user_by_keys user.username keys))) ≡ fin.keys (only_user (Some (user_by_password user)))
+  pub same_names : fin.keys (only_user (Some (user_by_keys user.username keys)))
+      ≡ fin.keys (only_user (Some (user_by_password user)))
   same_names =
       ap (λ (es : List (List ℕ × UserSecret)). map (λ e. e.0) es) (one user.username (of_keys keys))
       ∙ sym (ap (λ (es : List (List ℕ × UserSecret)). map (λ e. e.0) es) (one user.username (of_password user.password)))
 
-  key-if : (name : List ℕ) (a : IntegrityAlgorithm) → name ≡ user.username → (b : Bool) → contains a users.algorithms ≡ b
-      → key_if b a name users.realm (of_keys keys) ≡ key_if b a name users.realm (of_password user.password)
-  key-if name a is true h = are a h ∙ ap (λ n. Some (long_term_key a n users.realm user.password)) (sym is)
+  key-if : (name : List ℕ) (a : IntegrityAlgorithm) → name ≡ user.username → (b : Bool)
+      → contains a users.algorithms ≡ b
+      → key_if b a name users.realm (of_keys keys)
+      ≡ key_if b a name users.realm (of_password user.password)
+  key-if name a is true h = are a h
+      ∙ ap (λ n. Some (long_term_key a n users.realm user.password)) (sym is)
   key-if name a is false h = refl
 
   -- and so are the keys
   pub same_keys : (name : List ℕ) (a : IntegrityAlgorithm)
-      → key_at (just users (Some (user_by_keys user.username keys))) name a ≡ key_at (just users (Some (user_by_password user))) name a
+      → key_at (just users (Some (user_by_keys user.username keys))) name a
+      ≡ key_at (just users (Some (user_by_password user))) name a
   same_keys name a =
       ap (key_by users name a) (fin.get-insert nat_list_cmp_total fin.empty user.username (of_keys keys) name)
       ∙ by (eq_by_cmp name_cmp name user.username) refl

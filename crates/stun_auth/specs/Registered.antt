@@ -72,7 +72,8 @@ abbrev pub stored_key : StoredKeys → IntegrityAlgorithm → Option (List ℕ)
 stored_key keys Sha1 = keys.sha1
 stored_key keys Sha256 = keys.sha256
 
--- the key that a secret gives a name at a realm for an algorithm: made of the password, or as it is stored
+-- the key that a secret gives for an algorithm to the user of a name at a realm: made of the
+-- password, or as it is stored
 abbrev pub key_from : IntegrityAlgorithm → List ℕ → List ℕ → UserSecret → Option (List ℕ)
 key_from a name realm (of_password password) = Some (long_term_key a name realm password)
 key_from a name realm (of_keys keys) = stored_key keys a
@@ -81,7 +82,8 @@ key_from a name realm (of_keys keys) = stored_key keys a
 abbrev pub key_if : Bool → IntegrityAlgorithm → List ℕ → List ℕ → UserSecret → Option (List ℕ)
 key_if supported a name realm secret = if supported then key_from a name realm secret else None
 
--- the key that a user has for an algorithm: for a supported algorithm the one that the user's secret gives, and no other
+-- the key that a user has for an algorithm: if it is supported the one that the user's secret
+-- gives, and else none
 abbrev pub key_of : Registered → RegisteredUser → IntegrityAlgorithm → Option (List ℕ)
 key_of r user a = key_if (contains a r.algorithms) a user.username r.realm user.secret
 

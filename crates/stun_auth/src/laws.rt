@@ -147,8 +147,10 @@ pub fn stored_keys_are_as_their_password()
     ensures state { (s : ServerSeen) (user : NameAndPassword) (keys : StoredKeys)
         (from : SocketAddr) (now : ℕ) (words : List ℕ) (r : Reading)
         → AreKeysOf s.registered user keys
-        → with_users (after_message (with_just s (user_by_keys user.username keys)) from now words r) s.registered
-        ≡ with_users (after_message (with_just s (user_by_password user)) from now words r) s.registered }
+        → with_users (after_message (with_just s (user_by_keys user.username keys)) from now
+        words r) s.registered
+        ≡ with_users (after_message (with_just s (user_by_password user)) from now
+        words r) s.registered }
     ensures source { (s : ServerSeen) (user : NameAndPassword) (keys : StoredKeys)
         (from : SocketAddr) (now : ℕ) (r : Reading)
         → draws (sight (with_just s (user_by_keys user.username keys)) from) now r
@@ -165,8 +167,10 @@ pub fn stored_keys_are_as_their_password()
         ≡ server_additions (sight (with_just s (user_by_password user)) to) response }
     ensures left { (s : ServerSeen) (user : NameAndPassword) (keys : StoredKeys)
         (to : SocketAddr) (response : Bool)
-        → with_users (after_signing (with_just s (user_by_keys user.username keys)) to response) s.registered
-        ≡ with_users (after_signing (with_just s (user_by_password user)) to response) s.registered }
+        → with_users (after_signing (with_just s (user_by_keys user.username keys)) to
+        response) s.registered
+        ≡ with_users (after_signing (with_just s (user_by_password user)) to
+        response) s.registered }
 {}
 
 /// A user who is added has the long-term key of the user's name, realm and password for each

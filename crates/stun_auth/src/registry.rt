@@ -24,8 +24,8 @@ use stun_base::credentials::LongTermCredentials;
 use stun_base::key::userhash;
 use stun_base::prepared_key::PreparedKey;
 
-/// A user: what the user is known by, and the key for each supported algorithm, prepared for the digests that are verified
-/// under it.
+/// A user: what the user is known by, and the key for each supported algorithm, prepared for the
+/// digests that are verified under it.
 #[derive(Drop)]
 pub(crate) struct User<A: Allocator> {
     /// In a box, since it is long and a tree leaves half of its places empty.

@@ -126,12 +126,15 @@ fn is_known<A: Allocator>(place: Option<&Place<A>>, accepted: Accepted<'_>) -> b
 }
 
 impl<A: Allocator + Copy> LongTermServerAuth<A> {
-    /// The algorithm whose digest verifies, of those that a message has, under the key that the registered user of a name has
-    /// for a supported algorithm. `None` where none verifies, and where there is no such user or key.
+    /// The algorithm of a message's digest, where it verifies under the key that the registered
+    /// user of a name has for a supported algorithm. `None` where it does not verify, and where
+    /// there is no such user or key. The digest is the one that `validate_incoming_message` looks
+    /// at, whichever algorithm the key is for.
     ///
-    /// It is for a check of a user's key, and for a tool that must know who could have signed a message. It is no verdict: it
-    /// reads no nonce, realm, name or choice of the message, so a message that is sent again verifies again. It shows no key,
-    /// changes nothing and does not allocate.
+    /// It is for a check of a user's key, and for a tool that must know who could have signed a
+    /// message. It is no verdict: it reads no nonce, realm, name or choice of the message, so a
+    /// message that is sent again verifies again. It shows no key, changes nothing and does not
+    /// allocate.
     pub fn user_verifies(
         &self,
         name: &str,

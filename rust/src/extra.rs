@@ -42,9 +42,10 @@ pub use crate::exported::stun_extra::unknown::{
 pub mod attribute {
     pub use crate::address::{XorPeerAddress, XorRelayedAddress};
     pub use crate::exported::stun_extra::attribute::{
-        AddressFamily, AlternateDomain, AlternateServer, ChannelNumber, DOMAIN_LIMIT, Data,
-        DontFragment, EvenPort, IceControlled, IceControlling, Lifetime, MappedAddress, Priority,
-        RequestedAddressFamily, RequestedTransport, ReservationToken, Software, UseCandidate,
+        AdditionalAddressFamily, AddressFamily, AlternateDomain, AlternateServer, ChannelNumber,
+        DOMAIN_LIMIT, Data, DontFragment, EvenPort, IceControlled, IceControlling, Lifetime,
+        MappedAddress, Priority, RequestedAddressFamily, RequestedTransport, ReservationToken,
+        Software, UseCandidate,
     };
     pub use crate::exported::stun_extra::unknown::UnknownAttributes;
 }

@@ -200,6 +200,9 @@ fn reads_what_turn_writes() {
     }
     stands(RequestedAddressFamily::new(AddressFamily::Ipv6), 0x0017, &[2, 0, 0, 0]);
     refuses::<RequestedAddressFamily>(&[&[1], &[0; 4], &[3, 0, 0, 0]]);
+    let second = AdditionalAddressFamily::new(AddressFamily::Ipv6);
+    assert_eq!(stands(second, 0x8000, &[2, 0, 0, 0]).family(), AddressFamily::Ipv6);
+    refuses::<AdditionalAddressFamily>(&[&[2], &[0; 4], &[3, 0, 0, 0]]);
 }
 
 #[test]

@@ -8,9 +8,9 @@ use Rattle.stun_base.specs.Attributes.{XOR_MAPPED_ADDRESS}
 use Rattle.stun_types.specs.Attribute.{TypedValue}
 use Rattle.stun_types.specs.XorMappedAddress.{IsXored, XoredAddress, xored_of, xored_value}
 use Rattle.stun_types.specs.XorMappedAddressLaws.{xored_of-written}
-use Rattle.stun_extra.specs.AttributeTypes.{CHANNEL_NUMBER, EVEN_PORT, REQUESTED_ADDRESS_FAMILY, REQUESTED_TRANSPORT}
-use Rattle.stun_extra.specs.declared.attribute.requested_address_family.AddressFamily.{AddressFamily}
-use Rattle.stun_extra.specs.declared.attribute.requested_address_family.AddressFamily.TheVariants.{Ipv4, Ipv6}
+use Rattle.stun_extra.specs.AttributeTypes.{CHANNEL_NUMBER, EVEN_PORT, REQUESTED_TRANSPORT}
+use Rattle.stun_extra.specs.declared.attribute.address_family.AddressFamily.{AddressFamily}
+use Rattle.stun_extra.specs.declared.attribute.address_family.AddressFamily.TheVariants.{Ipv4, Ipv6}
 
 -- whether a number is one of a channel (section 12)
 abbrev pub is_channel_number : ℕ → Bool
@@ -30,7 +30,8 @@ channel_of attribute =
     if attribute.kind == CHANNEL_NUMBER && (length attribute.value == 4) && is_channel_number (big_number 2 attribute.value)
     then Some (big_number 2 attribute.value) else None
 
--- REQUESTED-ADDRESS-FAMILY (section 18.6): the number of the family, and three reserved bytes
+-- REQUESTED-ADDRESS-FAMILY and ADDITIONAL-ADDRESS-FAMILY (sections 18.6 and 18.11): the number of
+-- the family, and three reserved bytes
 abbrev pub family_number : AddressFamily → ℕ
 family_number Ipv4 = 0x01
 family_number Ipv6 = 0x02
@@ -43,9 +44,10 @@ abbrev pub family_value : AddressFamily → List ℕ
 family_value family = family_number family ∷ 0 ∷ 0 ∷ 0 ∷ []
 
 -- the family in an attribute of this type
-abbrev pub family_of : TypedValue → Option AddressFamily
-family_of attribute =
-    if attribute.kind == REQUESTED_ADDRESS_FAMILY && (length attribute.value == 4) then numbered_family (slice_index attribute.value 0) else None
+abbrev pub family_of : ℕ → TypedValue → Option AddressFamily
+family_of kind attribute =
+    if attribute.kind == kind && (length attribute.value == 4)
+    then numbered_family (slice_index attribute.value 0) else None
 
 -- EVEN-PORT (section 18.7): the highest bit asks for the next port too, and seven bits are reserved
 abbrev pub even_port_value : Bool → List ℕ
@@ -79,10 +81,10 @@ channel_of-written channel fits =
     let high = fits.1 in
     rw read (grind (arith, nat_tests))
 
-pub family_of-written : (family : AddressFamily) → Unit {0}
-    → family_of (record { kind = REQUESTED_ADDRESS_FAMILY; value = family_value family }) ≡ Some family
-family_of-written Ipv4 holds = refl
-family_of-written Ipv6 holds = refl
+pub family_of-written : (kind : ℕ) (family : AddressFamily) → Unit {0}
+    → family_of kind (record { kind = kind; value = family_value family }) ≡ Some family
+family_of-written kind Ipv4 holds = search rules
+family_of-written kind Ipv6 holds = search rules
 
 pub even_port_of-written : (requested : Bool) → Unit {0}
     → even_port_of (record { kind = EVEN_PORT; value = even_port_value requested }) ≡ Some requested

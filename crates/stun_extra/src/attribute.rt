@@ -1,7 +1,9 @@
 //! Attributes beside those of authentication: of STUN (RFC 8489, section 14), of ICE (RFC 8445,
 //! section 16.1) and of TURN (RFC 8656, section 18).
 
+mod additional_address_family;
 mod address;
+mod address_family;
 mod alternate_domain;
 mod alternate_server;
 mod channel_number;
@@ -24,6 +26,8 @@ mod xor_peer_address;
 mod xor_relayed_address;
 mod xored;
 
+pub use additional_address_family::AdditionalAddressFamily;
+pub use address_family::AddressFamily;
 pub use alternate_domain::AlternateDomain;
 pub use alternate_server::AlternateServer;
 pub use channel_number::ChannelNumber;
@@ -35,7 +39,7 @@ pub use ice_controlling::IceControlling;
 pub use lifetime::Lifetime;
 pub use mapped_address::MappedAddress;
 pub use priority::Priority;
-pub use requested_address_family::{AddressFamily, RequestedAddressFamily};
+pub use requested_address_family::RequestedAddressFamily;
 pub use requested_transport::RequestedTransport;
 pub use reservation_token::ReservationToken;
 pub use software::Software;

@@ -23,7 +23,8 @@
  *   its messages: stunp_server_validate, stunp_server_client, stunp_server_sign,
  *    stunp_write_server_sign
  *   its messages, with users who are kept elsewhere: stunp_server_named_user,
- *    stunp_server_validate_of, stunp_server_sign_of, stunp_write_server_sign_of
+ *    stunp_server_validate_of, stunp_server_validate_of_keys, stunp_server_sign_of,
+ *    stunp_server_sign_of_keys, stunp_write_server_sign_of, stunp_write_server_sign_of_keys
  *   its addresses: stunp_server_address_count, stunp_server_nonce, stunp_server_remove_client,
  *    stunp_server_forget, stunp_server_forget_expired, stunp_server_forget_expired_within
  *   a client: stunp_client_new, stunp_client_set_credentials, stunp_client_set_algorithms,
@@ -576,11 +577,11 @@ static inline void stunp_write_server_sign(stunp_writer *writer, stunp_server *s
 }
 
 /* ---- Its messages, with users who are kept elsewhere, as in a data base: ask whom a message
- * names, look that user up, and hand the name and the password in. So no list of users is wanted,
- * and one that the server has is not looked at. The verdict is that of a server that has all of
- * them, where the user is the one who is named. Where there is no such user, or nobody is named,
- * stunp_server_validate of a server without users gives that verdict. Hand the same user in where
- * the answer is signed. */
+ * names, look that user up, and hand the name and the password in, or the keys that are stored in
+ * its place. So no list of users is wanted, and one that the server has is not looked at. The
+ * verdict is that of a server that has all of them, where the user is the one who is named. Where
+ * there is no such user, or nobody is named, stunp_server_validate of a server without users gives
+ * that verdict. Hand the same user in where the answer is signed. */
 
 /* Tells by whose key a message that came from an address is judged: of a response the client of
  * the address; of a request or an indication the user of the last visible USERHASH, where names
@@ -605,6 +606,21 @@ int64_t stunp_server_validate_of(stunp_server *server, const uint8_t *message, s
                                  const void *name, size_t name_length, const void *password,
                                  size_t password_length);
 
+/* The same by keys that are stored in the place of a password: those that stunp_long_term_key
+ * writes for the name, the server's realm and the password. `sha1` is that for STUNP_SHA1, of
+ * STUNP_SHA1_KEY_LENGTH bytes, and `sha256` that for STUNP_SHA256, of STUNP_SHA256_KEY_LENGTH. One
+ * that is not stored has the length 0, and the user then has no key for that algorithm. By the keys
+ * that a password makes the verdict is that by the password.
+ *
+ * Returns and fails as that, where STUNP_NOT_TEXT is of the name alone, and with STUNP_BAD_ARGUMENT
+ * right after STUNP_NOT_TEXT where a key has another length. In place of all that would come after
+ * these, STUNP_OUT_OF_MEMORY may come. */
+int64_t stunp_server_validate_of_keys(stunp_server *server, const uint8_t *message, size_t length,
+                                      const stunp_address *from, uint64_t now,
+                                      const uint32_t words[16], const void *name,
+                                      size_t name_length, const uint8_t *sha1, size_t sha1_length,
+                                      const uint8_t *sha256, size_t sha256_length);
+
 /* Signs a message, as stunp_server_sign of a server that has just this user.
  *
  * Returns and fails as that, and with STUNP_NOT_TEXT right after STUNP_EMPTY_HANDLE. In place of
@@ -614,7 +630,17 @@ int64_t stunp_server_sign_of(stunp_server *server, uint8_t *buffer, size_t room,
                              const stunp_address *to, const void *name, size_t name_length,
                              const void *password, size_t password_length);
 
-/* The same by a writer (stunp.h). */
+/* The same by stored keys, as stunp_server_validate_of_keys takes them.
+ *
+ * Returns and fails as that, where STUNP_NOT_TEXT is of the name alone, and with STUNP_BAD_ARGUMENT
+ * right after STUNP_NOT_TEXT where a key has another length. In place of all that would come after
+ * these, STUNP_OUT_OF_MEMORY may come. */
+int64_t stunp_server_sign_of_keys(stunp_server *server, uint8_t *buffer, size_t room, size_t length,
+                                  const stunp_address *to, const void *name, size_t name_length,
+                                  const uint8_t *sha1, size_t sha1_length, const uint8_t *sha256,
+                                  size_t sha256_length);
+
+/* Both by a writer (stunp.h). */
 static inline void stunp_write_server_sign_of(stunp_writer *writer, stunp_server *server,
                                               const stunp_address *to, const void *name,
                                               size_t name_length, const void *password,
@@ -623,6 +649,18 @@ static inline void stunp_write_server_sign_of(stunp_writer *writer, stunp_server
     stunp_writer_took(writer, stunp_server_sign_of(server, writer->bytes, writer->room,
                                                    writer->length, to, name, name_length,
                                                    password, password_length));
+}
+
+static inline void stunp_write_server_sign_of_keys(stunp_writer *writer, stunp_server *server,
+                                                   const stunp_address *to, const void *name,
+                                                   size_t name_length, const uint8_t *sha1,
+                                                   size_t sha1_length, const uint8_t *sha256,
+                                                   size_t sha256_length) {
+    if (writer->refusal < 0) return;
+    stunp_writer_took(writer, stunp_server_sign_of_keys(server, writer->bytes, writer->room,
+                                                        writer->length, to, name, name_length,
+                                                        sha1, sha1_length, sha256,
+                                                        sha256_length));
 }
 
 /* ---- Its addresses: of each that was challenged a nonce is kept, the algorithms that were

@@ -1,7 +1,8 @@
 """The definitions of specs/ and the clauses of the sources, read by name.
 
-A file of specs/ is a list of paragraphs, each a definition under its comment. A word of a paragraph or of a clause means what the
-`use` lines of its file say. Names of the standard library and of the toolchain's crates are left out.
+A file of specs/ is a list of paragraphs, each a definition under its comment. A word of a paragraph
+or of a clause means what the `use` lines of its file say. Names of the standard library and of the
+toolchain's crates are left out.
 """
 
 import glob
@@ -76,6 +77,17 @@ class Definition:
         return "%s.%s" % (self.module.removeprefix("Rattle."), self.name)
 
 
+def one_line_each(paragraph):
+    """The lines of a paragraph, where imports that go over several lines are one line each."""
+    joined = []
+    for line in paragraph:
+        if joined and joined[-1].startswith(("use ", "pub use ")) and line.startswith((" ", "}")):
+            joined[-1] += line
+        else:
+            joined.append(line)
+    return joined
+
+
 class File:
     """A file of specs/."""
 
@@ -97,7 +109,7 @@ class File:
     def take(self, paragraph, first):
         """One paragraph: imports, or a definition."""
         rest = []
-        for line in paragraph:
+        for line in one_line_each(paragraph):
             if line.startswith(("use ", "pub use ")):
                 self.imports.read(line.removeprefix("pub ")[4:])
                 if line.startswith("pub "):
@@ -183,14 +195,15 @@ def closing(text, place):
 
 
 ITEM = re.compile(
-    r"\b(?:(pub(?:\([^)]*\))?)\s+)?(?:unsafe\s+|const\s+|extern\s+\"C\"\s+)*(fn|impl|trait|mod|ghost|struct|enum)\b")
+    r"\b(?:(pub(?:\([^)]*\))?)\s+)?(?:unsafe\s+|const\s+|extern\s+\"C\"\s+)*"
+    r"(fn|impl|trait|mod|ghost|struct|enum)\b")
 CLAUSE = re.compile(r"(?:ensures\*?|requires\*?)\b[^{;]*\{")
 GHOST = re.compile(r"ghost\s+(\w+)\s*(?:<[^>]*>)?\s*=\s*\{")
 INNER = re.compile(r"\s+\w+\s*([{;])")
 
 
 class Source:
-    """A file of src/: the texts of its clauses, apart as public calls, Models and the rest state them."""
+    """A file of src/: the texts of its clauses, those of public calls, Models and the rest apart."""
 
     def __init__(self, path, public_types):
         with open(path) as opened:
@@ -221,7 +234,7 @@ class Source:
                 place = self.function(item, end, is_stated)
 
     def ghost(self, item, where, is_public):
-        """A ghost item: a clause of its type or trait; a Model's coding, view and invariant are apart."""
+        """A ghost item: a clause of its type or trait, but for a Model's coding, view and invariant."""
         ghost = GHOST.match(self.text, item.start(2))
         if not ghost:
             return self.text.find(";", item.end()) + 1 or len(self.text)
@@ -247,7 +260,9 @@ class Source:
             self.scan(brace + 1, end - 1, "trait", is_pub)
             return end
         of = implementing_type(head)
-        where = "impl" if " for " not in head else "model" if re.search(r"\bModel for\b", head) else "trait impl"
+        where = "impl"
+        if " for " in head:
+            where = "model" if re.search(r"\bModel for\b", head) else "trait impl"
         self.scan(brace + 1, end - 1, where, of is None or of in self.public_types)
         return end
 
@@ -259,7 +274,8 @@ class Source:
             if depth == 0 and letter in ";{":
                 break
             depth += {"(": 1, "[": 1, ")": -1, "]": -1}.get(letter, 0)
-            clause = CLAUSE.match(self.text, place) if depth == 0 and self.text[place - 1].isspace() else None
+            is_start = depth == 0 and self.text[place - 1].isspace()
+            clause = CLAUSE.match(self.text, place) if is_start else None
             if clause:
                 after = closing(self.text, clause.end() - 1)
                 (self.public if is_stated else self.private).append(self.text[clause.end():after])

@@ -103,11 +103,11 @@ def erase_proofs(text):
 
 def erase_laws(text):
     """A law is a function that does and returns nothing, called for its contract. It stands in a
-    module of laws, or beside its callers."""
+    module of laws, or beside its callers. What pins derived impls stands in a module of derives."""
     names = re.findall(r"\buse [\w:]*\blaws as (\w+);", mask(text))
     for inside in re.findall(r"\buse [\w:]*\blaws::([^;]*);", mask(text)):
         names += re.findall(r"\w+", inside)
-    text = erase(text, r"^(?:pub )?(?:use [\w:]*\blaws\b[^;]*|mod laws);", end_of_match)
+    text = erase(text, r"^(?:pub )?(?:use [\w:]*\blaws\b[^;]*|mod (?:laws|derives));", end_of_match)
     text = in_code(text, r"^(use [^;]*)\blaws, ", r"\1")
     text = in_code(text, r"^(use [^;]*), laws\b", r"\1")
     text = erase(text, r"^[ \t]*(?:\w+::)*laws::\w+\(\);", end_of_match)
@@ -285,7 +285,7 @@ def with_used(uses, wanted):
 def export_crate(crate, places, folder):
     source = ROOT / "crates" / crate / "src"
     for path in sorted(source.rglob("*.rt")):
-        if path.name == "laws.rt":
+        if path.name in ("laws.rt", "derives.rt"):
             continue
         name = re.sub(r"^(lib|main)\.rt$", "mod.rt", str(path.relative_to(source)))
         target = (folder / crate / name).with_suffix(".rs")

@@ -1,8 +1,10 @@
 #!/usr/bin/env python3
-"""Checks that each definition is in its room: what a clause of a public call says, transitively, stands in `specs/`, and all
-other definitions in `specs/code/`. A Model's coding, view and invariant may cite `specs/code/`, and so may private functions.
+"""Checks that each definition is in its room: what a clause of a public call says, transitively,
+stands in `specs/`, and all other definitions in `specs/code/`. A Model's coding, view and invariant
+may cite `specs/code/`, and so may private functions.
 
-Run at the top of the repository. Prints each definition in the wrong room with a definition that cites it, then a count a crate.
+Run at the top of the repository. Prints each definition in the wrong room with a definition that
+cites it, then a count a crate.
 """
 
 import collections
@@ -37,13 +39,16 @@ def main():
             if is_code(definition) and definition in because:
                 wrong += 1
                 citing = because[definition]
-                print("a public clause says %s%s" % (definition, ", by %s" % citing if citing else ""))
+                by = ", by %s" % citing if citing else ""
+                print("a public clause says %s%s" % (definition, by))
             elif not is_code(definition) and definition not in because:
                 wrong += 1
                 print("no public clause says %s" % definition)
     for crate in sorted({name for name, _ in counts}):
-        print("%-12s specs %3d  specs/code %3d" % (crate, counts[(crate, False)], counts[(crate, True)]))
-    print("rooms: %s" % ("%d definitions in the wrong room" % wrong if wrong else "each definition in its room"))
+        in_specs, in_code = counts[(crate, False)], counts[(crate, True)]
+        print("%-12s specs %3d  specs/code %3d" % (crate, in_specs, in_code))
+    in_wrong = "%d definitions in the wrong room" % wrong
+    print("rooms: %s" % (in_wrong if wrong else "each definition in its room"))
     return 1 if wrong else 0
 
 

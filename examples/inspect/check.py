@@ -1,6 +1,6 @@
 #!/usr/bin/env python3
 """Runs the built stun_inspect on the transcripts of this folder, and compares its names with those of `registry` and its word on
-FINGERPRINTs with Python's zlib.
+FINGERPRINTs with Python's zlib. It also reads an input of exactly the most bytes, and one of a byte more.
 
     examples/inspect/check.py [PROGRAM ..]
 
@@ -23,6 +23,11 @@ import play  # noqa: E402
 
 REFUSED = 2, b"stun_inspect: an allocation failed\n"
 FINGERPRINT = 0x8028
+
+# The most bytes of an input.
+LIMIT = 67_108_864
+ENDLESS = b"the input does not end within 67108864 bytes and 1048576 reads\n"
+NO_TEXT = b"bad input at line 1, column 1: looked for text, a capture, or a message, which has 2112a442 at its byte 4\n"
 
 
 def names():
@@ -102,12 +107,20 @@ def tells_fingerprints(program):
             wants(f"a FINGERPRINT with bit {bit} of byte {place} changed", "wrong", decoded(program, bytes(changed))[-1].split(", ")[-1])
 
 
+def reads_to_the_limit(program):
+    """An input of exactly the most bytes is read, here only to be none, and one of a byte more is not."""
+    for length, words in ((LIMIT, NO_TEXT), (LIMIT + 1, ENDLESS)):
+        program.count += 1
+        ran = subprocess.run([program.path, "decode"], input=b"\xff" * length, stdout=subprocess.PIPE, stderr=subprocess.PIPE, timeout=120)
+        wants(f"an input of {length} bytes", (2, b"", b"stun_inspect: " + words), (ran.returncode, ran.stdout, ran.stderr))
+
+
 def main(paths):
     count, wrong = 0, 0
     for path in paths or [os.path.join(HERE, "..", "..", "crates", "stun_inspect", "out", "stun_inspect")]:
         program = play.Program(path, REFUSED)
         wrong += play.play(program, sorted(glob.glob(os.path.join(HERE, "*.txt"))))
-        for subject in (names_attributes, names_methods, names_errors, tells_fingerprints):
+        for subject in (names_attributes, names_methods, names_errors, tells_fingerprints, reads_to_the_limit):
             try:
                 subject(program)
             except (play.Wrong, ValueError) as failure:

@@ -20,7 +20,7 @@ use core::time::Duration;
 pub use crate::exported::stun_auth::auth::{
     Feature, LONG_TERM_RFC8489_NONCE_COOKIE, LongTermClientAuthError,
     LongTermClientAuthErrorReason, LongTermClientValidation, LongTermServerAuthError,
-    LongTermServerAuthErrorReason, LongTermServerValidation, NamedUser,
+    LongTermServerAuthErrorReason, LongTermServerValidation, NamedUser, StoredKeys,
 };
 pub use crate::nonce::NonceSecurityBits;
 
@@ -478,6 +478,25 @@ impl LongTermServerAuth {
         LongTermServerUser {
             proved: granted(self.proved.prepare_user(credentials.0)),
         }
+    }
+
+    /// A user with stored keys in the place of a password: those that were made of it
+    /// at the server's realm. A key for an algorithm that the server does not support is not used.
+    pub fn prepare_user_with_keys(&self, username: String, keys: StoredKeys) -> LongTermServerUser {
+        LongTermServerUser {
+            proved: granted(self.proved.prepare_user_with_keys(text(username), keys)),
+        }
+    }
+
+    /// The algorithm of a message's digest, where it verifies under the key that the registered user
+    /// of a name has for a supported algorithm. It is no verdict: no nonce is read.
+    pub fn user_verifies(
+        &self,
+        name: &str,
+        algorithm: IntegrityAlgorithm,
+        message: &Message<'_>,
+    ) -> Option<IntegrityAlgorithm> {
+        self.proved.user_verifies(name, algorithm, &message.0)
     }
 
     /// Judges a message as the server that has just this user, where a source of random numbers

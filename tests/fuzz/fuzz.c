@@ -585,12 +585,43 @@ static size_t signed_length(int64_t answer, size_t room, size_t length) {
     return (size_t)answer;
 }
 
-/* A user who is kept elsewhere, and handed in. */
+/* A user who is kept elsewhere: not handed in, by a password, or by stored keys. */
+enum handing { NOT_HANDED, BY_PASSWORD, BY_KEYS };
 #define HANDED TEXT("name"), TEXT("word")
+
+/* That user's keys, and how many bytes of them are handed in. */
+static struct {
+    uint8_t sha1[STUNP_SHA1_KEY_LENGTH + 1], sha256[STUNP_SHA256_KEY_LENGTH + 1];
+    size_t sha1_length, sha256_length;
+} stored;
+#define STORED TEXT("name"), stored.sha1, stored.sha1_length, stored.sha256, stored.sha256_length
+
+/* Two bits of a setting: not handed in, by the password, by both keys, or by keys of lengths that
+ * the setting says. */
+static enum handing handing_of(unsigned bits, uint8_t setting) {
+    if (bits < 2) return bits == 0 ? NOT_HANDED : BY_PASSWORD;
+    stunp_long_term_key(STUNP_SHA1, TEXT("name"), TEXT("realm"), TEXT("word"), stored.sha1,
+                        sizeof stored.sha1);
+    stunp_long_term_key(STUNP_SHA256, TEXT("name"), TEXT("realm"), TEXT("word"), stored.sha256,
+                        sizeof stored.sha256);
+    stored.sha1_length = STUNP_SHA1_KEY_LENGTH, stored.sha256_length = STUNP_SHA256_KEY_LENGTH;
+    if (bits == 3) {
+        stored.sha1_length -= setting % 2 == 0 ? 16 : setting % 18u - 1;
+        stored.sha256_length -= setting % 4 < 2 ? 32 : setting % 34u - 1;
+    }
+    return BY_KEYS;
+}
+
+/* Whether keys are handed in of which one has the length of none. */
+static bool are_refused(enum handing by) {
+    return by == BY_KEYS
+           && ((stored.sha1_length != 0 && stored.sha1_length != STUNP_SHA1_KEY_LENGTH)
+               || (stored.sha256_length != 0 && stored.sha256_length != STUNP_SHA256_KEY_LENGTH));
+}
 
 /* The server's answer to a request with this id, in `out`, and its length, or 0. */
 static size_t answer_to(const uint8_t *id, int64_t verdict, const stunp_address *to, size_t room,
-                        bool is_handed) {
+                        enum handing by) {
     uint32_t code = verdict == STUNP_BAD_REQUEST ? 400 : verdict == STUNP_STALE_NONCE ? 438 : 401;
     fill_out();
     int64_t length = stunp_begin(verdict > 0 ? STUNP_SUCCESS : STUNP_ERROR, STUNP_BINDING, id,
@@ -603,8 +634,14 @@ static size_t answer_to(const uint8_t *id, int64_t verdict, const stunp_address 
     if (length < 0) return 0;
     memcpy(before, out, ROOM);
     int64_t answer =
-        is_handed ? stunp_server_sign_of(&world.server, out, room, (size_t)length, to, HANDED)
-                  : stunp_server_sign(&world.server, out, room, (size_t)length, to);
+        by == BY_KEYS
+            ? stunp_server_sign_of_keys(&world.server, out, room, (size_t)length, to, STORED)
+        : by == BY_PASSWORD
+            ? stunp_server_sign_of(&world.server, out, room, (size_t)length, to, HANDED)
+            : stunp_server_sign(&world.server, out, room, (size_t)length, to);
+    if (are_refused(by))
+        require(answer == (world.server.is_full ? STUNP_BAD_ARGUMENT : STUNP_EMPTY_HANDLE),
+                "signed by keys of other lengths");
     return signed_length(answer, room, (size_t)length);
 }
 
@@ -624,7 +661,7 @@ static void ask_who(const uint8_t *message, size_t length, const stunp_address *
 }
 
 static int64_t server_hears(const uint8_t *message, size_t length, const stunp_address *from,
-                            bool is_handed) {
+                            enum handing by) {
     uint8_t name[1024], nonce[64];
     size_t name_length = 77;
     bool is_full = world.server.is_full;
@@ -634,13 +671,19 @@ static int64_t server_hears(const uint8_t *message, size_t length, const stunp_a
     bool is_too_many = !is_kept && kept >= 0 && (size_t)kept >= world.most;
     ask_who(message, length, from, length % 64);
     int64_t verdict = named(
-        is_handed
+        by == BY_KEYS
+            ? stunp_server_validate_of_keys(&world.server, message, length, from, world.now, words,
+                                            STORED)
+        : by == BY_PASSWORD
             ? stunp_server_validate_of(&world.server, message, length, from, world.now, words, HANDED)
             : stunp_server_validate(&world.server, message, length, from, world.now, words));
     require(verdict != 0 && verdict <= STUNP_SHA256, "another verdict of the server");
     if (is_full && is_address(from) && parsed == 0)
         require((verdict == STUNP_TOO_MANY_ADDRESSES) == is_too_many, "another bound");
+    if (is_full && is_address(from) && parsed == 0 && !is_too_many && are_refused(by))
+        require(verdict == STUNP_BAD_ARGUMENT, "a verdict by keys of other lengths");
     int64_t kept_now = stunp_server_address_count(&world.server);
+    if (are_refused(by)) require(kept_now == kept, "an address by keys of other lengths");
     require(kept_now == kept || (kept_now == kept + 1 && !is_kept && !is_too_many),
             "another number of addresses");
     if (!is_full || !is_address(from) || parsed < 0)
@@ -672,11 +715,11 @@ static int64_t client_hears(const uint8_t *message, size_t length) {
 static void to_server(struct bytes m, uint8_t setting) {
     stunp_header header;
     const stunp_address *from = address_of(setting);
-    bool is_handed = (setting & 8) != 0;
-    int64_t verdict = server_hears(m.at, m.length, from, is_handed);
+    enum handing by = handing_of(setting / 8u % 4, setting / 32);
+    int64_t verdict = server_hears(m.at, m.length, from, by);
     if (stunp_read_header(m.at, m.length, &header) < 0 || !is_address(from)) return;
     size_t room = setting % 2 == 0 ? ROOM / 2 : (size_t)setting;
-    size_t length = answer_to(header.id, verdict, from, room, is_handed);
+    size_t length = answer_to(header.id, verdict, from, room, by);
     if (length > 0 && setting % 4 < 2) client_hears(out, length);
 }
 
@@ -707,11 +750,11 @@ static void exchange(struct bytes m, uint8_t setting) {
     if (setting & 64) is_request_changed = change(m, length);
     uint8_t *at = pages + pages_length - length;
     memcpy(at, out, length);
-    bool is_handed = (setting & 16) != 0;
-    int64_t verdict = server_hears(at, length, from, is_handed);
+    enum handing by = handing_of(setting / 16u % 4, setting);
+    int64_t verdict = server_hears(at, length, from, by);
     if (is_request_changed) require(verdict <= 0, "a changed request is validated");
     if (!is_address(from) || !is_both_full) return;
-    length = answer_to(id, verdict, from, ROOM / 2, is_handed);
+    length = answer_to(id, verdict, from, ROOM / 2, by);
     if (length == 0) return;
     bool is_answer_changed = setting & 128 && change(m, length);
     at = pages + pages_length - length;

@@ -45,6 +45,8 @@ def sequences():
     yield meet * 4
     handed = step("EXCHANGE", 16)
     yield handed * 4 + meet * 2 + step("USERS", 4) + handed * 3
+    by_keys, by_others = step("EXCHANGE", 32), step("EXCHANGE", 55)
+    yield by_keys * 4 + by_others + handed + step("USERS", 4) + by_keys * 2 + step("EXCHANGE", 48)
     yield step("SERVER_IS_SET", 3) + step("CLIENT_IS_SET", 8) + meet * 3 + change + meet
     late = step("TIME", 255) * 6
     yield meet * 2 + late + meet * 3 + step("FORGET", 2) + step("FORGET", 5) + meet * 2

@@ -1,7 +1,7 @@
 //! The files of blocks, pcapng: sections, and in each interfaces and packets.
 ghost use Rattle.std.specs.Prelude.{◌≡◌, ◌≤◌, ◌+◌, IfOk, drop, length};
 ghost use Rattle.captures.specs.Numbers.{number_in};
-ghost use Rattle.captures.specs.Records.{BLOCK_LENGTH, block_body};
+ghost use Rattle.captures.specs.Records.{BLOCK_LENGTH, block_body, IsEndedBy};
 
 use crate::clock::Moment;
 use crate::damage::Fault;
@@ -71,6 +71,10 @@ pub fn order_of(order: Order, bytes: &[u8]) -> Result<Order, Fault> {
 pub fn block_of<'a>(order: Order, bytes: &'a [u8]) -> Result<Block<'a>, Fault>
     ensures body { IfOk result (λ block.
         block.body.now ≡ block_body (number_in order 4 (drop 4 bytes.now)) bytes.now) }
+    ensures ends { IfOk result (λ block. IsEndedBy
+        (number_in order 4 (drop 4 bytes.now)) order bytes.now) }
+    ensures rest { IfOk result (λ block.
+        block.rest.now ≡ drop (number_in order 4 (drop 4 bytes.now)) bytes.now) }
     ensures shorter { IfOk result (λ block.
         length block.rest.now + BLOCK_LENGTH ≤ length bytes.now) }
 {

@@ -1,6 +1,6 @@
 //! The files of libpcap: a header, and then a record for each packet.
-ghost use Rattle.std.specs.Prelude.{◌≡◌, ◌≤◌, ◌+◌, IfSome, length};
-ghost use Rattle.captures.specs.Records.{RECORD_LENGTH, packet_bytes};
+ghost use Rattle.std.specs.Prelude.{◌≡◌, ◌≤◌, ◌<◌, ◌+◌, IfSome, IfNone, drop, length};
+ghost use Rattle.captures.specs.Records.{RECORD_LENGTH, packet_bytes, record_length};
 
 use crate::numbers::{Order, count_32, number_32};
 
@@ -60,14 +60,16 @@ pub fn header_of(bytes: &[u8]) -> Option<Header> {
 
 /// The record at the front of these bytes, where it is whole.
 pub fn record_of<'a>(order: Order, bytes: &'a [u8]) -> Option<Record<'a>>
+    ensures none { IfNone result (length bytes.now < record_length order bytes.now) }
     ensures packet { IfSome result (λ found. found.bytes.now ≡ packet_bytes order bytes.now) }
+    ensures rest { IfSome result (λ found.
+        found.rest.now ≡ drop (record_length order bytes.now) bytes.now) }
     ensures shorter { IfSome result (λ found.
         length found.rest.now + RECORD_LENGTH ≤ length bytes.now) }
 {
     let count = count_32(order, bytes, 8)?;
-    let rest = bytes.get(RECORD_LENGTH..)?;
-    let packet = rest.get(..count)?;
-    let rest = rest.get(count..)?;
+    let packet = bytes.get(RECORD_LENGTH..)?.get(..count)?;
+    let rest = bytes.get(RECORD_LENGTH + count..)?;
     Some(Record {
         seconds: number_32(order, bytes, 0)?,
         ticks: number_32(order, bytes, 4)?,

@@ -13,6 +13,7 @@ pub enum Order {
 
 /// The number of 16 bits at a place, where it is whole.
 pub fn number_16(order: Order, bytes: &[u8], place: usize) -> Option<u16>
+    ensures none { IfNone result (length bytes.now < place + 2) }
     ensures some { IfSome result (λ number. number ≡ number_in order 2 (drop place bytes.now)) }
 {
     let bytes = bytes.get(place..)?;
@@ -27,6 +28,7 @@ pub fn number_16(order: Order, bytes: &[u8], place: usize) -> Option<u16>
 
 /// The number of 32 bits at a place, where it is whole.
 pub fn number_32(order: Order, bytes: &[u8], place: usize) -> Option<u32>
+    ensures none { IfNone result (length bytes.now < place + 4) }
     ensures some { IfSome result (λ number. number ≡ number_in order 4 (drop place bytes.now)) }
 {
     let bytes = bytes.get(place..)?;
@@ -41,6 +43,7 @@ pub fn number_32(order: Order, bytes: &[u8], place: usize) -> Option<u32>
 
 /// A number of 32 bits as a count of bytes.
 pub fn count_32(order: Order, bytes: &[u8], place: usize) -> Option<usize>
+    ensures none { IfNone result (length bytes.now < place + 4) }
     ensures some { IfSome result (λ number. number ≡ number_in order 4 (drop place bytes.now)) }
 {
     let number = number_32(order, bytes, place)?;

@@ -5,9 +5,9 @@ use Rattle.std.specs.Option.{option_map, option_map_or, option_or, is_some}
 use Rattle.std.specs.declared.net.socket_addr.SocketAddr.{SocketAddr}
 use Rattle.std.proofs.lemmas.List.{length-map}
 use Rattle.stun_base.specs.Header.{transaction_id_field, header_refusal}
-use Rattle.stun_base.specs.declared.error.StunParseError.{StunParseError}
-use Rattle.stun_base.specs.declared.message_type.MessageClass.{MessageClass}
-use Rattle.stun_base.specs.declared.message_type.MessageClass.TheVariants.{Request, Indication, Success, Error}
+use Rattle.stun_base.specs.declared.wire.error.StunParseError.{StunParseError}
+use Rattle.stun_base.specs.declared.wire.message_type.MessageClass.{MessageClass}
+use Rattle.stun_base.specs.declared.wire.message_type.MessageClass.TheVariants.{Request, Indication, Success, Error}
 use Rattle.stun_agent.specs.declared.error.StunError.{StunError}
 use Rattle.stun_agent.specs.declared.error.StunError.TheVariants.{ProtocolViolation, ParseError}
 use Rattle.stun_base.specs.MessageType.{class_in, is_request}

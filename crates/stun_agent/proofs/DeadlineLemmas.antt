@@ -5,9 +5,9 @@ use Rattle.std.specs.Option.{option_map, option_map_or}
 use Rattle.std.specs.Ordering.{nat_cmp}
 use Rattle.std.specs.BTreeMap.{is_at}
 use Rattle.std.proofs.lemmas.Bool.{le-leb, eq-eqb, ne_eqb}
-use Rattle.stun_base.specs.declared.transport.TransportType.{TransportType}
-use Rattle.stun_agent.specs.declared.deadlines.Deadline.{Deadline}
-use Rattle.stun_agent.specs.declared.deadlines.DeadlineKind.TheVariants.{Cancelled, End, Slot}
+use Rattle.stun_base.specs.declared.wire.transport.TransportType.{TransportType}
+use Rattle.stun_agent.specs.declared.state.deadlines.Deadline.{Deadline}
+use Rattle.stun_agent.specs.declared.state.deadlines.DeadlineKind.TheVariants.{Cancelled, End, Slot}
 use Rattle.stun_agent.specs.Transactions.{Transaction, Transactions, IsAscending, at, with, without, awaited, has_slots, is_cancelled, is_over, first_over, sooner}
 use Rattle.stun_agent.specs.code.Deadlines.{deadline_of, is_end, has_ended, least_ended, earliest, entries_at, IsIndexOf}
 use Rattle.stun_agent.proofs.Ascending.{find-none, find-least, lookup-remove_other, lookup-insert_same, lookup-insert_other}

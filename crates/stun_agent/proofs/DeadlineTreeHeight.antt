@@ -5,11 +5,11 @@ use Rattle.std.specs.List.{AllByRecursion, IsDistinct}
 use Rattle.std.proofs.lemmas.Bool.{eqb-true, eqb-false, eq-eqb, ne_eqb}
 use Rattle.std.proofs.lemmas.Nat.{pow-add}
 use Rattle.std.proofs.lemmas.Map.Keys.{IsDistinct-head, IsDistinct-tail, IsDistinct-cons, IsDistinct-IsPermutation}
-use Rattle.stun_agent.specs.declared.deadlines.Deadline.{Deadline}
-use Rattle.stun_agent.specs.declared.deadline_tree.Link.{Link}
-use Rattle.stun_agent.specs.declared.deadline_tree.Link.TheVariants.{Empty, Held'}
+use Rattle.stun_agent.specs.declared.state.deadlines.Deadline.{Deadline}
+use Rattle.stun_agent.specs.declared.state.deadline_tree.Link.{Link}
+use Rattle.stun_agent.specs.declared.state.deadline_tree.Link.TheVariants.{Empty, Held'}
 use Rattle.stun_agent.specs.code.Deadlines.{entries_at}
-use Rattle.stun_agent.specs.code.DeadlineTree.{items, middle, height, IsWithin, IsTree, AreDistinct, IsWhole, Takes}
+use Rattle.stun_agent.specs.code.DeadlineTree.{items, middle, height, IsWithin, IsTree, AreDistinct, IsWhole, TakesOut}
 use Rattle.stun_agent.proofs.DeadlineTreeLemmas.{items_within}
 
 -- ---- distinct ids
@@ -51,7 +51,7 @@ apart id (d ∷ ds) h = by (id == d.id) refl (apart id ds) h
 distinct_put : (d : Deadline) (old new : List Deadline) → entries_at d.id old ≡ [] → IsPermutation (d ∷ old) new → AreDistinct old → AreDistinct new
 distinct_put d old new none p h = IsDistinct-IsPermutation same flips (d ∷ old) new p (IsDistinct-cons same d old (apart d.id old none) h)
 
-distinct_taken : (id : ℕ) (old : List Deadline) (taken : Option Deadline) (new : List Deadline) → Takes id old taken new → AreDistinct old → AreDistinct new
+distinct_taken : (id : ℕ) (old : List Deadline) (taken : Option Deadline) (new : List Deadline) → TakesOut id old taken new → AreDistinct old → AreDistinct new
 distinct_taken id old None new takes h = subst AreDistinct (sym takes.1) h
 distinct_taken id old (Some d) new takes h = IsDistinct-tail same d new (IsDistinct-IsPermutation same flips old (d ∷ new) takes.1 h)
 
@@ -106,5 +106,5 @@ module _ {A : Type 0} where
   pub whole_put : (d : Deadline) (old new : Link A) → entries_at d.id (items old) ≡ [] → IsPermutation (d ∷ items old) (items new) → IsTree 0 (2 ^ 96) new → IsWhole old → IsWhole new
   whole_put d old new none p tree h = whole new tree (distinct_put d (items old) (items new) none p h.distinct)
 
-  pub whole_taken : (id : ℕ) (old : Link A) (taken : Option Deadline) (new : Link A) → Takes id (items old) taken (items new) → IsTree 0 (2 ^ 96) new → IsWhole old → IsWhole new
+  pub whole_taken : (id : ℕ) (old : Link A) (taken : Option Deadline) (new : Link A) → TakesOut id (items old) taken (items new) → IsTree 0 (2 ^ 96) new → IsWhole old → IsWhole new
   whole_taken id old taken new takes tree h = whole new tree (distinct_taken id (items old) taken (items new) takes h.distinct)

@@ -8,12 +8,12 @@ use Rattle.std.proofs.lemmas.Bool.{le-leb, lt-leb, leb-true, leb-false, ltb-true
 use Rattle.std.proofs.lemmas.List.{map-append}
 use Rattle.std.proofs.lemmas.List.Elements.{filter-append}
 use Rattle.std.proofs.lemmas.List.Sums.{fold-append}
-use Rattle.stun_agent.specs.declared.deadlines.Deadline.{Deadline}
-use Rattle.stun_agent.specs.declared.deadline_tree.Link.{Link}
-use Rattle.stun_agent.specs.declared.deadline_tree.Node.{Node}
+use Rattle.stun_agent.specs.declared.state.deadlines.Deadline.{Deadline}
+use Rattle.stun_agent.specs.declared.state.deadline_tree.Link.{Link}
+use Rattle.stun_agent.specs.declared.state.deadline_tree.Node.{Node}
 use Rattle.stun_agent.specs.Transactions.{sooner}
 use Rattle.stun_agent.specs.code.Deadlines.{is_passed, lesser}
-use Rattle.stun_agent.specs.code.DeadlineTree.{items, middle, IsFirst, IsTree, IsBelow, least_come, first_come, with_id}
+use Rattle.stun_agent.specs.code.DeadlineTree.{items, middle, IsFirst, IsTree, IsBelow, least_come, first_has_come, with_id}
 use Rattle.stun_agent.proofs.DeadlineTreeLemmas.{all_weaker, items_within, BeginsSoonest, begins_soonest}
 
 -- ---- the least of numbers
@@ -143,7 +143,7 @@ lesser_sooner (Some k) n (Some m) = ap Some (let same : min (min k n) m ≡ min 
 
 module _ (now : ℕ) where
   -- where the left begins with one that has come, its least is that of all
-  on_left : (m : ℕ) (ls rs : List Deadline) → first_come now ls ≡ true → AllByRecursion (λ (d : Deadline). d.id < m) ls → AllByRecursion (λ (d : Deadline). m ≤ d.id) rs
+  on_left : (m : ℕ) (ls rs : List Deadline) → first_has_come now ls ≡ true → AllByRecursion (λ (d : Deadline). d.id < m) ls → AllByRecursion (λ (d : Deadline). m ≤ d.id) rs
       → least_come now None (ls ++ rs) ≡ least_come now None ls
   on_left m [] rs come less from = cc
   on_left m (d ∷ ds) rs come less from = by (least_come now None ds) (with_top now None d ds (leb-true d.moment now come))
@@ -153,7 +153,7 @@ module _ (now : ℕ) where
       by (Some k) h = sym (finds_left now None m (d ∷ ds) rs (min k d.id) h less from) ∙ h
 
   -- and where it begins with a late one, or with none, it has none that has come
-  on_right : (ls rs : List Deadline) → first_come now ls ≡ false → BeginsSoonest ls → least_come now None (ls ++ rs) ≡ least_come now None rs
+  on_right : (ls rs : List Deadline) → first_has_come now ls ≡ false → BeginsSoonest ls → least_come now None (ls ++ rs) ≡ least_come now None rs
   on_right [] rs late h = refl
   on_right (d ∷ ds) rs late h =
       let after : now < d.moment = let far = leb-false d.moment now late in omega arith in
@@ -163,11 +163,11 @@ module _ (now : ℕ) where
     with_one : (o : Option ℕ) → least_come now None (ls ++ rs) ≡ o → lesser (sooner least d.id) o ≡ lesser least (least_come now None (d ∷ (ls ++ rs)))
     with_one o is = lesser_sooner least d.id o ∙ ap (λ p. lesser least (sooner p d.id)) (sym is) ∙ ap (lesser least) (with_top now None d (ls ++ rs) come)
 
-    pub goes_left : (m : ℕ) → true ≡ first_come now ls → AllByRecursion (λ (d : Deadline). d.id < m) ls → AllByRecursion (λ (d : Deadline). m ≤ d.id) rs
+    pub goes_left : (m : ℕ) → true ≡ first_has_come now ls → AllByRecursion (λ (d : Deadline). d.id < m) ls → AllByRecursion (λ (d : Deadline). m ≤ d.id) rs
         → lesser (sooner least d.id) (least_come now None ls) ≡ lesser least (least_come now None (d ∷ (ls ++ rs)))
     goes_left m first less from = with_one (least_come now None ls) (on_left m ls rs (sym first) less from)
 
-    pub goes_right : false ≡ first_come now ls → BeginsSoonest ls → lesser (sooner least d.id) (least_come now None rs) ≡ lesser least (least_come now None (d ∷ (ls ++ rs)))
+    pub goes_right : false ≡ first_has_come now ls → BeginsSoonest ls → lesser (sooner least d.id) (least_come now None rs) ≡ lesser least (least_come now None (d ∷ (ls ++ rs)))
     goes_right first soonest = with_one (least_come now None rs) (on_right ls rs (sym first) soonest)
 
 -- ---- the two sides of a node

@@ -6,11 +6,11 @@ use Rattle.std.proofs.lemmas.Bool.{leb-true, leb-false, ne_eqb, eqb-true, eqb-fa
 use Rattle.std.proofs.lemmas.List.Elements.{All-from_recursion, recursion_from_All, filter-append}
 use Rattle.std.proofs.lemmas.List.Sorted.{All-permutation, IsPermutation-refl, IsPermutation-sym, IsPermutation-trans, IsPermutation-cons, IsPermutation-middle, IsPermutation-append_left, IsPermutation-append_right}
 use Rattle.stun_agent.specs.code.Deadlines.{entries_at}
-use Rattle.stun_agent.specs.declared.deadlines.Deadline.{Deadline}
-use Rattle.stun_agent.specs.declared.deadline_tree.Link.{Link}
-use Rattle.stun_agent.specs.declared.deadline_tree.Link.TheVariants.{Empty, Held'}
-use Rattle.stun_agent.specs.declared.deadline_tree.Node.{Node}
-use Rattle.stun_agent.specs.code.DeadlineTree.{items, below, middle, is_no_later, IsWithin, IsFirst, IsTop, IsTree, IsBelow, IsExchanged, IsAlone, IsNextTaken, Takes, TakesFirst, TakesNext, first_of, next_of}
+use Rattle.stun_agent.specs.declared.state.deadlines.Deadline.{Deadline}
+use Rattle.stun_agent.specs.declared.state.deadline_tree.Link.{Link}
+use Rattle.stun_agent.specs.declared.state.deadline_tree.Link.TheVariants.{Empty, Held'}
+use Rattle.stun_agent.specs.declared.state.deadline_tree.Node.{Node}
+use Rattle.stun_agent.specs.code.DeadlineTree.{items, below, middle, is_no_later, IsWithin, IsFirst, IsTop, IsTree, IsBelow, IsExchanged, IsAlone, IsNextTaken, TakesOut, TakesFirst, TakesNext, first_of, next_of}
 
 -- ---- lists
 pub all_permuted : {X : Type 0} (P : X → Type 0) (xs ys : List X) → IsPermutation xs ys → AllByRecursion P xs → AllByRecursion P ys
@@ -212,11 +212,11 @@ next_top low high d next old new within h taken =
     (record { within = all.0; left = first.0; right = first.1 }, sides.0, sides.1)
 
 -- ---- taking by the id
-takes_all : (P : Deadline → Type 0) (id : ℕ) (old : List Deadline) (taken : Option Deadline) (new : List Deadline) → Takes id old taken new → AllByRecursion P old → AllByRecursion P new
+takes_all : (P : Deadline → Type 0) (id : ℕ) (old : List Deadline) (taken : Option Deadline) (new : List Deadline) → TakesOut id old taken new → AllByRecursion P old → AllByRecursion P new
 takes_all P id old None new h all = subst (AllByRecursion P) (sym h.1) all
 takes_all P id old (Some d) new h all = (all_permuted P old (d ∷ new) h.1 all).1
 
-pub takes_top : (id : ℕ) (d : Deadline) (ds : List Deadline) (taken : Option Deadline) (new : List Deadline) → d.id ≡ id → TakesFirst (d ∷ ds) taken new → Takes id (d ∷ ds) taken new
+pub takes_top : (id : ℕ) (d : Deadline) (ds : List Deadline) (taken : Option Deadline) (new : List Deadline) → d.id ≡ id → TakesFirst (d ∷ ds) taken new → TakesOut id (d ∷ ds) taken new
 takes_top id d ds taken new key h = rw h.0 (key, IsPermutation-cons d ds new h.1)
 
 -- what a test of two ids tells
@@ -231,10 +231,10 @@ entries_none id [] h = refl
 entries_none id (d ∷ ds) h = rw (ne_eqb id d.id h.0) (entries_none id ds h.1)
 
 module _ (id : ℕ) (d : Deadline) (ls rs : List Deadline) (taken : Option Deadline) (new : List Deadline) (other : id ≢ d.id) where
-  pub takes_from_left : AllByRecursion (λ (e : Deadline). id ≢ e.id) rs → Takes id ls taken new → Takes id (d ∷ (ls ++ rs)) taken (d ∷ (new ++ rs))
+  pub takes_from_left : AllByRecursion (λ (e : Deadline). id ≢ e.id) rs → TakesOut id ls taken new → TakesOut id (d ∷ (ls ++ rs)) taken (d ∷ (new ++ rs))
   takes_from_left none h = by taken h
     where
-      by : (taken : Option Deadline) → Takes id ls taken new → Takes id (d ∷ (ls ++ rs)) taken (d ∷ (new ++ rs))
+      by : (taken : Option Deadline) → TakesOut id ls taken new → TakesOut id (d ∷ (ls ++ rs)) taken (d ∷ (new ++ rs))
       by None h = (
         rw (ne_eqb id d.id other, filter-append (λ (e : Deadline). id == e.id) ls rs, h.0) (entries_none id rs none),
         ap (λ xs. d ∷ (xs ++ rs)) h.1,
@@ -242,10 +242,10 @@ module _ (id : ℕ) (d : Deadline) (ls rs : List Deadline) (taken : Option Deadl
       by (Some e) h =
           (h.0, IsPermutation-trans _ _ _ (IsPermutation-cons d _ _ (IsPermutation-append_left rs ls (e ∷ new) h.1)) (exchange d e (new ++ rs)))
 
-  pub takes_from_right : AllByRecursion (λ (e : Deadline). id ≢ e.id) ls → Takes id rs taken new → Takes id (d ∷ (ls ++ rs)) taken (d ∷ (ls ++ new))
+  pub takes_from_right : AllByRecursion (λ (e : Deadline). id ≢ e.id) ls → TakesOut id rs taken new → TakesOut id (d ∷ (ls ++ rs)) taken (d ∷ (ls ++ new))
   takes_from_right none h = by taken h
     where
-      by : (taken : Option Deadline) → Takes id rs taken new → Takes id (d ∷ (ls ++ rs)) taken (d ∷ (ls ++ new))
+      by : (taken : Option Deadline) → TakesOut id rs taken new → TakesOut id (d ∷ (ls ++ rs)) taken (d ∷ (ls ++ new))
       by None h = (
         rw (ne_eqb id d.id other, filter-append (λ (e : Deadline). id == e.id) ls rs, entries_none id ls none) h.0,
         ap (λ xs. d ∷ (ls ++ xs)) h.1,
@@ -266,8 +266,8 @@ module _ {A : Type 0} (low high : ℕ) (l : Link A) (tree : IsTree low high l) w
 
 -- the top stays
 module _ (id low high : ℕ) (d : Deadline) (ls rs : List Deadline) (taken : Option Deadline) (new : List Deadline) where
-  pub top_left_taken : Takes id ls taken new → IsTop low high d ls rs → IsTop low high d new rs
+  pub top_left_taken : TakesOut id ls taken new → IsTop low high d ls rs → IsTop low high d new rs
   top_left_taken h top = record { within = top.within; left = takes_all _ id ls taken new h top.left; right = top.right }
 
-  pub top_right_taken : Takes id rs taken new → IsTop low high d ls rs → IsTop low high d ls new
+  pub top_right_taken : TakesOut id rs taken new → IsTop low high d ls rs → IsTop low high d ls new
   top_right_taken h top = record { within = top.within; left = top.left; right = takes_all _ id rs taken new h top.right }

@@ -7,9 +7,9 @@ use Rattle.std.specs.Ordering.{nat_cmp}
 use Rattle.std.specs.BTreeMap.{is_at}
 use Rattle.std.proofs.lemmas.Bool.{cases_lt, le-leb, lt-leb, leb-true}
 use Rattle.std.proofs.lemmas.Map.Keys.{sorted_tail}
-use Rattle.stun_base.specs.declared.transport.TransportType.{TransportType}
-use Rattle.stun_agent.specs.declared.deadlines.Deadline.{Deadline}
-use Rattle.stun_agent.specs.declared.deadlines.DeadlineKind.TheVariants.{Cancelled, End, Slot}
+use Rattle.stun_base.specs.declared.wire.transport.TransportType.{TransportType}
+use Rattle.stun_agent.specs.declared.state.deadlines.Deadline.{Deadline}
+use Rattle.stun_agent.specs.declared.state.deadlines.DeadlineKind.TheVariants.{Cancelled, End, Slot}
 use Rattle.stun_agent.specs.Transactions.{Transaction, Transactions, IsAscending, at, awaited, has_slots, is_cancelled, is_due, repeats, next_sent, after_slot, slot_passed, after_slots, changed}
 use Rattle.stun_agent.specs.code.Deadlines.{deadline_of, is_slot, is_passed, is_slot_after, least_due, IsIndexOf}
 use Rattle.stun_agent.specs.code.Transactions.{length_sent}

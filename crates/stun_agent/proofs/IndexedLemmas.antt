@@ -6,13 +6,13 @@ use Rattle.std.specs.Map.{set_value}
 use Rattle.std.specs.Ordering.{nat_cmp}
 use Rattle.std.specs.BTreeMap.{is_at}
 use Rattle.std.specs.List.{AllByRecursion}
-use Rattle.stun_base.specs.declared.transport.TransportType.{TransportType}
-use Rattle.stun_agent.specs.declared.deadlines.Deadline.{Deadline}
+use Rattle.stun_base.specs.declared.wire.transport.TransportType.{TransportType}
+use Rattle.stun_agent.specs.declared.state.deadlines.Deadline.{Deadline}
 use Rattle.stun_agent.specs.Transactions.{Transaction, Transactions, IsAscending, IsNamed, at, with, without, changed, slot_passed, after_slots}
-use Rattle.stun_agent.specs.declared.transaction.Change.{Change}
-use Rattle.stun_agent.specs.declared.transaction.Change.TheVariants.{Silence, Cancel, Configure}
+use Rattle.stun_agent.specs.declared.state.transaction.Change.{Change}
+use Rattle.stun_agent.specs.declared.state.transaction.Change.TheVariants.{Silence, Cancel, Configure}
 use Rattle.stun_agent.specs.code.Deadlines.{deadline_of, entries_at, AreIndexed, IsIndexOf, IsReplaced}
-use Rattle.stun_agent.specs.code.Transactions.{after_change, awaited_around}
+use Rattle.stun_agent.specs.code.Transactions.{after_change, deadlines_around}
 use Rattle.stun_agent.proofs.Ascending.{IsAscending-insert, IsAscending-remove, IsAscending-map}
 use Rattle.stun_agent.proofs.DeadlineLemmas.{entry, index_with, index_without}
 use Rattle.stun_agent.proofs.NamedLemmas.{named-with, named-without, named-changed, named-after_slots}
@@ -64,10 +64,10 @@ change-bytes (Configure settings) t = refl
 
 -- where there is no transaction, nothing is changed
 pub absent_stays : (transport : TransportType) (f : Transaction → Transaction) (id : ℕ) (all : Transactions)
-    → ◌≡◌ {A = Option (Deadline × Deadline)} None (option_map (awaited_around transport f id) (at id all)) → changed f id all ≡ all
+    → ◌≡◌ {A = Option (Deadline × Deadline)} None (option_map (deadlines_around transport f id) (at id all)) → changed f id all ≡ all
 absent_stays transport f id all h = by (at id all) h
   where
-    by : (o : Option Transaction) → ◌≡◌ {A = Option (Deadline × Deadline)} None (option_map (awaited_around transport f id) o) → option_map_or (λ t. set_value (is_at (nat_cmp id)) all (f t)) o all ≡ all
+    by : (o : Option Transaction) → ◌≡◌ {A = Option (Deadline × Deadline)} None (option_map (deadlines_around transport f id) o) → option_map_or (λ t. set_value (is_at (nat_cmp id)) all (f t)) o all ≡ all
     by None h = refl
     by (Some t) h = cc
 

@@ -3,8 +3,8 @@ use Rattle.std.proofs.Common.{ℕ, ◌≡◌, ◌<◌, ◌≤◌, inl, inr, arit
 use Rattle.std.specs.Prelude.{Option, Some, None, nat_le}
 use Rattle.std.specs.Option.{option_map_or}
 use Rattle.std.proofs.lemmas.Bool.{cases_lt, le-leb, leb-true}
-use Rattle.stun_base.specs.declared.transport.TransportType.{TransportType}
-use Rattle.stun_agent.specs.declared.deadlines.Deadline.{Deadline}
+use Rattle.stun_base.specs.declared.wire.transport.TransportType.{TransportType}
+use Rattle.stun_agent.specs.declared.state.deadlines.Deadline.{Deadline}
 use Rattle.stun_agent.specs.Transactions.{Transaction, Transactions, IsAscending, at, is_due, repeats, next_sent, after_slots}
 use Rattle.stun_agent.specs.code.Deadlines.{is_passed, is_slot_after, least_due, has_come, earliest, IsIndexOf}
 use Rattle.stun_agent.proofs.DeadlineLemmas.{least-one, earliest-none, earliest-le}

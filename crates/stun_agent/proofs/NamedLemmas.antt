@@ -9,7 +9,7 @@ use Rattle.std.specs.declared.cmp.Ordering.{Ordering}
 use Rattle.std.specs.declared.cmp.Ordering.TheVariants.{Less, Equal, Greater}
 use Rattle.std.specs.BTreeMap.{is_at}
 use Rattle.std.specs.Cmp.{ranked}
-use Rattle.stun_base.specs.declared.transport.TransportType.{TransportType}
+use Rattle.stun_base.specs.declared.wire.transport.TransportType.{TransportType}
 use Rattle.stun_agent.specs.Transactions.{Transaction, Transactions, IsRequestOf, IsNamed, at, with, without, changed, after_slot, after_slots}
 
 abbrev AreNamed : Transactions → Type 0

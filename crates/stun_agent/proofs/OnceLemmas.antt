@@ -8,9 +8,9 @@ use Rattle.std.specs.Map.{set_value}
 use Rattle.std.specs.Ordering.{nat_cmp}
 use Rattle.std.specs.BTreeMap.{is_at}
 use Rattle.stun_base.specs.Header.{transaction_id_field, header_refusal}
-use Rattle.stun_base.specs.declared.error.StunParseError.{StunParseError}
-use Rattle.stun_base.specs.declared.message_type.MessageClass.{MessageClass}
-use Rattle.stun_base.specs.declared.message_type.MessageClass.TheVariants.{Request, Indication, Success, Error}
+use Rattle.stun_base.specs.declared.wire.error.StunParseError.{StunParseError}
+use Rattle.stun_base.specs.declared.wire.message_type.MessageClass.{MessageClass}
+use Rattle.stun_base.specs.declared.wire.message_type.MessageClass.TheVariants.{Request, Indication, Success, Error}
 use Rattle.stun_agent.specs.declared.error.StunError.{StunError}
 use Rattle.stun_agent.specs.declared.error.StunError.TheVariants.{AlreadyInProgress, ProtocolViolation, ParseError}
 use Rattle.stun_base.specs.MessageType.{class_in, is_request}

@@ -5,7 +5,7 @@ use Rattle.std.specs.List.{Contains}
 use Rattle.std.proofs.lemmas.Bool.{eq-eqb}
 use Rattle.std.proofs.lemmas.List.Sorted.{Contains-permutation, sum_by-IsPermutation, IsPermutation-refl, IsPermutation-trans, IsPermutation-cons}
 use Rattle.std.proofs.lemmas.List.Sums.{length-filter}
-use Rattle.stun_agent.specs.declared.deadlines.Deadline.{Deadline}
+use Rattle.stun_agent.specs.declared.state.deadlines.Deadline.{Deadline}
 use Rattle.stun_agent.specs.code.Deadlines.{entries_at, IsReplaced}
 use Rattle.stun_agent.proofs.DeadlineTreeLemmas.{exchange}
 

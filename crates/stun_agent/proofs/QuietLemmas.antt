@@ -5,7 +5,7 @@ use Rattle.std.specs.Option.{option_map_or}
 use Rattle.std.proofs.lemmas.Bool.{leb-true, ltb-true}
 use Rattle.std.proofs.lemmas.Bool.Decides.{leb_tells}
 use Rattle.stun_base.specs.Moments.{moment_after}
-use Rattle.stun_base.specs.declared.transport.TransportType.{TransportType}
+use Rattle.stun_base.specs.declared.wire.transport.TransportType.{TransportType}
 use Rattle.stun_agent.specs.declared.agent.StunAgentPollRet.TheVariants.{WaitUntil, TransactionTimedOut, TransactionCancelled}
 use Rattle.stun_agent.specs.Agent.{Agent, end_of, tallied, tally_of_end, with_transactions, poll_answer, after_poll, ended_by_poll, sent_by_poll}
 use Rattle.stun_agent.specs.Laws.{IsWait}

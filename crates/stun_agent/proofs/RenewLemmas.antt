@@ -6,11 +6,11 @@ use Rattle.std.specs.Ordering.{nat_cmp}
 use Rattle.std.specs.BTreeMap.{is_at}
 use Rattle.std.proofs.lemmas.Bool.{ne_eqb}
 use Rattle.std.proofs.lemmas.Option.{same_Some}
-use Rattle.stun_base.specs.declared.transport.TransportType.{TransportType}
-use Rattle.stun_agent.specs.declared.deadlines.Deadline.{Deadline}
+use Rattle.stun_base.specs.declared.wire.transport.TransportType.{TransportType}
+use Rattle.stun_agent.specs.declared.state.deadlines.Deadline.{Deadline}
 use Rattle.stun_agent.specs.Transactions.{Transaction, Transactions, at, changed}
 use Rattle.stun_agent.specs.code.Deadlines.{deadline_of, entries_at, IsIndexOf, IsReplaced}
-use Rattle.stun_agent.specs.code.Transactions.{awaited_around}
+use Rattle.stun_agent.specs.code.Transactions.{deadlines_around}
 use Rattle.stun_agent.proofs.DeadlineLemmas.{entry, other_key, index_permuted, rest_entries}
 use Rattle.stun_agent.proofs.EntryLemmas.{same_key}
 use Rattle.stun_agent.proofs.LookupLemmas.{at-changed, at-changed_other}
@@ -24,13 +24,13 @@ pub record IsTold (transport : TransportType) (f : Transaction → Transaction) 
   pub after_is : after ≡ deadline_of transport (id, f transaction)
 
 pub told_there : (transport : TransportType) (f : Transaction → Transaction) (id : ℕ) (all : Transactions) (before after : Deadline)
-    → ◌≡◌ {A = Option (Deadline × Deadline)} (Some (before, after)) (option_map (awaited_around transport f id) (at id all)) → IsTold transport f id all before after
+    → ◌≡◌ {A = Option (Deadline × Deadline)} (Some (before, after)) (option_map (deadlines_around transport f id) (at id all)) → IsTold transport f id all before after
 told_there transport f id all before after h = by (at id all) refl h
   where
-    by : (o : Option Transaction) → at id all ≡ o → ◌≡◌ {A = Option (Deadline × Deadline)} (Some (before, after)) (option_map (awaited_around transport f id) o) → IsTold transport f id all before after
+    by : (o : Option Transaction) → at id all ≡ o → ◌≡◌ {A = Option (Deadline × Deadline)} (Some (before, after)) (option_map (deadlines_around transport f id) o) → IsTold transport f id all before after
     by None is h = cc
     by (Some t) is h =
-        let same = same_Some (before, after) (awaited_around transport f id t) h in
+        let same = same_Some (before, after) (deadlines_around transport f id t) h in
         record { transaction = t; there = is; before_is = ap (λ (x : Deadline × Deadline). x.0) same; after_is = ap (λ (x : Deadline × Deadline). x.1) same }
 
 module _ (transport : TransportType) (f : Transaction → Transaction) (id : ℕ) (all : Transactions) (ds : List Deadline) (before after : Deadline) (index : IsIndexOf transport all ds)

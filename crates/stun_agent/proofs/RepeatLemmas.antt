@@ -5,15 +5,15 @@ use Rattle.std.specs.Option.{option_map, option_map_or, is_some}
 use Rattle.std.specs.declared.net.socket_addr.SocketAddr.{SocketAddr}
 use Rattle.std.proofs.lemmas.Bool.{le-leb}
 use Rattle.stun_base.specs.Header.{transaction_id_field}
-use Rattle.stun_base.specs.declared.message_type.MessageClass.{MessageClass}
-use Rattle.stun_base.specs.declared.message_type.MessageClass.TheVariants.{Request, Indication, Success, Error}
-use Rattle.stun_base.specs.declared.transport.TransportType.{TransportType}
-use Rattle.stun_base.specs.declared.transport.TransportType.TheVariants.{Udp, Tcp}
+use Rattle.stun_base.specs.declared.wire.message_type.MessageClass.{MessageClass}
+use Rattle.stun_base.specs.declared.wire.message_type.MessageClass.TheVariants.{Request, Indication, Success, Error}
+use Rattle.stun_base.specs.declared.wire.transport.TransportType.{TransportType}
+use Rattle.stun_base.specs.declared.wire.transport.TransportType.TheVariants.{Udp, Tcp}
 use Rattle.stun_agent.specs.declared.error.StunError.{StunError}
 use Rattle.stun_base.specs.MessageType.{class_in}
 use Rattle.stun_agent.specs.Agent.{Agent, tallied, with_validated, with_transactions, tally_of_end, tally_of_sent, sending_refusal, after_send, request_refusal, request_of, after_send_request, answered, after_class, after_response, ended_by_poll, sent_by_poll, after_poll}
 use Rattle.stun_agent.specs.Statistics.{response_received}
-use Rattle.stun_agent.specs.Calls.{AgentCall, send, send_request, receive, validate, forget, poll, poll_transmit, cancel_retransmissions, cancel, configure, after_agent_call, after_agent_calls, is_id, repeats_request, once, allowed, repetitions_until_end, most_allowed}
+use Rattle.stun_agent.specs.Calls.{AgentCall, send, send_request, receive, validate, forget, poll, poll_transmit, cancel_retransmissions, cancel, configure, after_agent_call, after_agent_calls, is_id, repeats_request, once, transmissions_allowed, repetitions_until_end, most_transmissions_allowed}
 use Rattle.stun_agent.specs.Timing.{slots}
 use Rattle.stun_agent.specs.Transactions.{Transaction, Transactions, IsAscending, at, with, without, changed, silenced, cancelled, configured, repeats, is_due, slot_passed, after_slot, after_slots, round_trip}
 use Rattle.stun_agent.proofs.Ascending.{lookup-remove_other, lookup-insert_other, lookup-insert_same}
@@ -198,23 +198,23 @@ slots_within Udp t = omega arith
 slots_within Tcp t = omega arith
 
 bounded : (id : ℕ) (calls : List AgentCall) (a : Agent) (t : Transaction) → IsAscending a.transactions → at id a.transactions ≡ Some t
-    → t.slot + repetitions_until_end id calls a ≤ max t.slot (max 1 (most_allowed id calls a) - 1)
+    → t.slot + repetitions_until_end id calls a ≤ max t.slot (max 1 (most_transmissions_allowed id calls a) - 1)
 bounded id [] a t s there = omega arith
 bounded id (call ∷ calls) a t s there =
     let slot = slot_call id call a t s there in
     let few = slots_within a.transport t in
-    let own : allowed id a ≡ t.settings.transmissions = ap (λ (o : Option Transaction). option_map_or (λ u. u.settings.transmissions) o 0) there in
+    let own : transmissions_allowed id a ≡ t.settings.transmissions = ap (λ (o : Option Transaction). option_map_or (λ u. u.settings.transmissions) o 0) there in
     by (at id (after_agent_call call a).transactions) refl slot.rises slot.within few own (bounded id calls (after_agent_call call a))
   where
     by : (after : Option Transaction) → at id (after_agent_call call a).transactions ≡ after
         → IfSome after (λ u. (t.slot + once (repeats_request id call a) ≤ u.slot) × (u.slot ≤ max t.slot (slots a.transport t.settings)))
         → t.slot + once (repeats_request id call a) ≤ max t.slot (slots a.transport t.settings)
         → slots a.transport t.settings ≤ max 1 t.settings.transmissions - 1
-        → allowed id a ≡ t.settings.transmissions
+        → transmissions_allowed id a ≡ t.settings.transmissions
         → ((u : Transaction) → IsAscending (after_agent_call call a).transactions → at id (after_agent_call call a).transactions ≡ Some u
-        → u.slot + repetitions_until_end id calls (after_agent_call call a) ≤ max u.slot (max 1 (most_allowed id calls (after_agent_call call a)) - 1))
+        → u.slot + repetitions_until_end id calls (after_agent_call call a) ≤ max u.slot (max 1 (most_transmissions_allowed id calls (after_agent_call call a)) - 1))
         → t.slot + (once (repeats_request id call a) + cond (is_some after) (repetitions_until_end id calls (after_agent_call call a)) 0)
-        ≤ max t.slot (max 1 (max (allowed id a) (cond (is_some after) (most_allowed id calls (after_agent_call call a)) 0)) - 1)
+        ≤ max t.slot (max 1 (max (transmissions_allowed id a) (cond (is_some after) (most_transmissions_allowed id calls (after_agent_call call a)) 0)) - 1)
     by None is rises within few own rest = omega (arith, within, few, own)
     by (Some u) is rises within few own rest = let more = rest u (ascending_call call a s) is in omega (arith, rises.0, rises.1, few, own, more)
 
@@ -244,7 +244,7 @@ first_too r m h = omega arith
 pub transmitted_at_most : (earlier later : List AgentCall) (start : Agent) (bytes : List ℕ) (to : SocketAddr) (now : ℕ) → start.transactions ≡ []
     → request_refusal (after_agent_calls earlier start) bytes to ≡ None
     → (1 + repetitions_until_end (transaction_id_field bytes) later (after_send_request (after_agent_calls earlier start) bytes to now)
-    ≤ max 1 (most_allowed (transaction_id_field bytes) later (after_send_request (after_agent_calls earlier start) bytes to now)))
+    ≤ max 1 (most_transmissions_allowed (transaction_id_field bytes) later (after_send_request (after_agent_calls earlier start) bytes to now)))
     × (start.transport ≡ Tcp → repetitions_until_end (transaction_id_field bytes) later (after_send_request (after_agent_calls earlier start) bytes to now) ≡ 0)
 transmitted_at_most earlier later start bytes to now none accepted =
     let before = after_agent_calls earlier start in

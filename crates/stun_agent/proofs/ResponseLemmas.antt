@@ -6,9 +6,9 @@ use Rattle.std.specs.Option.{is_some, option_map_or}
 use Rattle.std.specs.declared.net.socket_addr.SocketAddr.{SocketAddr}
 use Rattle.stun_base.specs.Header.{transaction_id_field}
 use Rattle.stun_base.specs.MessageType.{IsResponse}
-use Rattle.stun_base.specs.declared.message_type.MessageClass.{MessageClass}
-use Rattle.stun_base.specs.declared.message_type.MessageClass.TheVariants.{Request, Indication, Success, Error}
-use Rattle.stun_base.specs.declared.transport.TransportType.TheVariants.{Udp, Tcp}
+use Rattle.stun_base.specs.declared.wire.message_type.MessageClass.{MessageClass}
+use Rattle.stun_base.specs.declared.wire.message_type.MessageClass.TheVariants.{Request, Indication, Success, Error}
+use Rattle.stun_base.specs.declared.wire.transport.TransportType.TheVariants.{Udp, Tcp}
 use Rattle.stun_agent.specs.Agent.{Agent, takes, answered, after_class, after_response, tallied, with_validated, with_transactions}
 use Rattle.stun_agent.specs.Statistics.{response_received}
 use Rattle.stun_agent.specs.Timing.{Settings, planned_end, sum_of_timeouts, repetitions}

@@ -6,10 +6,11 @@ use Rattle.std.specs.Map.{keys_of}
 use Rattle.std.specs.Ordering.{nat_cmp}
 use Rattle.std.specs.BTreeMap.{is_at}
 use Rattle.std.proofs.lemmas.Map.Keys.{sorted_head, sorted_tail}
-use Rattle.stun_base.specs.declared.transport.TransportType.{TransportType}
-use Rattle.stun_agent.specs.declared.deadlines.Deadline.{Deadline}
+use Rattle.stun_base.specs.declared.wire.transport.TransportType.{TransportType}
+use Rattle.stun_agent.specs.declared.state.deadlines.Deadline.{Deadline}
 use Rattle.stun_agent.specs.Transactions.{Transaction, Transactions, IsAscending, at, awaited, is_cancelled, has_slots, is_over, repeats, first_over}
 use Rattle.stun_agent.specs.code.Deadlines.{deadline_of, earliest, IsIndexOf}
+use Rattle.stun_agent.specs.code.Transactions.{id_and_repeats}
 use Rattle.stun_agent.proofs.Ascending.{find-none, fold-min-le, fold-min-le_first}
 use Rattle.stun_agent.proofs.DeadlineLemmas.{entry_of, entry_at, earliest-none, earliest-le, earliest-in}
 use Rattle.stun_agent.proofs.EntryLemmas.{own_key, same_key, lookup_found}
@@ -73,32 +74,29 @@ module _ (transport : TransportType) (all : Transactions) (ds : List Deadline) (
 
 -- ---- the request that is over
 -- an id, and whether it is still sent again
-abbrev told_at : ℕ → Transaction → ℕ × Bool
-told_at id t = (id, repeats t.sending)
-
-abbrev told_of : ℕ × Transaction → ℕ × Bool
-told_of e = (e.0, repeats e.1.sending)
+abbrev id_and_repeats_at : ℕ → Transaction → ℕ × Bool
+id_and_repeats_at id t = (id, repeats t.sending)
 
 abbrev id_of : ℕ × Transaction → ℕ
 id_of e = e.0
 
 over_told : (transport : TransportType) (now id : ℕ) (all : Transactions) → IsAscending all → Some id ≡ option_map id_of (first_over transport now all)
-    → option_map (told_at id) (at id all) ≡ option_map told_of (first_over transport now all)
+    → option_map (id_and_repeats_at id) (at id all) ≡ option_map id_and_repeats (first_over transport now all)
 over_told transport now id all ascends told = by (first_over transport now all) refl told
   where
-    by : (f : Option (ℕ × Transaction)) → first_over transport now all ≡ f → Some id ≡ option_map id_of f → option_map (told_at id) (at id all) ≡ option_map told_of f
+    by : (f : Option (ℕ × Transaction)) → first_over transport now all ≡ f → Some id ≡ option_map id_of f → option_map (id_and_repeats_at id) (at id all) ≡ option_map id_and_repeats f
     by None is h = cc
     by (Some (k, t)) is h =
         let key : id ≡ k = ap (λ o. option_map_or (λ (x : ℕ). x) o id) h in
         let found : at k all ≡ Some t = lookup_found (λ e. is_over transport now e.1) all k t ascends is in
-        subst (λ j. option_map (told_at j) (at j all) ≡ Some (told_of (k, t))) (sym key) (ap (option_map (told_at k)) found)
+        subst (λ j. option_map (id_and_repeats_at j) (at j all) ≡ Some (id_and_repeats (k, t))) (sym key) (ap (option_map (id_and_repeats_at k)) found)
 
 pub over_whole : (transport : TransportType) (now : ℕ) (all : Transactions) (told : Option ℕ) (answer : Option (ℕ × Bool)) → IsAscending all
-    → told ≡ option_map id_of (first_over transport now all) → MatchOption told (answer ≡ None) (λ id. answer ≡ option_map (told_at id) (at id all))
-    → answer ≡ option_map told_of (first_over transport now all)
+    → told ≡ option_map id_of (first_over transport now all) → MatchOption told (answer ≡ None) (λ id. answer ≡ option_map (id_and_repeats_at id) (at id all))
+    → answer ≡ option_map id_and_repeats (first_over transport now all)
 over_whole transport now all None answer ascends is found = by (first_over transport now all) is
   where
-    by : (f : Option (ℕ × Transaction)) → None ≡ option_map id_of f → answer ≡ option_map told_of f
+    by : (f : Option (ℕ × Transaction)) → None ≡ option_map id_of f → answer ≡ option_map id_and_repeats f
     by None h = found
     by (Some e) h = cc
 over_whole transport now all (Some id) answer ascends is found = found ∙ over_told transport now id all ascends is

@@ -5,8 +5,8 @@ use Rattle.std.specs.declared.net.socket_addr.SocketAddr.{SocketAddr}
 use Rattle.std.specs.Ordering.{nat_cmp}
 use Rattle.std.specs.BTreeMap.{is_at}
 use Rattle.stun_base.specs.Header.{transaction_id_field}
-use Rattle.stun_base.specs.declared.message_type.MessageClass.{MessageClass}
-use Rattle.stun_base.specs.declared.message_type.MessageClass.TheVariants.{Request, Indication, Success, Error}
+use Rattle.stun_base.specs.declared.wire.message_type.MessageClass.{MessageClass}
+use Rattle.stun_base.specs.declared.wire.message_type.MessageClass.TheVariants.{Request, Indication, Success, Error}
 use Rattle.stun_base.specs.MessageType.{class_in}
 use Rattle.stun_agent.specs.Agent.{Agent, with_transactions, with_validated, without_validated, sending_refusal, after_send, request_refusal, after_send_request, answered, after_message, ended_by_poll, after_poll, sent_by_poll, after_poll_transmit}
 use Rattle.stun_agent.specs.Timing.{Settings}
@@ -109,8 +109,8 @@ count happens id [] agent = 0
 count happens id (call ∷ calls) agent = once (happens id call agent) + count happens id calls (after_agent_call call agent)
 
 -- how many transmissions the settings of the transaction allow
-abbrev pub allowed : ℕ → Agent → ℕ
-allowed id agent = option_map_or (λ t. t.settings.transmissions) (at id agent.transactions) 0
+abbrev pub transmissions_allowed : ℕ → Agent → ℕ
+transmissions_allowed id agent = option_map_or (λ t. t.settings.transmissions) (at id agent.transactions) 0
 
 -- how often the request of an outstanding transaction is sent again, until the transaction ends
 abbrev pub repetitions_until_end : ℕ → List AgentCall → Agent → ℕ
@@ -120,7 +120,9 @@ repetitions_until_end id (call ∷ calls) agent =
     + (if is_outstanding id (after_agent_call call agent) then repetitions_until_end id calls (after_agent_call call agent) else 0)
 
 -- the most transmissions that its settings ever allow, until it ends
-abbrev pub most_allowed : ℕ → List AgentCall → Agent → ℕ
-most_allowed id [] agent = allowed id agent
-most_allowed id (call ∷ calls) agent =
-    max (allowed id agent) (if is_outstanding id (after_agent_call call agent) then most_allowed id calls (after_agent_call call agent) else 0)
+abbrev pub most_transmissions_allowed : ℕ → List AgentCall → Agent → ℕ
+most_transmissions_allowed id [] agent = transmissions_allowed id agent
+most_transmissions_allowed id (call ∷ calls) agent =
+    max (transmissions_allowed id agent)
+    (if is_outstanding id (after_agent_call call agent)
+    then most_transmissions_allowed id calls (after_agent_call call agent) else 0)

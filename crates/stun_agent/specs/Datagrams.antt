@@ -6,9 +6,9 @@ use Rattle.std.specs.Net.Text.{socket_text}
 use Rattle.std.specs.declared.net.socket_addr.SocketAddr.{SocketAddr}
 use Rattle.stun_base.specs.Data.{data_bytes}
 use Rattle.stun_base.specs.Transport.{name_of}
-use Rattle.stun_base.specs.declared.data.Data.{Data}
-use Rattle.stun_base.specs.declared.transport.TransportType.{TransportType}
-use Rattle.stun_agent.specs.declared.transmit.Transmit.{Transmit}
+use Rattle.stun_base.specs.declared.wire.data.Data.{Data}
+use Rattle.stun_base.specs.declared.wire.transport.TransportType.{TransportType}
+use Rattle.stun_agent.specs.declared.calls.transmit.Transmit.{Transmit}
 
 -- the four parts of a `Transmit`
 abbrev pub parts : {T : Type 0} → Transmit T → T × TransportType × SocketAddr × SocketAddr

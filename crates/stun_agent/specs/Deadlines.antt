@@ -1,6 +1,6 @@
 -- The work of a poll: which deadlines it reads, and how they are counted.
-use Rattle.std.specs.Prelude.{ℕ, ◌≡◌, ◌<◌, Bool, ◌||◌, nat_le, count_by}
-use Rattle.stun_base.specs.declared.transport.TransportType.{TransportType}
+use Rattle.std.specs.Prelude.{ℕ, ◌≡◌, ◌<◌, ◌+◌, ◌*◌, Bool, ◌||◌, nat_le, count_by}
+use Rattle.stun_base.specs.declared.wire.transport.TransportType.{TransportType}
 use Rattle.stun_agent.specs.Transactions.{Transaction, Transactions, awaited, is_cancelled}
 
 -- a transaction that is cancelled, or awaits at most this moment
@@ -10,6 +10,11 @@ is_early transport now t = is_cancelled t.sending || nat_le (awaited transport t
 -- how many of them there are
 abbrev pub early_requests : TransportType → ℕ → Transactions → ℕ
 early_requests transport now all = count_by (λ e. is_early transport now e.1) all
+
+-- how often a poll reads at most, however many requests there are: the index itself, and a path in
+-- each of two trees. A path halves the ids at each node: one for each of their 96 bits, and one more
+abbrev pub most_reads : ℕ
+most_reads = 1 + 2 * (96 + 1)
 
 -- a blank of a ledger that nobody has used, and that has parts to count with
 pub record IsUnused (name parts ledger_name ledger_parts : ℕ) : Type 0 where

@@ -4,11 +4,11 @@ use Rattle.std.specs.declared.net.socket_addr.SocketAddr.{SocketAddr}
 use Rattle.stun_base.specs.Header.{transaction_id_field}
 use Rattle.stun_base.specs.MessageType.{IsResponse, class_in}
 use Rattle.stun_base.specs.Moments.{moment_after}
-use Rattle.stun_base.specs.declared.transport.TransportType.TheVariants.{Udp, Tcp}
+use Rattle.stun_base.specs.declared.wire.transport.TransportType.TheVariants.{Udp, Tcp}
 use Rattle.stun_agent.specs.declared.agent.StunAgentPollRet.TheVariants.{WaitUntil}
 use Rattle.stun_agent.specs.Agent.{Agent, takes_message, after_message, poll_answer, after_poll, ended_by_poll, sent_by_poll, request_refusal, after_send_request}
 use Rattle.stun_agent.specs.Statistics.{LeavesOutstanding, IsNotFull}
-use Rattle.stun_agent.specs.Calls.{AgentCall, after_agent_call, after_agent_calls, is_outstanding, begins, ends, once, count, repetitions_until_end, most_allowed}
+use Rattle.stun_agent.specs.Calls.{AgentCall, after_agent_call, after_agent_calls, is_outstanding, begins, ends, once, count, repetitions_until_end, most_transmissions_allowed}
 use Rattle.stun_agent.specs.Timing.{Settings, timeout, planned_end}
 use Rattle.stun_agent.specs.Transactions.{Transaction, at, an_hour}
 
@@ -67,7 +67,7 @@ IsTransmittedAtMost =
     → request_refusal (after_agent_calls earlier start) bytes to ≡ None
     → let begun = after_send_request (after_agent_calls earlier start) bytes to now in
     let id = transaction_id_field bytes in
-    (1 + repetitions_until_end id later begun ≤ max 1 (most_allowed id later begun))
+    (1 + repetitions_until_end id later begun ≤ max 1 (most_transmissions_allowed id later begun))
     × (start.transport ≡ Tcp → repetitions_until_end id later begun ≡ 0)
 
 -- while no counter is full, the statistics tell how many requests are outstanding

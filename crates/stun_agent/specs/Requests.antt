@@ -4,10 +4,10 @@ use Rattle.std.specs.Borrow.{Fml, RattleType, MutBor, Lends, RestsIfNone}
 use mir.Syntax.{named}
 use Rattle.std.specs.declared.alloc.Allocator as alloc
 use Rattle.std.specs.declared.net.socket_addr.SocketAddr.{SocketAddr}
-use Rattle.stun_base.specs.declared.algorithm.IntegrityAlgorithm.{IntegrityAlgorithm}
-use Rattle.stun_agent.specs.declared.request.StunRequestMut.{StunRequestMut}
+use Rattle.stun_base.specs.declared.keys.algorithm.IntegrityAlgorithm.{IntegrityAlgorithm}
+use Rattle.stun_agent.specs.declared.calls.request.StunRequestMut.{StunRequestMut}
 use Rattle.stun_agent.specs.contracts.agent.StunAgent.{the_row}
-use Rattle.stun_agent.specs.contracts.request.StunRequestMut.{the_row as request_row}
+use Rattle.stun_agent.specs.contracts.calls.request.StunRequestMut.{the_row as request_row}
 use Rattle.stun_agent.specs.Agent.{Agent, with_transactions}
 use Rattle.stun_agent.specs.Transactions.{Transaction, Transactions}
 

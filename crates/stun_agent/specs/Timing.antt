@@ -2,9 +2,9 @@
 use Rattle.std.specs.Prelude.{ℕ, zero, suc, ◌+◌, ◌-◌, ◌*◌, ◌^◌, min, max}
 use Rattle.std.specs.Duration.{as_nanos, max_nanos}
 use Rattle.stun_base.specs.Moments.{moment_after}
-use Rattle.stun_base.specs.declared.transport.TransportType.{TransportType}
-use Rattle.stun_base.specs.declared.transport.TransportType.TheVariants.{Udp, Tcp}
-use Rattle.stun_agent.specs.declared.rto.RequestRto.{RequestRto}
+use Rattle.stun_base.specs.declared.wire.transport.TransportType.{TransportType}
+use Rattle.stun_base.specs.declared.wire.transport.TransportType.TheVariants.{Udp, Tcp}
+use Rattle.stun_agent.specs.declared.state.rto.RequestRto.{RequestRto}
 
 -- the settings of a request, its spans in nanoseconds
 pub record Settings : Type 0 where

@@ -9,10 +9,10 @@ use Rattle.std.specs.List.Sorted.{IsStrictlySortedBy}
 use Rattle.std.specs.BTreeMap.{is_at, insert_entry}
 use Rattle.stun_base.specs.Header.{BeginsWithHeader, transaction_id_field}
 use Rattle.stun_base.specs.Moments.{moment_after}
-use Rattle.stun_base.specs.declared.algorithm.IntegrityAlgorithm.{IntegrityAlgorithm}
-use Rattle.stun_base.specs.declared.transport.TransportType.{TransportType}
-use Rattle.stun_agent.specs.declared.transaction.Sending.{Sending}
-use Rattle.stun_agent.specs.declared.transaction.Sending.TheVariants.{Repeats, Silent, Cancelled}
+use Rattle.stun_base.specs.declared.keys.algorithm.IntegrityAlgorithm.{IntegrityAlgorithm}
+use Rattle.stun_base.specs.declared.wire.transport.TransportType.{TransportType}
+use Rattle.stun_agent.specs.declared.state.transaction.Sending.{Sending}
+use Rattle.stun_agent.specs.declared.state.transaction.Sending.TheVariants.{Repeats, Silent, Cancelled}
 use Rattle.stun_agent.specs.Timing.{Settings, timeout, slots, final_wait}
 
 -- a request that waits for its response. `slot` counts the timeouts that have passed, `last` is the moment of the last

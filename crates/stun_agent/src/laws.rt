@@ -1,19 +1,10 @@
 //! What holds of an agent whatever is done to it. Moments may go back, and calls may come in any order.
-ghost use Rattle.std.specs.Prelude.{◌≡◌, ◌&&◌, ◌||◌, ◌↔◌, IsTrue, true, not, Ok};
+ghost use Rattle.std.specs.Prelude.{◌≡◌, ◌&&◌, ◌||◌, ◌↔◌, true, not};
 ghost use Rattle.std.specs.declared.net.socket_addr.SocketAddr.{SocketAddr};
 ghost use Rattle.stun_base.specs.Address.{same_address};
 ghost use Rattle.stun_agent.specs.Laws.{IsNeverEarly, WaitsAsTold, IgnoresUnknown, IgnoresElsewhere, EndsAlike, EndsOnce, IsTransmittedAtMost, KeepsCount};
-ghost use Rattle.stun_agent.specs.Statistics.{new_statistics};
 ghost use Rattle.stun_agent.specs.Transcript.{CountsCalls, CountsNothing};
-ghost use Rattle.stun_agent.specs.Timing.{settings_of, default_settings};
 ghost use Rattle.stun_agent.specs.Peers.{Peers, is_peer, with_peer, without_peer};
-
-use crate::agent::StunAgentPollRet;
-use crate::error::{NoRoom, StunError};
-use crate::request::StunRequest;
-use crate::rto::RequestRto;
-use crate::stats::StunAgentStats;
-use std::alloc::{AllocError, Allocator};
 
 /// A request is sent again only once its timeout has passed since the moment before: since it was sent, or since
 /// its last timeout passed (RFC 8489, section 6.2.1).
@@ -89,85 +80,3 @@ pub fn forgetting_removes_one_peer()
         → is_peer other (without_peer address peers)
         ≡ (not (same_address other address) && is_peer other peers) }
 {}
-
-/// Settings of which nothing is said are those of RFC 8489, section 6.2.1.
-pub fn default_retransmissions() -> RequestRto
-    ensures { settings_of result ≡ default_settings }
-{
-    RequestRto::default()
-}
-
-/// Statistics begin with nothing counted.
-pub fn default_statistics() -> StunAgentStats
-    ensures { result ≡ new_statistics }
-{
-    StunAgentStats::default()
-}
-
-/// Copies of statistics are the same values, and do not allocate.
-pub fn copied_statistics(statistics: &StunAgentStats) -> Result<StunAgentStats, AllocError>
-    ensures { result ≡ Ok statistics.now }
-{
-    statistics.clone()
-}
-
-/// Copies of settings, of what polls answer and of errors are the same values.
-pub fn copied_parts(
-    settings: &RequestRto,
-    answer: &StunAgentPollRet,
-    error: &StunError,
-    no_room: &NoRoom,
-) -> Result<(RequestRto, StunAgentPollRet, StunError, NoRoom), AllocError>
-    ensures { result ≡ Ok (settings.now, answer.now, error.now, no_room.now) }
-{
-    Ok((
-        settings.clone()?,
-        answer.clone()?,
-        error.clone()?,
-        no_room.clone()?,
-    ))
-}
-
-/// Copies of an outstanding request that is looked at are of the same agent and request.
-pub fn copied_request<'a, A: Allocator>(
-    request: &StunRequest<'a, A>,
-) -> Result<StunRequest<'a, A>, AllocError>
-    ensures { result ≡ Ok request.now }
-{
-    request.clone()
-}
-
-/// Statistics are equal where all counters and round trips are.
-pub fn are_same_statistics(one: &StunAgentStats, other: &StunAgentStats) -> bool
-    ensures { IsTrue result ↔ (one.now ≡ other.now) }
-{
-    one == other
-}
-
-/// Settings of retransmissions are equal field by field.
-pub fn are_same_settings(one: RequestRto, other: RequestRto) -> bool
-    ensures { IsTrue result ↔ (one ≡ other) }
-{
-    one == other
-}
-
-/// What polls answer is equal as values.
-pub fn is_same_poll(one: StunAgentPollRet, other: StunAgentPollRet) -> bool
-    ensures { IsTrue result ↔ (one ≡ other) }
-{
-    one == other
-}
-
-/// An agent's errors are equal as values.
-pub fn is_same_error(one: StunError, other: StunError) -> bool
-    ensures { IsTrue result ↔ (one ≡ other) }
-{
-    one == other
-}
-
-/// All values of `NoRoom` are equal.
-pub fn is_same_want_of_room(one: NoRoom, other: NoRoom) -> bool
-    ensures { IsTrue result ↔ (one ≡ other) }
-{
-    one == other
-}

@@ -1,22 +1,10 @@
 //! A STUN agent without sockets and clocks: requests, their retransmissions and their ends.
 #![tactic(auto)]
 
-mod address;
 pub mod agent;
-mod builder;
-mod counting;
-mod deadline_tree;
-mod deadlines;
+mod calls;
+pub mod derives;
 mod error;
-mod integrity;
 pub mod laws;
-mod outstanding;
-mod poll;
-mod receive;
-mod request;
-mod rto;
-mod send;
+mod state;
 pub mod stats;
-mod transaction;
-mod transactions;
-mod transmit;

@@ -8,6 +8,7 @@ ghost use Rattle.stun_agent.specs.Statistics.{together, total, counted_in_turn, 
 use std::marker::Model;
 use std::time::Duration;
 
+pub(crate) mod counting;
 #[cfg(test)]
 mod tests;
 

@@ -6,19 +6,17 @@ use Rattle.std.specs.FinMap as fin
 use Rattle.std.specs.Str.{bytes_eq}
 use Rattle.std.specs.declared.result.Result.{Result}
 use Rattle.std.proofs.lemmas.Slice.Eq.{bytes_eq-Decides}
-use Rattle.stun_base.specs.declared.algorithm.IntegrityAlgorithm.{IntegrityAlgorithm}
-use Rattle.stun_base.specs.Credentials.{NameAndPassword}
-use Rattle.stun_base.specs.Keys.{long_term_key}
+use Rattle.stun_base.specs.declared.keys.algorithm.IntegrityAlgorithm.{IntegrityAlgorithm}
 use Rattle.stun_auth.specs.declared.algorithm_set.AlgorithmSet.{AlgorithmSet}
 use Rattle.stun_auth.specs.declared.feature.Feature.{Feature}
-use Rattle.stun_auth.specs.declared.server_reason.Refusal.{Refusal}
-use Rattle.stun_auth.specs.declared.server_reason.Refusal.TheVariants as Refused
-use Rattle.stun_auth.specs.declared.server_reason.LongTermServerAuthErrorReason.TheVariants.{BadRequest}
-use Rattle.stun_auth.specs.declared.server_reason.LongTermServerValidation.TheVariants.{Validated}
+use Rattle.stun_auth.specs.declared.server.reason.Refusal.{Refusal}
+use Rattle.stun_auth.specs.declared.server.reason.Refusal.TheVariants as Refused
+use Rattle.stun_auth.specs.declared.server.reason.LongTermServerAuthErrorReason.TheVariants.{BadRequest}
+use Rattle.stun_auth.specs.declared.server.reason.LongTermServerValidation.TheVariants.{Validated}
 use Rattle.stun_auth.specs.Algorithms.{contains}
 use Rattle.stun_base.specs.MessageType.{is_response}
 use Rattle.stun_auth.specs.Reading.{Reading, verified_under}
-use Rattle.stun_auth.specs.Registered.{Registered, key_at, key_if, key_of, user_named}
+use Rattle.stun_auth.specs.Registered.{Registered, RegisteredUser, UserSecret, key_at, key_from, key_if, key_of, user_named}
 use Rattle.stun_auth.specs.Seen.{ClientSeen}
 use Rattle.stun_auth.specs.Server.{Sight, IsAccepted, agreed, nonce_refusal, standing, verdict}
 use Rattle.stun_auth.specs.Validation.{AcceptedWith, ValidatesAccepted, answer, answer_to, client_verified, is_complete, is_malformed, validated_or_failed, verdict_at}
@@ -46,19 +44,30 @@ front_true false b h = cc
 
 -- a key that a digest verifies under is that of a present user for a supported algorithm
 pub record HasKey (users : Registered) (r : Reading) (name : List ℕ) (a : IntegrityAlgorithm) : Type 0 where
-  pub password : List ℕ
-  pub present : fin.get users.passwords name ≡ Some password
+  pub secret : UserSecret
+  pub key : List ℕ
+  pub present : fin.get users.secrets name ≡ Some secret
   pub supported : contains a users.algorithms ≡ true
-  pub digest : IsSome (verified_under r (long_term_key a name users.realm password))
+  pub key_is : key_from a name users.realm secret ≡ Some key
+  pub digest : IsSome (verified_under r key)
 
-has_key : (users : Registered) (r : Reading) (name : List ℕ) (a : IntegrityAlgorithm) (o : Option (List ℕ)) (b : Bool)
-    → fin.get users.passwords name ≡ o → contains a users.algorithms ≡ b
-    → IsSome (option_and_then (verified_under r) (option_and_then (λ (user : NameAndPassword). key_if b a user.username users.realm user.password)
-    (option_map (λ password. record { username = name; password = password }) o)))
+-- so does the key that a secret gives
+has_key_from : (users : Registered) (r : Reading) (name : List ℕ) (a : IntegrityAlgorithm) (secret : UserSecret) (o : Option (List ℕ))
+    → fin.get users.secrets name ≡ Some secret → contains a users.algorithms ≡ true → key_from a name users.realm secret ≡ o
+    → IsSome (option_and_then (verified_under r) o) → HasKey users r name a
+has_key_from users r name a secret None found there given h = cc
+has_key_from users r name a secret (Some key) found there given h =
+    record { secret = secret; key = key; present = found; supported = there; key_is = given; digest = h }
+
+has_key : (users : Registered) (r : Reading) (name : List ℕ) (a : IntegrityAlgorithm) (o : Option UserSecret) (b : Bool)
+    → fin.get users.secrets name ≡ o → contains a users.algorithms ≡ b
+    → IsSome (option_and_then (verified_under r) (option_and_then (λ (user : RegisteredUser). key_if b a user.username users.realm user.secret)
+    (option_map (λ secret. record { username = name; secret = secret }) o)))
     → HasKey users r name a
 has_key users r name a None b found there h = cc
-has_key users r name a (Some password) false found there h = cc
-has_key users r name a (Some password) true found there h = record { password = password; present = found; supported = there; digest = h }
+has_key users r name a (Some secret) false found there h = cc
+has_key users r name a (Some secret) true found there h =
+    has_key_from users r name a secret (key_from a name users.realm secret) found there refl h
 
 module _ (users : Registered) (feature : Feature) (ours : List ℕ) (offered : Option AlgorithmSet) (r : Reading) (client : ClientSeen) where
   digests : (is_some r.realm ≡ true) → (theirs : List ℕ) → r.nonce ≡ Some theirs → theirs ≡ ours → (a : IntegrityAlgorithm)
@@ -71,16 +80,18 @@ module _ (users : Registered) (feature : Feature) (ours : List ℕ) (offered : O
       let digest : IsSome (option_and_then (verified_under r) (key_at users client.name client.algorithm)) =
       sym (ap (λ n. is_some (option_and_then (verified_under r) (key_at users n client.algorithm))) names)
       ∙ sym (ap (λ x. is_some (option_and_then (verified_under r) (key_at users name x))) algorithms) ∙ stood.0 in
-      let key = has_key users r client.name client.algorithm (fin.get users.passwords client.name) (contains client.algorithm users.algorithms) refl refl digest in
+      let key = has_key users r client.name client.algorithm (fin.get users.secrets client.name) (contains client.algorithm users.algorithms) refl refl digest in
       record {
-        password = key.password;
+        secret = key.secret;
+        key = key.key;
         realm = realm;
         nonce = nonce ∙ ap Some same;
         algorithm = sym (ap (λ n. agreed r n offered) same) ∙ choice ∙ ap Some algorithms;
         named = user_of users feature r.userhash r.username ∙ ap (option_and_then (user_named users)) (user ∙ ap Some names)
-            ∙ ap (option_map (λ (password : List ℕ). record { username = client.name; password = password })) key.present;
+            ∙ ap (option_map (λ (secret : UserSecret). record { username = client.name; secret = secret })) key.present;
         present = key.present;
         supported = key.supported;
+        key_is = key.key_is;
         digest = key.digest;
       }
 
@@ -131,26 +142,26 @@ name_there users feature name None (Some u) h = refl
 name_there users feature name (Some k) username h = refl
 
 -- the name of a present user is the name that was looked up
-looked_up : (users : Registered) (user : NameAndPassword) (name : Option (List ℕ)) → option_and_then (user_named users) name ≡ Some user → name ≡ Some user.username
+looked_up : (users : Registered) (user : RegisteredUser) (name : Option (List ℕ)) → option_and_then (user_named users) name ≡ Some user → name ≡ Some user.username
 looked_up users user None h = cc
-looked_up users user (Some name) h = of_password (fin.get users.passwords name) h
+looked_up users user (Some name) h = of_secret (fin.get users.secrets name) h
   where
-    of_password : (o : Option (List ℕ)) → option_map (λ (password : List ℕ). record { username = name; password = password }) o ≡ Some user → Some name ≡ Some user.username
-    of_password None e = cc
-    of_password (Some password) e = ap (option_map (λ (u : NameAndPassword). u.username)) e
+    of_secret : (o : Option UserSecret) → option_map (λ (secret : UserSecret). record { username = name; secret = secret }) o ≡ Some user → Some name ≡ Some user.username
+    of_secret None e = cc
+    of_secret (Some secret) e = ap (option_map (λ (u : RegisteredUser). u.username)) e
 
 pub verdict_from_accepted : (users : Registered) (feature : Feature) (ours : List ℕ) (offered : Option AlgorithmSet) (r : Reading) (client : ClientSeen)
     → IsAccepted users feature ours offered r client → verdict users feature ours offered r ≡ Ok client
 verdict_from_accepted users feature ours offered r client h =
-    let user : NameAndPassword = record { username = client.name; password = h.password } in
+    let user : RegisteredUser = record { username = client.name; secret = h.secret } in
     let name : name_in users feature r ≡ Some client.name =
     looked_up users user (name_in users feature r) (sym (user_of users feature r.userhash r.username) ∙ h.named) in
-    let key : key_at users client.name client.algorithm ≡ Some (long_term_key client.algorithm client.name users.realm h.password) =
-    ap (λ o. option_and_then (λ (u : NameAndPassword). key_of users u client.algorithm) (option_map (λ (password : List ℕ). record { username = client.name; password = password }) o)) h.present
-    ∙ ap (λ b. key_if b client.algorithm client.name users.realm h.password) h.supported in
+    let key : key_at users client.name client.algorithm ≡ Some h.key =
+    ap (λ o. option_and_then (λ (u : RegisteredUser). key_of users u client.algorithm) (option_map (λ (secret : UserSecret). record { username = client.name; secret = secret }) o)) h.present
+    ∙ ap (λ b. key_if b client.algorithm client.name users.realm h.secret) h.supported ∙ h.key_is in
     let whole : is_complete r ≡ true =
     all_there (is_some r.realm) (is_some r.nonce) (is_some r.userhash || is_some r.username) h.realm (ap is_some h.nonce) (name_there users feature client.name r.userhash r.username name) in
-    let there : is_some r.integrity ≡ true = protected r.integrity (long_term_key client.algorithm client.name users.realm h.password) h.digest in
+    let there : is_some r.integrity ≡ true = protected r.integrity h.key h.digest in
     sym (by_steps-verdict users feature ours offered r)
     ∙ ap (λ b. cond (not b) (Err Refused.Unauthorized) (cond (not (is_complete r)) (Err Refused.BadRequest) (by_attributes users feature ours offered r r.nonce))) there
     ∙ ap (λ b. cond (not b) (Err Refused.BadRequest) (by_attributes users feature ours offered r r.nonce)) whole

@@ -13,7 +13,7 @@ use Rattle.std.proofs.lemmas.Map.Entries.{lookup-filter-values, option_filter}
 use Rattle.std.proofs.lemmas.Map.Keys.{IsDistinct-from_sorted}
 use Rattle.std.specs.declared.net.socket_addr.SocketAddr.{SocketAddr}
 use Rattle.stun_base.specs.Address.{address_cmp}
-use Rattle.stun_auth.specs.declared.places.Place.{Place}
+use Rattle.stun_auth.specs.declared.server.places.Place.{Place}
 use Rattle.stun_auth.specs.Forgetting.{is_forgotten, place_kept, places_kept}
 use Rattle.stun_auth.specs.Places.{PlacesSeen}
 use Rattle.stun_auth.specs.code.Places.{place_seen, places_seen}

@@ -1,7 +1,7 @@
 -- Where no client is new the place that is left is the one before.
 use Rattle.std.proofs.Common.{◌≡◌, Option, Some, None, false, refl, sym}
 use Rattle.std.specs.Option.{is_some, option_map}
-use Rattle.stun_auth.specs.declared.places.Client.{Client}
+use Rattle.stun_auth.specs.declared.server.places.Client.{Client}
 use Rattle.stun_auth.specs.declared.server.validation.Judgement.{Judgement}
 use Rattle.stun_auth.specs.declared.server.validation.Judgement.TheVariants.{Refused, Known, New}
 use Rattle.stun_auth.specs.code.Judging.{client_in, place_left}

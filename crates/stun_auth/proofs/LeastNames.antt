@@ -19,13 +19,13 @@ use Rattle.std.proofs.lemmas.Map.Text.{is_eq-slice_cmp}
 use Rattle.std.proofs.lemmas.Slice.Eq.{bytes_eq-Decides}
 use Rattle.stun_base.specs.Keys.{userhash}
 use Rattle.stun_auth.specs.code.NameIndex.{HashedNames, IsIndexOf, IsLeastNamed, hashed_cmp}
-use Rattle.stun_auth.specs.Registered.{name_cmp}
+use Rattle.stun_auth.specs.Registered.{UserSecret, name_cmp}
 use Rattle.stun_auth.proofs.HashedNames.{hashed_exact, hashed_total}
 
 -- ---- keeping the index
 
-abbrev pub Passwords : Type 0
-Passwords = fin.FinMap name_cmp (List ℕ)
+abbrev pub Secrets : Type 0
+Secrets = fin.FinMap name_cmp UserSecret
 
 pub indexed_none : (realm : List ℕ) → IsIndexOf realm fin.empty set.empty
 indexed_none realm = λ hash name. contains-empty hashed_cmp (hash, name) ∙ neither (bytes_eq hash (userhash name realm)) ∙ ap (λ o. bytes_eq hash (userhash name realm) && is_some o) (sym (fin.get-empty name_cmp name))
@@ -52,15 +52,15 @@ none-cond : {V : Type 0} (b : Bool) (o : Option V) → is_some (cond b None o) �
 none-cond true o = refl
 none-cond false o = refl
 
-there-inserted : (passwords : Passwords) (name password q : List ℕ) → fin.contains_key (fin.insert passwords name password) q ≡ (bytes_eq q name || fin.contains_key passwords q)
-there-inserted passwords name password q =
-    ap is_some (get-insert nat_list_cmp_total passwords name password q) ∙ some-cond (eq_by_cmp name_cmp q name) password (fin.get passwords q)
-    ∙ ap (λ b. b || fin.contains_key passwords q) (is_eq-slice_cmp q name)
+there-inserted : (secrets : Secrets) (name : List ℕ) (secret : UserSecret) (q : List ℕ) → fin.contains_key (fin.insert secrets name secret) q ≡ (bytes_eq q name || fin.contains_key secrets q)
+there-inserted secrets name secret q =
+    ap is_some (get-insert nat_list_cmp_total secrets name secret q) ∙ some-cond (eq_by_cmp name_cmp q name) secret (fin.get secrets q)
+    ∙ ap (λ b. b || fin.contains_key secrets q) (is_eq-slice_cmp q name)
 
-there-removed : (passwords : Passwords) (name q : List ℕ) → fin.contains_key (fin.remove passwords name) q ≡ (not (bytes_eq q name) && fin.contains_key passwords q)
-there-removed passwords name q =
-    ap is_some (get-remove nat_list_cmp_total passwords name q) ∙ none-cond (eq_by_cmp name_cmp q name) (fin.get passwords q)
-    ∙ ap (λ b. not b && fin.contains_key passwords q) (is_eq-slice_cmp q name)
+there-removed : (secrets : Secrets) (name q : List ℕ) → fin.contains_key (fin.remove secrets name) q ≡ (not (bytes_eq q name) && fin.contains_key secrets q)
+there-removed secrets name q =
+    ap is_some (get-remove nat_list_cmp_total secrets name q) ∙ none-cond (eq_by_cmp name_cmp q name) (fin.get secrets q)
+    ∙ ap (λ b. not b && fin.contains_key secrets q) (is_eq-slice_cmp q name)
 
 -- the pairs of a name are of its hash
 module _ (realm name : List ℕ) where
@@ -100,21 +100,21 @@ module _ (realm name : List ℕ) where
       other true c = refl
       other false c = refl
 
-  pub indexed-inserted : (passwords : Passwords) (names : HashedNames) (password : List ℕ) → IsIndexOf realm passwords names
-      → IsIndexOf realm (fin.insert passwords name password) (set.insert names (userhash name realm, name))
-  indexed-inserted passwords names password indexed = λ hash q.
+  pub indexed-inserted : (secrets : Secrets) (names : HashedNames) (secret : UserSecret) → IsIndexOf realm secrets names
+      → IsIndexOf realm (fin.insert secrets name secret) (set.insert names (userhash name realm, name))
+  indexed-inserted secrets names secret indexed = λ hash q.
       contains-insert hashed_total names (userhash name realm, name) (hash, q)
       ∙ (λ i. same_pair hash q (userhash name realm) name i || indexed hash q i)
-      ∙ joined hash q (fin.contains_key passwords q)
-      ∙ ap (λ b. bytes_eq hash (userhash q realm) && b) (sym (there-inserted passwords name password q))
+      ∙ joined hash q (fin.contains_key secrets q)
+      ∙ ap (λ b. bytes_eq hash (userhash q realm) && b) (sym (there-inserted secrets name secret q))
 
-  pub indexed-removed : (passwords : Passwords) (names : HashedNames) → IsIndexOf realm passwords names
-      → IsIndexOf realm (fin.remove passwords name) (set.remove names (userhash name realm, name))
-  indexed-removed passwords names indexed = λ hash q.
+  pub indexed-removed : (secrets : Secrets) (names : HashedNames) → IsIndexOf realm secrets names
+      → IsIndexOf realm (fin.remove secrets name) (set.remove names (userhash name realm, name))
+  indexed-removed secrets names indexed = λ hash q.
       contains-remove hashed_total names (userhash name realm, name) (hash, q)
       ∙ (λ i. not (same_pair hash q (userhash name realm) name i) && indexed hash q i)
-      ∙ parted hash q (fin.contains_key passwords q)
-      ∙ ap (λ b. bytes_eq hash (userhash q realm) && b) (sym (there-removed passwords name q))
+      ∙ parted hash q (fin.contains_key secrets q)
+      ∙ ap (λ b. bytes_eq hash (userhash q realm) && b) (sym (there-removed secrets name q))
 
 -- a pair that was not there goes again without a trace
 pub insert-undone : (names : HashedNames) (pair : List ℕ × List ℕ) → set.contains names pair ≡ false → set.remove (set.insert names pair) pair ≡ names
@@ -127,22 +127,22 @@ insert-undone names pair absent = same_set hashed_total hashed_exact _ _ (λ q.
     ] refl)
 
 -- the index as the calls leave it
-module _ (realm name : List ℕ) (passwords : Passwords) (names : HashedNames) (indexed : IsIndexOf realm passwords names) (hash copy : List ℕ) (hash_is : hash ≡ userhash name realm) (copy_is : copy ≡ name) where
+module _ (realm name : List ℕ) (secrets : Secrets) (names : HashedNames) (indexed : IsIndexOf realm secrets names) (hash copy : List ℕ) (hash_is : hash ≡ userhash name realm) (copy_is : copy ≡ name) where
   same_names : ◌≡◌ {A = List ℕ × List ℕ} (hash, copy) (userhash name realm, name)
   same_names = λ i. (hash_is i, copy_is i)
 
-  pub index_after_add : (password : List ℕ) (new_passwords : Passwords) (new_names : HashedNames) → new_passwords ≡ fin.insert passwords name password → new_names ≡ set.insert names (hash, copy) → IsIndexOf realm new_passwords new_names
-  index_after_add password new_passwords new_names passwords_are names_are =
-      subst (λ (p : Passwords). IsIndexOf realm p new_names) (sym passwords_are)
-      (subst (IsIndexOf realm (fin.insert passwords name password)) (sym (names_are ∙ ap (set.insert names) same_names)) (indexed-inserted realm name passwords names password indexed))
+  pub index_after_add : (secret : UserSecret) (new_secrets : Secrets) (new_names : HashedNames) → new_secrets ≡ fin.insert secrets name secret → new_names ≡ set.insert names (hash, copy) → IsIndexOf realm new_secrets new_names
+  index_after_add secret new_secrets new_names secrets_are names_are =
+      subst (λ (p : Secrets). IsIndexOf realm p new_names) (sym secrets_are)
+      (subst (IsIndexOf realm (fin.insert secrets name secret)) (sym (names_are ∙ ap (set.insert names) same_names)) (indexed-inserted realm name secrets names secret indexed))
 
-  pub index_after_remove : (new_passwords : Passwords) (new_names : HashedNames) → new_passwords ≡ fin.remove passwords name → new_names ≡ set.remove names (hash, copy) → IsIndexOf realm new_passwords new_names
-  index_after_remove new_passwords new_names passwords_are names_are =
-      subst (λ (p : Passwords). IsIndexOf realm p new_names) (sym passwords_are)
-      (subst (IsIndexOf realm (fin.remove passwords name)) (sym (names_are ∙ ap (set.remove names) same_names)) (indexed-removed realm name passwords names indexed))
+  pub index_after_remove : (new_secrets : Secrets) (new_names : HashedNames) → new_secrets ≡ fin.remove secrets name → new_names ≡ set.remove names (hash, copy) → IsIndexOf realm new_secrets new_names
+  index_after_remove new_secrets new_names secrets_are names_are =
+      subst (λ (p : Secrets). IsIndexOf realm p new_names) (sym secrets_are)
+      (subst (IsIndexOf realm (fin.remove secrets name)) (sym (names_are ∙ ap (set.remove names) same_names)) (indexed-removed realm name secrets names indexed))
 
   -- a new name that was refused is in the index no more
-  pub index_undone : (added undone : HashedNames) → fin.contains_key passwords name ≡ false → added ≡ set.insert names (hash, copy) → undone ≡ set.remove added (hash, name) → undone ≡ names
+  pub index_undone : (added undone : HashedNames) → fin.contains_key secrets name ≡ false → added ≡ set.insert names (hash, copy) → undone ≡ set.remove added (hash, name) → undone ≡ names
   index_undone added undone absent added_is undone_is =
       undone_is ∙ (λ i. set.remove ((added_is ∙ ap (set.insert names) same_names) i) (hash_is i, name))
       ∙ insert-undone names (userhash name realm, name) (indexed (userhash name realm) name ∙ ap (λ b. bytes_eq (userhash name realm) (userhash name realm) && b) absent ∙ none (bytes_eq (userhash name realm) (userhash name realm)))
@@ -217,25 +217,25 @@ both true b h = (refl, h)
 both false b h = (h, absurd (true≢false (sym h)))
 
 -- the least name of a hash is that of the first present user with the hash
-pub name_found : (realm : List ℕ) (passwords : Passwords) (names : HashedNames) (hash : List ℕ) (found : Option (List ℕ)) → IsIndexOf realm passwords names → IsLeastNamed names hash found
-    → found ≡ find (λ name. bytes_eq (userhash name realm) hash) (fin.keys passwords)
-name_found realm passwords names hash found indexed least = by found least
+pub name_found : (realm : List ℕ) (secrets : Secrets) (names : HashedNames) (hash : List ℕ) (found : Option (List ℕ)) → IsIndexOf realm secrets names → IsLeastNamed names hash found
+    → found ≡ find (λ name. bytes_eq (userhash name realm) hash) (fin.keys secrets)
+name_found realm secrets names hash found indexed least = by found least
   where
     turned : (name : List ℕ) → bytes_eq (userhash name realm) hash ≡ bytes_eq hash (userhash name realm)
     turned name = nat_list_eq_equiv.symm (userhash name realm) hash
 
-    there : (name : List ℕ) → list_any (eq_by_cmp name_cmp name) (fin.keys passwords) ≡ true → set.contains names (hash, name) ≡ bytes_eq (userhash name realm) hash
+    there : (name : List ℕ) → list_any (eq_by_cmp name_cmp name) (fin.keys secrets) ≡ true → set.contains names (hash, name) ≡ bytes_eq (userhash name realm) hash
     there name present =
-        indexed hash name ∙ ap (λ b. bytes_eq hash (userhash name realm) && b) (contains_key-keys passwords name ∙ present)
+        indexed hash name ∙ ap (λ b. bytes_eq hash (userhash name realm) && b) (contains_key-keys secrets name ∙ present)
         ∙ alone (bytes_eq hash (userhash name realm)) ∙ sym (turned name)
       where
         alone : (b : Bool) → (b && true) ≡ b
         alone true = refl
         alone false = refl
 
-    by : (found : Option (List ℕ)) → IsLeastNamed names hash found → found ≡ find (λ name. bytes_eq (userhash name realm) hash) (fin.keys passwords)
-    by None none = sym (find-none nat_list_cmp_total exact_bytes (λ name. bytes_eq (userhash name realm) hash) (fin.entries passwords) (λ name present. sym (there name present) ∙ none name))
+    by : (found : Option (List ℕ)) → IsLeastNamed names hash found → found ≡ find (λ name. bytes_eq (userhash name realm) hash) (fin.keys secrets)
+    by None none = sym (find-none nat_list_cmp_total exact_bytes (λ name. bytes_eq (userhash name realm) hash) (fin.entries secrets) (λ name present. sym (there name present) ∙ none name))
     by (Some name) first =
-        let is = both (bytes_eq hash (userhash name realm)) (fin.contains_key passwords name) (sym (indexed hash name) ∙ first.0) in
-        sym (find-least nat_list_cmp_total exact_bytes (λ name. bytes_eq (userhash name realm) hash) (fin.entries passwords) (entries_sorted passwords) name
-        (sym (contains_key-keys passwords name) ∙ is.1) (turned name ∙ is.0) (λ other present passes. first.1 other (there other present ∙ passes)))
+        let is = both (bytes_eq hash (userhash name realm)) (fin.contains_key secrets name) (sym (indexed hash name) ∙ first.0) in
+        sym (find-least nat_list_cmp_total exact_bytes (λ name. bytes_eq (userhash name realm) hash) (fin.entries secrets) (entries_sorted secrets) name
+        (sym (contains_key-keys secrets name) ∙ is.1) (turned name ∙ is.0) (λ other present passes. first.1 other (there other present ∙ passes)))

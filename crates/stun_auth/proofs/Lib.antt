@@ -19,6 +19,7 @@ pub mod PlaceMaps
 pub mod ReadingLemmas
 pub mod Rekeyed
 pub mod Renamed
+pub mod SameKeys
 pub mod SignedBases
 pub mod SignedBefore
 pub mod SignedGrowth
@@ -29,6 +30,7 @@ pub mod SignedSides
 pub mod SteppingLemmas
 pub mod TailReading
 pub mod Unchanged
+pub mod UserKeys
 pub mod UserMaps
 pub mod VerdictLemmas
 pub mod VerdictSteps

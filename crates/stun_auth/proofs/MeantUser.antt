@@ -10,56 +10,55 @@ use Rattle.std.specs.FinMap as fin
 use Rattle.std.specs.Str.{bytes_eq}
 use Rattle.std.specs.declared.net.socket_addr.SocketAddr.{SocketAddr}
 use Rattle.std.specs.declared.result.Result.{Result}
-use Rattle.stun_base.specs.Credentials.{NameAndPassword}
 use Rattle.stun_base.specs.Keys.{userhash}
 use Rattle.stun_base.specs.MessageType.{is_response}
 use Rattle.stun_auth.specs.declared.algorithm_set.AlgorithmSet.{AlgorithmSet}
 use Rattle.stun_auth.specs.declared.feature.Feature.{Feature}
-use Rattle.stun_auth.specs.declared.server_reason.Refusal.{Refusal}
-use Rattle.stun_auth.specs.declared.server_reason.Refusal.TheVariants.{Unauthorized, BadRequest}
-use Rattle.stun_base.specs.declared.algorithm.IntegrityAlgorithm.TheVariants.{Sha1}
+use Rattle.stun_auth.specs.declared.server.reason.Refusal.{Refusal}
+use Rattle.stun_auth.specs.declared.server.reason.Refusal.TheVariants.{Unauthorized, BadRequest}
+use Rattle.stun_base.specs.declared.keys.algorithm.IntegrityAlgorithm.TheVariants.{Sha1}
 use Rattle.stun_auth.specs.Feature.{is_possible}
 use Rattle.stun_auth.specs.Handed.{Named, by_name, by_hash, just, meant, named_at, named_in, only_user, user_of, with_users}
 use Rattle.stun_auth.specs.Reading.{Reading, verified_under}
-use Rattle.stun_auth.specs.Registered.{Registered, key_of, name_cmp, user_named, user_with_hash}
+use Rattle.stun_auth.specs.Registered.{Registered, RegisteredUser, UserSecret, key_of, name_cmp, user_named, user_with_hash}
 use Rattle.stun_auth.specs.Seen.{ClientSeen, PlaceSeen}
 use Rattle.stun_auth.specs.Server.{Sight, agreed, named, named_by, nonce_refusal, or_refused, standing, their_nonce, verdict, verified_for}
 use Rattle.stun_auth.specs.Validation.{ServerSeen, after_message, answer, answer_to, client_verified, is_malformed, put_place, sight, validated_or_failed, verdict_at, verified_for_client, with_accepted}
 
 -- ---- nobody, or one user
 
--- a user of a name who has a password, if any
-abbrev with_password : List ℕ → Option (List ℕ) → Option NameAndPassword
-with_password name o = option_map (λ password. record { username = name; password = password }) o
+-- a user of a name who has a secret, if any
+abbrev with_secret : List ℕ → Option UserSecret → Option RegisteredUser
+with_secret name o = option_map (λ secret. record { username = name; secret = secret }) o
 
 nothing : {X : Type 0} (es : List X) → length es ≡ 0 → es ≡ []
 nothing [] e = refl
 nothing (x ∷ es) e = absurd (omega arith)
 
-nobody : fin.entries (fin.empty {X = List ℕ} {R = name_cmp}) ≡ []
-nobody = nothing _ (sym (fin.len-entries fin.empty) ∙ fin.len-empty name_cmp (List ℕ))
+nobody : fin.entries (fin.empty {X = UserSecret} {R = name_cmp}) ≡ []
+nobody = nothing _ (sym (fin.len-entries fin.empty) ∙ fin.len-empty name_cmp UserSecret)
 
-one : (name password : List ℕ)
-    → fin.entries (fin.insert (fin.empty {R = name_cmp}) name password) ≡ (name, password) ∷ []
-one name password = fin.entries-insert nat_list_cmp_total fin.empty name password
-    ∙ ap (fin.put name_cmp name password) nobody
+pub one : (name : List ℕ) (secret : UserSecret)
+    → fin.entries (fin.insert (fin.empty {R = name_cmp}) name secret) ≡ (name, secret) ∷ []
+one name secret = fin.entries-insert nat_list_cmp_total fin.empty name secret
+    ∙ ap (fin.put name_cmp name secret) nobody
 
-found : (name password : List ℕ)
-    → fin.get (fin.insert (fin.empty {R = name_cmp}) name password) name ≡ Some password
-found name password =
-    fin.get-insert nat_list_cmp_total fin.empty name password name
-    ∙ ap (λ b. cond b (Some password) (fin.get (fin.empty {R = name_cmp}) name)) ((eq_by_cmp_equiv nat_list_cmp_total).refl name)
+found : (name : List ℕ) (secret : UserSecret)
+    → fin.get (fin.insert (fin.empty {R = name_cmp}) name secret) name ≡ Some secret
+found name secret =
+    fin.get-insert nat_list_cmp_total fin.empty name secret name
+    ∙ ap (λ b. cond b (Some secret) (fin.get (fin.empty {R = name_cmp}) name)) ((eq_by_cmp_equiv nat_list_cmp_total).refl name)
 
 -- the user of a name is found alone
 pub named_alone : (users : Registered) (name : List ℕ)
     → user_named (just users (user_named users name)) name ≡ user_named users name
-named_alone users name = by (fin.get users.passwords name)
+named_alone users name = by (fin.get users.secrets name)
   where
-    by : (o : Option (List ℕ))
-        → with_password name (fin.get (only_user (with_password name o)) name)
-        ≡ with_password name o
-    by None = ap (with_password name) (fin.get-empty name_cmp name)
-    by (Some password) = ap (with_password name) (found name password)
+    by : (o : Option UserSecret)
+        → with_secret name (fin.get (only_user (with_secret name o)) name)
+        ≡ with_secret name o
+    by None = ap (with_secret name) (fin.get-empty name_cmp name)
+    by (Some secret) = ap (with_secret name) (found name secret)
 
 -- what `find` finds passes
 passes : (test : List ℕ → Bool) (names : List (List ℕ))
@@ -77,33 +76,33 @@ abbrev has_hash : Registered → List ℕ → List ℕ → Bool
 has_hash users hash name = bytes_eq (userhash name users.realm) hash
 
 -- the first of these names that has a hash, as a user of a realm where one user is present or nobody
-abbrev first_in : Registered → Option NameAndPassword → List ℕ → List (List ℕ × List ℕ)
-    → Option NameAndPassword
+abbrev first_in : Registered → Option RegisteredUser → List ℕ → List (List ℕ × UserSecret)
+    → Option RegisteredUser
 first_in users user hash es =
     option_and_then (user_named (just users user)) (find (has_hash users hash) (map (λ e. e.0) es))
 
 hashed_of : (users : Registered) (hash name : List ℕ) → has_hash users hash name ≡ true
-    → (o : Option (List ℕ))
-    → user_with_hash (just users (with_password name o)) hash ≡ with_password name o
+    → (o : Option UserSecret)
+    → user_with_hash (just users (with_secret name o)) hash ≡ with_secret name o
 hashed_of users hash name is None = ap (first_in users None hash) nobody
-hashed_of users hash name is (Some password) =
-    let user = with_password name (Some password) in
-    ap (first_in users user hash) (one name password)
+hashed_of users hash name is (Some secret) =
+    let user = with_secret name (Some secret) in
+    ap (first_in users user hash) (one name secret)
     ∙ ap (λ b. option_and_then (user_named (just users user)) (cond b (Some name) None)) is
-    ∙ ap (with_password name) (found name password)
+    ∙ ap (with_secret name) (found name secret)
 
 -- the first user of a hash is found alone
 pub hashed_alone : (users : Registered) (hash : List ℕ)
     → user_with_hash (just users (user_with_hash users hash)) hash ≡ user_with_hash users hash
 hashed_alone users hash =
-    by (find (has_hash users hash) (fin.keys users.passwords))
-    (passes (has_hash users hash) (fin.keys users.passwords))
+    by (find (has_hash users hash) (fin.keys users.secrets))
+    (passes (has_hash users hash) (fin.keys users.secrets))
   where
     by : (o : Option (List ℕ)) → IfSome o (λ name. has_hash users hash name ≡ true)
         → user_with_hash (just users (option_and_then (user_named users) o)) hash
         ≡ option_and_then (user_named users) o
     by None h = ap (first_in users None hash) nobody
-    by (Some name) h = hashed_of users hash name h (fin.get users.passwords name)
+    by (Some name) h = hashed_of users hash name h (fin.get users.secrets name)
 
 -- ---- the verdict
 
@@ -126,7 +125,7 @@ named_by-alone users feature (Some hash) username = by (is_possible feature)
     by false = refl
 
 -- the table of refusals, of the user who is named
-abbrev rows : Registered → List ℕ → Option AlgorithmSet → Reading → Option NameAndPassword
+abbrev rows : Registered → List ℕ → Option AlgorithmSet → Reading → Option RegisteredUser
     → List (Bool × Refusal)
 rows users ours offered r user =
     (is_none r.integrity, Unauthorized)
@@ -141,19 +140,19 @@ rows users ours offered r user =
     )
     ∷ []
 
-abbrev verdict_of : Registered → List ℕ → Option AlgorithmSet → Reading → Option NameAndPassword
+abbrev verdict_of : Registered → List ℕ → Option AlgorithmSet → Reading → Option RegisteredUser
     → Result ClientSeen Refusal
 verdict_of users ours offered r user =
     or_refused
     (option_map_or (λ (row : Bool × Refusal). Some row.1)
     (find (λ (row : Bool × Refusal). row.0) (rows users ours offered r user)) None)
     (record {
-      name = option_map_or (λ (u : NameAndPassword). u.username) user [];
+      name = option_map_or (λ (u : RegisteredUser). u.username) user [];
       algorithm = unwrap_or (agreed r (their_nonce r) offered) Sha1;
     })
 
 -- the verdict looks at the users for the one who is named alone
-verdict-named : (users : Registered) (user : Option NameAndPassword) (feature : Feature)
+verdict-named : (users : Registered) (user : Option RegisteredUser) (feature : Feature)
     (ours : List ℕ) (offered : Option AlgorithmSet) (r : Reading)
     → named (just users user) feature r ≡ named users feature r
     → verdict (just users user) feature ours offered r ≡ verdict users feature ours offered r
@@ -170,8 +169,8 @@ client-alone users r place = by (option_and_then (λ (p : PlaceSeen). p.client) 
         ≡ option_and_then (verified_for_client users r) o
     by None = refl
     by (Some c) =
-        ap (λ (user : Option NameAndPassword). option_and_then (verified_under r)
-        (option_and_then (λ (u : NameAndPassword). key_of users u c.algorithm) user))
+        ap (λ (user : Option RegisteredUser). option_and_then (verified_under r)
+        (option_and_then (λ (u : RegisteredUser). key_of users u c.algorithm) user))
         (named_alone users c.name)
 
 -- ---- a server

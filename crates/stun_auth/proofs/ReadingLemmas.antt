@@ -10,7 +10,7 @@ use Rattle.stun_types.specs.Attribute.{TypedValue}
 use Rattle.stun_types.specs.Integrity.{first_of, is_integrity}
 use Rattle.stun_types.specs.Walk.{Member}
 use Rattle.stun_auth.specs.Reading.{last_of}
-use Rattle.stun_auth.specs.declared.reading.LastAttributes.{LastAttributes}
+use Rattle.stun_auth.specs.declared.message.reading.LastAttributes.{LastAttributes}
 use Rattle.stun_auth.specs.code.LastAttributes.{last_attributes, with_attribute}
 
 -- the last of a type with one member more in front

@@ -6,34 +6,35 @@ use Rattle.std.specs.Map.{lookup}
 use Rattle.std.specs.String.{string_bytes}
 use Rattle.std.specs.Map.Calls.{RetainsPairs}
 use Rattle.stun_auth.specs.declared.algorithm_set.AlgorithmSet.{AlgorithmSet}
-use Rattle.stun_auth.specs.code.Users.{HasKeys}
-use Rattle.stun_auth.specs.declared.registry.User.{User}
+use Rattle.stun_auth.specs.Registered.{UserSecret}
+use Rattle.stun_auth.specs.code.Users.{HasKeys, secret_of}
+use Rattle.stun_auth.specs.declared.server.registry.User.{User}
 
--- a name and the user's password
-abbrev pub pair_seen : {A B : Type 0} → String A × User B → List ℕ × List ℕ
-pair_seen e = (string_bytes e.0, string_bytes e.1.password)
+-- a name and what the user is known by
+abbrev pub pair_seen : {A B : Type 0} → String A × User B → List ℕ × UserSecret
+pair_seen e = (string_bytes e.0, secret_of e.1)
 
--- a call keeps the pair, and the user has the same password and a key for each of the algorithms
+-- a call keeps the pair, and the user has the same secret and a key for each of the algorithms
 pub record MakesKeys {A B : Type 0} (realm : List ℕ) (algorithms : AlgorithmSet) (name : String A) (before : User B) (kept : Bool) (after : User B) : Type 0 where
   pub keeps : kept ≡ true
   pub keys : HasKeys realm algorithms (string_bytes name) after
-  pub password : string_bytes after.password ≡ string_bytes before.password
+  pub secret : secret_of after ≡ secret_of before
 
--- a name and a password in front of others
-abbrev in_front : {A : Type 0} → String A → List (List ℕ × List ℕ) → List ℕ → List (List ℕ × List ℕ)
-in_front name others password = (string_bytes name, password) ∷ others
+-- a name and a secret in front of others
+abbrev in_front : {A : Type 0} → String A → List (List ℕ × UserSecret) → UserSecret → List (List ℕ × UserSecret)
+in_front name others secret = (string_bytes name, secret) ∷ others
 
 module _ {A B F : Type 0} (T : F → String A → User B → Bool → User B → F → Type 0) (realm : List ℕ) (algorithms : AlgorithmSet)
     (f : F) (call : (k : String A) (v : User B) (b : Bool) (w : User B) (g : F) → T f k v b w g → MakesKeys realm algorithms k v b w × (g ≡ f)) where
-  -- names and passwords stay
-  pub passwords-kept : (es kept : List (String A × User B)) → RetainsPairs T f es kept
+  -- names and secrets stay
+  pub secrets-kept : (es kept : List (String A × User B)) → RetainsPairs T f es kept
       → map pair_seen kept ≡ map pair_seen es
-  passwords-kept [] kept r = ap (map pair_seen) r
-  passwords-kept (e ∷ es) kept r =
+  secrets-kept [] kept r = ap (map pair_seen) r
+  secrets-kept (e ∷ es) kept r =
       let made = call e.0 e.1 r.0 r.1 r.2 r.4 in
-      let rest = passwords-kept es r.3 (subst (λ u. RetainsPairs T u es r.3) made.1 r.5) in
+      let rest = secrets-kept es r.3 (subst (λ u. RetainsPairs T u es r.3) made.1 r.5) in
       ap (map pair_seen) (r.6 ∙ ap (λ b. cond b ((e.0, r.1) ∷ r.3) r.3) made.0.keeps)
-      ∙ ap (in_front e.0 (map pair_seen r.3)) made.0.password
+      ∙ ap (in_front e.0 (map pair_seen r.3)) made.0.secret
       ∙ ap (λ l. pair_seen e ∷ l) rest
 
   -- the user that is found under a name has the keys of that name

@@ -7,8 +7,8 @@ use Rattle.std.proofs.lemmas.List.Folds.{list_any-append}
 use Rattle.std.proofs.lemmas.List.Sums.{sum_by-append, sum_by-cons}
 use Rattle.stun_base.specs.Algorithm.{digest_length}
 use Rattle.stun_base.specs.Attributes.{NONCE, PASSWORD_ALGORITHM, PASSWORD_ALGORITHMS, REALM, USERHASH, USERNAME}
-use Rattle.stun_base.specs.declared.error.StunWriteError.{StunWriteError}
-use Rattle.stun_base.specs.declared.error.StunWriteError.TheVariants.{NotAllowed, MessageIntegrityExists, AttributeExists, TooLarge, TooSmall}
+use Rattle.stun_base.specs.declared.wire.error.StunWriteError.{StunWriteError}
+use Rattle.stun_base.specs.declared.wire.error.StunWriteError.TheVariants.{NotAllowed, MessageIntegrityExists, AttributeExists, TooLarge, TooSmall}
 use Rattle.stun_types.specs.Attribute.{TypedValue, attribute_length}
 use Rattle.stun_types.specs.Message.{IsMessage}
 use Rattle.stun_types.specs.Visible.{has_kind}

@@ -22,7 +22,7 @@ use Rattle.stun_auth.specs.Places.{PlacesSeen}
 use Rattle.stun_auth.specs.Seen.{PlaceSeen}
 use Rattle.stun_auth.specs.Validation.{ServerSeen}
 use Rattle.stun_auth.specs.code.Places.{IsFirstFrom, place_seen, places_seen}
-use Rattle.stun_auth.specs.declared.places.Place.{Place}
+use Rattle.stun_auth.specs.declared.server.places.Place.{Place}
 use Rattle.stun_auth.proofs.Addresses.{address_total, address_exact}
 use Rattle.stun_auth.proofs.Forgotten.{get-places_kept}
 use Rattle.stun_auth.proofs.LeastNames.{find-least, find-none}

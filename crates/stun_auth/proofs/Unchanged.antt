@@ -15,8 +15,8 @@ use Rattle.stun_auth.specs.Reasons.{OrMemory, ServerRefusal}
 use Rattle.stun_base.specs.Moments.{moment_after}
 use Rattle.stun_auth.specs.Server.{Sight, standing, standing_of, stands_at}
 use Rattle.stun_auth.specs.Validation.{ChangesNothing, ServerSeen, sight, with_accepted, put_place, needs_nonce, after_message, verdict_at}
-use Rattle.stun_auth.specs.declared.server_reason.LongTermServerAuthErrorReason.{LongTermServerAuthErrorReason}
-use Rattle.stun_auth.specs.declared.server_reason.LongTermServerAuthErrorReason.TheVariants.{Unauthorized, IntegrityFailed, UnsupportedFeature, BadRequest, StaleNonce, OutOfMemory}
+use Rattle.stun_auth.specs.declared.server.reason.LongTermServerAuthErrorReason.{LongTermServerAuthErrorReason}
+use Rattle.stun_auth.specs.declared.server.reason.LongTermServerAuthErrorReason.TheVariants.{Unauthorized, IntegrityFailed, UnsupportedFeature, BadRequest, StaleNonce, OutOfMemory}
 use Rattle.stun_auth.specs.Nonces.{nonce_of}
 use Rattle.std.specs.declared.result.Result.{Result}
 use Rattle.std.specs.declared.result.Result.TheVariants.{Ok, Err}

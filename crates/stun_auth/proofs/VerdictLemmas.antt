@@ -7,20 +7,19 @@ use Rattle.std.specs.FinMap as fin
 use Rattle.std.specs.Str.{bytes_eq}
 use Rattle.std.proofs.lemmas.Slice.Eq.{bytes_eq-Decides}
 use Rattle.std.specs.declared.result.Result.{Result}
-use Rattle.stun_base.specs.declared.algorithm.IntegrityAlgorithm.{IntegrityAlgorithm}
-use Rattle.stun_base.specs.declared.algorithm.IntegrityAlgorithm.TheVariants.{Sha1}
-use Rattle.stun_base.specs.Credentials.{NameAndPassword}
+use Rattle.stun_base.specs.declared.keys.algorithm.IntegrityAlgorithm.{IntegrityAlgorithm}
+use Rattle.stun_base.specs.declared.keys.algorithm.IntegrityAlgorithm.TheVariants.{Sha1}
 use Rattle.stun_types.specs.PasswordAlgorithms.{integrity_of}
 use Rattle.stun_types.specs.declared.attribute.password_algorithm.PasswordAlgorithmValue.{PasswordAlgorithmValue}
 use Rattle.stun_types.specs.declared.attribute.password_algorithm.PasswordAlgorithmValue.TheVariants.{MD5, SHA256}
 use Rattle.stun_auth.specs.declared.algorithm_set.AlgorithmSet.{AlgorithmSet}
 use Rattle.stun_auth.specs.declared.feature.Feature.{Feature}
-use Rattle.stun_auth.specs.declared.server_reason.Refusal.{Refusal}
-use Rattle.stun_auth.specs.declared.server_reason.Refusal.TheVariants.{Unauthorized, BadRequest}
+use Rattle.stun_auth.specs.declared.server.reason.Refusal.{Refusal}
+use Rattle.stun_auth.specs.declared.server.reason.Refusal.TheVariants.{Unauthorized, BadRequest}
 use Rattle.stun_auth.specs.Algorithms.{same_list}
 use Rattle.stun_auth.specs.Feature.{is_possible}
 use Rattle.stun_auth.specs.Reading.{Reading, verified_under}
-use Rattle.stun_auth.specs.Registered.{Registered, key_of, name_with_hash, user_named, user_with_hash}
+use Rattle.stun_auth.specs.Registered.{Registered, RegisteredUser, UserSecret, key_of, name_with_hash, user_named, user_with_hash}
 use Rattle.stun_auth.specs.Seen.{ClientSeen}
 use Rattle.stun_auth.specs.Server.{agreed, client_of, named, named_by, nonce_refusal, or_refused, proven, verified_for, their_nonce, verdict}
 use Rattle.stun_auth.specs.code.Judging.{name_by, name_in}
@@ -125,8 +124,8 @@ unless-cond true client = refl
 unless-cond false client = refl
 
 -- a user who is perhaps not there, and the name, if any
-abbrev name_or : Option NameAndPassword → List ℕ
-name_or user = option_map_or (λ (u : NameAndPassword). u.username) user []
+abbrev name_or : Option RegisteredUser → List ℕ
+name_or user = option_map_or (λ (u : RegisteredUser). u.username) user []
 
 -- the last two steps, of a name and an algorithm
 last_steps : (users : Registered) (r : Reading) (a : IntegrityAlgorithm) (name : Option (List ℕ))
@@ -134,16 +133,16 @@ last_steps : (users : Registered) (r : Reading) (a : IntegrityAlgorithm) (name :
     ≡ unless (is_none (option_and_then (verified_for users r a) (option_and_then (user_named users) name)))
     (record { name = name_or (option_and_then (user_named users) name); algorithm = a })
 last_steps users r a None = refl
-last_steps users r a (Some name) = of_password (fin.get users.passwords name)
+last_steps users r a (Some name) = of_secret (fin.get users.secrets name)
   where
-    of_password : (o : Option (List ℕ))
-        → cond (is_some (option_and_then (verified_under r) (option_and_then (λ (user : NameAndPassword). key_of users user a) (option_map (λ password. record { username = name; password = password }) o))))
+    of_secret : (o : Option UserSecret)
+        → cond (is_some (option_and_then (verified_under r) (option_and_then (λ (user : RegisteredUser). key_of users user a) (option_map (λ secret. record { username = name; secret = secret }) o))))
         (Ok (record { name = name; algorithm = a })) (Err Unauthorized)
-        ≡ unless (is_none (option_and_then (verified_for users r a) (option_map (λ password. record { username = name; password = password }) o)))
-        (record { name = name_or (option_map (λ password. record { username = name; password = password }) o); algorithm = a })
-    of_password None = refl
-    of_password (Some password) =
-        unless-is_some (option_and_then (verified_under r) (key_of users (record { username = name; password = password }) a)) (record { name = name; algorithm = a })
+        ≡ unless (is_none (option_and_then (verified_for users r a) (option_map (λ secret. record { username = name; secret = secret }) o)))
+        (record { name = name_or (option_map (λ secret. record { username = name; secret = secret }) o); algorithm = a })
+    of_secret None = refl
+    of_secret (Some secret) =
+        unless-is_some (option_and_then (verified_under r) (key_of users (record { username = name; secret = secret }) a)) (record { name = name; algorithm = a })
 
 -- the rows from the fourth on, where a nonce is named
 abbrev rows_from : Registered → Feature → List ℕ → Option AlgorithmSet → Reading → List ℕ → Option IntegrityAlgorithm → Result ClientSeen Refusal
@@ -161,7 +160,7 @@ by_choice-rows users feature ours offered r theirs (Some a) = by (bytes_eq their
         ≡ cond (is_none (option_and_then (verified_for users r a) (named users feature r))) (Err Unauthorized) (Ok (record { name = name_or (named users feature r); algorithm = a }))
     judged =
         last_steps users r a (name_in users feature r)
-        ∙ ap (λ (user : Option NameAndPassword). unless (is_none (option_and_then (verified_for users r a) user)) (record { name = name_or user; algorithm = a })) (sym (user_of users feature r.userhash r.username))
+        ∙ ap (λ (user : Option RegisteredUser). unless (is_none (option_and_then (verified_for users r a) user)) (record { name = name_or user; algorithm = a })) (sym (user_of users feature r.userhash r.username))
         ∙ unless-cond (is_none (option_and_then (verified_for users r a) (named users feature r))) (record { name = name_or (named users feature r); algorithm = a })
 
     by : (b : Bool)

@@ -3,10 +3,10 @@ use Rattle.std.proofs.Common.{◌≡◌, ℕ, ◌+◌, ◌<◌, ◌≤◌, Bool,
 use Rattle.std.specs.Prelude.{◌-◌, IsOk, OnOk, if◌then◌else◌, length, map, nat_lt}
 use Rattle.std.proofs.lemmas.Bool.{cases_lt}
 use Rattle.std.proofs.lemmas.List.Sums.{sum_by-cons}
-use Rattle.stun_base.specs.declared.error.StunWriteError.{StunWriteError}
-use Rattle.stun_base.specs.declared.error.StunWriteError.TheVariants.{NotAllowed, MessageIntegrityExists, AttributeExists, TooLarge, TooSmall, IntegrityFailed, OutOfMemory}
+use Rattle.stun_base.specs.declared.wire.error.StunWriteError.{StunWriteError}
+use Rattle.stun_base.specs.declared.wire.error.StunWriteError.TheVariants.{NotAllowed, MessageIntegrityExists, AttributeExists, TooLarge, TooSmall, IntegrityFailed, OutOfMemory}
 use Rattle.stun_base.specs.Algorithm.{digest_length}
-use Rattle.stun_base.specs.declared.algorithm.IntegrityAlgorithm.{IntegrityAlgorithm}
+use Rattle.stun_base.specs.declared.keys.algorithm.IntegrityAlgorithm.{IntegrityAlgorithm}
 use Rattle.stun_types.specs.Attribute.{TypedValue, attribute_length}
 use Rattle.stun_types.specs.Visible.{has_kind}
 use Rattle.stun_types.specs.Walk.{walk}

@@ -1,7 +1,7 @@
 -- The attributes that signing adds (RFC 8489, sections 9.2.3 to 9.2.5), by their types and values.
 use Rattle.std.specs.Prelude.{ℕ, List, map}
 use Rattle.stun_base.specs.Attributes.{USERNAME, REALM, NONCE, USERHASH, PASSWORD_ALGORITHM, PASSWORD_ALGORITHMS}
-use Rattle.stun_base.specs.declared.algorithm.IntegrityAlgorithm.{IntegrityAlgorithm}
+use Rattle.stun_base.specs.declared.keys.algorithm.IntegrityAlgorithm.{IntegrityAlgorithm}
 use Rattle.stun_types.specs.Attribute.{TypedValue}
 use Rattle.stun_types.specs.PasswordAlgorithms.{password_algorithm_of, spelled_entries, spelled_entry}
 

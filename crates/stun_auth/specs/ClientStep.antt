@@ -4,8 +4,8 @@ use Rattle.std.specs.Prelude.{ℕ, ◌==◌, List, [], find, Bool, true, false, 
 use Rattle.std.specs.Str.{bytes_eq}
 use Rattle.stun_base.specs.Credentials.{NameAndPassword}
 use Rattle.stun_base.specs.Keys.{long_term_key, userhash}
-use Rattle.stun_base.specs.declared.algorithm.IntegrityAlgorithm.{IntegrityAlgorithm}
-use Rattle.stun_base.specs.declared.algorithm.IntegrityAlgorithm.TheVariants.{Sha1}
+use Rattle.stun_base.specs.declared.keys.algorithm.IntegrityAlgorithm.{IntegrityAlgorithm}
+use Rattle.stun_base.specs.declared.keys.algorithm.IntegrityAlgorithm.TheVariants.{Sha1}
 use Rattle.stun_auth.specs.Algorithms.{has}
 use Rattle.stun_auth.specs.Client.{ClientSettings, Naming, plain, hashed, Challenge, ClientState, initial, authenticating, authenticated}
 use Rattle.stun_auth.specs.Feature.{is_possible}
@@ -14,12 +14,12 @@ use Rattle.stun_base.specs.MessageType.{is_success}
 use Rattle.stun_auth.specs.Reading.{Reading, verified_under}
 use Rattle.stun_auth.specs.declared.feature.Feature.{Feature}
 use Rattle.stun_auth.specs.declared.feature.Feature.TheVariants.{Auto, Required, Disabled}
-use Rattle.stun_auth.specs.declared.challenge.Refusal.{Refusal}
-use Rattle.stun_auth.specs.declared.challenge.Refusal.TheVariants as Refused
-use Rattle.stun_auth.specs.declared.client_answer.LongTermClientAuthErrorReason.{LongTermClientAuthErrorReason}
-use Rattle.stun_auth.specs.declared.client_answer.LongTermClientAuthErrorReason.TheVariants.{Unauthorized, IntegrityFailed, UnsupportedFeature, OutOfMemory}
-use Rattle.stun_auth.specs.declared.client_answer.LongTermClientValidation.{LongTermClientValidation}
-use Rattle.stun_auth.specs.declared.client_answer.LongTermClientValidation.TheVariants.{ResendRequest, Validated}
+use Rattle.stun_auth.specs.declared.client.challenge.Refusal.{Refusal}
+use Rattle.stun_auth.specs.declared.client.challenge.Refusal.TheVariants as Refused
+use Rattle.stun_auth.specs.declared.client.answer.LongTermClientAuthErrorReason.{LongTermClientAuthErrorReason}
+use Rattle.stun_auth.specs.declared.client.answer.LongTermClientAuthErrorReason.TheVariants.{Unauthorized, IntegrityFailed, UnsupportedFeature, OutOfMemory}
+use Rattle.stun_auth.specs.declared.client.answer.LongTermClientValidation.{LongTermClientValidation}
+use Rattle.stun_auth.specs.declared.client.answer.LongTermClientValidation.TheVariants.{ResendRequest, Validated}
 
 -- what a message is answered
 abbrev pub ClientAnswer : Type 0

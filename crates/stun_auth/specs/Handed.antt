@@ -1,17 +1,21 @@
 -- A user who is handed in with a message, for a server that keeps no list of its users (RFC 8489,
 -- section 9.2.4).
-use Rattle.std.specs.Prelude.{ℕ, List, if◌then◌else◌, Option, Some, None}
+use Rattle.std.specs.Prelude.{◌≡◌, ℕ, List, if◌then◌else◌, true, Option, Some, None}
 use Rattle.std.specs.Option.{option_and_then, option_map}
 use Rattle.std.specs.FinMap as map
 use Rattle.std.specs.declared.net.socket_addr.SocketAddr.{SocketAddr}
 use Rattle.stun_base.specs.Credentials.{NameAndPassword}
+use Rattle.stun_base.specs.Keys.{long_term_key}
 use Rattle.stun_base.specs.MessageType.{is_response}
+use Rattle.stun_base.specs.declared.keys.algorithm.IntegrityAlgorithm.{IntegrityAlgorithm}
 use Rattle.stun_auth.specs.declared.feature.Feature.{Feature}
-use Rattle.stun_auth.specs.declared.named_user.NamedUser.{NamedUser}
-use Rattle.stun_auth.specs.declared.named_user.NamedUser.TheVariants.{ByName, ByHash}
+use Rattle.stun_auth.specs.declared.server.named_user.NamedUser.{NamedUser}
+use Rattle.stun_auth.specs.declared.server.named_user.NamedUser.TheVariants.{ByName, ByHash}
+use Rattle.stun_auth.specs.declared.server.stored_keys.StoredKeys.{StoredKeys}
+use Rattle.stun_auth.specs.Algorithms.{contains}
 use Rattle.stun_auth.specs.Feature.{is_possible}
 use Rattle.stun_auth.specs.Reading.{Reading}
-use Rattle.stun_auth.specs.Registered.{Registered, name_cmp, user_named, user_with_hash}
+use Rattle.stun_auth.specs.Registered.{Registered, RegisteredUser, UserSecret, name_cmp, stored_key, user_named, user_with_hash}
 use Rattle.stun_auth.specs.Seen.{ClientSeen, PlaceSeen}
 use Rattle.stun_auth.specs.Server.{Sight}
 use Rattle.stun_auth.specs.Validation.{ServerSeen, sight}
@@ -43,25 +47,35 @@ abbrev pub judged_by : Sight → Reading → Option Named
 judged_by s r = if is_response r.class then named_at s.place else named_in r.userhash r.username s.feature
 
 -- the present user who is meant
-abbrev pub user_of : Registered → Named → Option NameAndPassword
+abbrev pub user_of : Registered → Named → Option RegisteredUser
 user_of users (by_name name) = user_named users name
 user_of users (by_hash hash) = user_with_hash users hash
 
 -- the one user whom a message means, if present
-abbrev pub meant : ServerSeen → SocketAddr → Reading → Option NameAndPassword
+abbrev pub meant : ServerSeen → SocketAddr → Reading → Option RegisteredUser
 meant s from r = option_and_then (user_of s.registered) (judged_by (sight s from) r)
 
 -- ---- a server with other users
 
 -- one user, or nobody
-abbrev pub only_user : Option NameAndPassword → map.FinMap name_cmp (List ℕ)
+abbrev pub only_user : Option RegisteredUser → map.FinMap name_cmp UserSecret
 only_user None = map.empty
-only_user (Some user) = map.insert map.empty user.username user.password
+only_user (Some user) = map.insert map.empty user.username user.secret
 
 -- the realm with its algorithms, where this user alone is present, or nobody
-abbrev pub just : Registered → Option NameAndPassword → Registered
-just users user = record users { passwords = only_user user }
+abbrev pub just : Registered → Option RegisteredUser → Registered
+just users user = record users { secrets = only_user user }
+
+-- the keys are those that a user's password makes at the realm, for each supported algorithm
+abbrev pub AreKeysOf : Registered → NameAndPassword → StoredKeys → Type 0
+AreKeysOf users user keys =
+    (a : IntegrityAlgorithm) → contains a users.algorithms ≡ true
+    → stored_key keys a ≡ Some (long_term_key a user.username users.realm user.password)
 
 -- the server with other users in the place of its own
 abbrev pub with_users : ServerSeen → Registered → ServerSeen
 with_users s users = record s { registered = users }
+
+-- the server with one user in the place of its own
+abbrev pub with_just : ServerSeen → RegisteredUser → ServerSeen
+with_just s user = with_users s (just s.registered (Some user))

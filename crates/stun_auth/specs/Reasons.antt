@@ -1,10 +1,10 @@
 -- Why a server refuses a message, and answers that a failed allocation may take the place of (RFC 8489, section 9.2.4).
 use Rattle.std.specs.declared.result.Result.{Result}
 use Rattle.std.specs.declared.result.Result.TheVariants.{Ok, Err}
-use Rattle.stun_auth.specs.declared.server_reason.Refusal.{Refusal}
-use Rattle.stun_auth.specs.declared.server_reason.Refusal.TheVariants as Refused
-use Rattle.stun_auth.specs.declared.server_reason.LongTermServerAuthErrorReason.{LongTermServerAuthErrorReason}
-use Rattle.stun_auth.specs.declared.server_reason.LongTermServerAuthErrorReason.TheVariants.{Unauthorized, IntegrityFailed, UnsupportedFeature, BadRequest, StaleNonce, OutOfMemory}
+use Rattle.stun_auth.specs.declared.server.reason.Refusal.{Refusal}
+use Rattle.stun_auth.specs.declared.server.reason.Refusal.TheVariants as Refused
+use Rattle.stun_auth.specs.declared.server.reason.LongTermServerAuthErrorReason.{LongTermServerAuthErrorReason}
+use Rattle.stun_auth.specs.declared.server.reason.LongTermServerAuthErrorReason.TheVariants.{Unauthorized, IntegrityFailed, UnsupportedFeature, BadRequest, StaleNonce, OutOfMemory}
 
 -- the refusals by their names
 abbrev pub ServerRefusal : Type 0

@@ -7,54 +7,85 @@ use Rattle.std.specs.Ordering.{nat_cmp}
 use Rattle.std.specs.declared.cmp.Ordering.{Ordering}
 use Rattle.std.specs.Cmp.Lexicographic.{slice_cmp}
 use Rattle.std.specs.FinMap as map
-use Rattle.stun_base.specs.declared.algorithm.IntegrityAlgorithm.{IntegrityAlgorithm}
-use Rattle.stun_base.specs.declared.algorithm.IntegrityAlgorithm.TheVariants.{Sha1}
+use Rattle.stun_base.specs.declared.keys.algorithm.IntegrityAlgorithm.{IntegrityAlgorithm}
+use Rattle.stun_base.specs.declared.keys.algorithm.IntegrityAlgorithm.TheVariants.{Sha1, Sha256}
 use Rattle.stun_base.specs.Credentials.{NameAndPassword}
 use Rattle.stun_base.specs.Keys.{long_term_key, userhash}
 use Rattle.stun_auth.specs.declared.algorithm_set.AlgorithmSet.{AlgorithmSet}
+use Rattle.stun_auth.specs.declared.server.stored_keys.StoredKeys.{StoredKeys}
 use Rattle.stun_auth.specs.Algorithms.{contains, only}
 
 -- names are ordered as bytes
 abbrev pub name_cmp : List ℕ → List ℕ → Ordering
 name_cmp = slice_cmp nat_cmp
 
--- the realm, the supported algorithms, and each present user's password
+-- what a user is known by: a password, or the keys that were made of one and stored
+pub data UserSecret : Type 0 where
+  of_password : List ℕ → UserSecret
+  of_keys : StoredKeys → UserSecret
+
+-- a present user
+pub record RegisteredUser : Type 0 where
+  pub username : List ℕ
+  pub secret : UserSecret
+
+-- the user who is known by a password
+abbrev pub user_by_password : NameAndPassword → RegisteredUser
+user_by_password user = record { username = user.username; secret = of_password user.password }
+
+-- the user of a name who is known by stored keys
+abbrev pub user_by_keys : List ℕ → StoredKeys → RegisteredUser
+user_by_keys name keys = record { username = name; secret = of_keys keys }
+
+-- the realm, the supported algorithms, and what each present user is known by
 pub record Registered : Type 0 where
   pub realm : List ℕ
   pub algorithms : AlgorithmSet
-  pub passwords : map.FinMap name_cmp (List ℕ)
+  pub secrets : map.FinMap name_cmp UserSecret
 
 -- a realm where nobody is present yet, with HMAC-SHA1 alone
 abbrev pub new_registered : List ℕ → Registered
-new_registered realm = record { realm = realm; algorithms = only Sha1; passwords = map.empty }
+new_registered realm = record { realm = realm; algorithms = only Sha1; secrets = map.empty }
 
 -- a user who is present from here on, or has another password from here on
 abbrev pub with_user : Registered → NameAndPassword → Registered
-with_user r user = record r { passwords = map.insert r.passwords user.username user.password }
+with_user r user = record r { secrets = map.insert r.secrets user.username (of_password user.password) }
 
 -- a user who is present no more
 abbrev pub without_user : Registered → List ℕ → Registered
-without_user r name = record r { passwords = map.remove r.passwords name }
+without_user r name = record r { secrets = map.remove r.secrets name }
 
 -- the present user of a name
-abbrev pub user_named : Registered → List ℕ → Option NameAndPassword
-user_named r name = option_map (λ password. record { username = name; password = password }) (map.get r.passwords name)
+abbrev pub user_named : Registered → List ℕ → Option RegisteredUser
+user_named r name = option_map (λ secret. record { username = name; secret = secret }) (map.get r.secrets name)
 
 -- the name of the first present user, in the order of names, that has this hash
 abbrev pub name_with_hash : Registered → List ℕ → Option (List ℕ)
-name_with_hash r hash = find (λ name. bytes_eq (userhash name r.realm) hash) (map.keys r.passwords)
+name_with_hash r hash = find (λ name. bytes_eq (userhash name r.realm) hash) (map.keys r.secrets)
 
 -- the first present user, in the order of names, that has this hash
-abbrev pub user_with_hash : Registered → List ℕ → Option NameAndPassword
+abbrev pub user_with_hash : Registered → List ℕ → Option RegisteredUser
 user_with_hash r hash = option_and_then (user_named r) (name_with_hash r hash)
 
--- the key for an algorithm, if it is supported
-abbrev pub key_if : Bool → IntegrityAlgorithm → List ℕ → List ℕ → List ℕ → Option (List ℕ)
-key_if supported a name realm password = if supported then Some (long_term_key a name realm password) else None
+-- the key that is stored for an algorithm, if one is
+abbrev pub stored_key : StoredKeys → IntegrityAlgorithm → Option (List ℕ)
+stored_key keys Sha1 = keys.sha1
+stored_key keys Sha256 = keys.sha256
 
--- the key that a user has for an algorithm: one for each supported algorithm, and no other
-abbrev pub key_of : Registered → NameAndPassword → IntegrityAlgorithm → Option (List ℕ)
-key_of r user a = key_if (contains a r.algorithms) a user.username r.realm user.password
+-- the key that a secret gives for an algorithm to the user of a name at a realm: made of the
+-- password, or as it is stored
+abbrev pub key_from : IntegrityAlgorithm → List ℕ → List ℕ → UserSecret → Option (List ℕ)
+key_from a name realm (of_password password) = Some (long_term_key a name realm password)
+key_from a name realm (of_keys keys) = stored_key keys a
+
+-- the key for an algorithm, if it is supported
+abbrev pub key_if : Bool → IntegrityAlgorithm → List ℕ → List ℕ → UserSecret → Option (List ℕ)
+key_if supported a name realm secret = if supported then key_from a name realm secret else None
+
+-- the key that a user has for an algorithm: if it is supported the one that the user's secret
+-- gives, and else none
+abbrev pub key_of : Registered → RegisteredUser → IntegrityAlgorithm → Option (List ℕ)
+key_of r user a = key_if (contains a r.algorithms) a user.username r.realm user.secret
 
 -- the key that the present user of a name has for an algorithm
 abbrev pub key_at : Registered → List ℕ → IntegrityAlgorithm → Option (List ℕ)

@@ -1,6 +1,6 @@
 -- What a server keeps for an address (RFC 8489, section 9.2.4).
 use Rattle.std.specs.Prelude.{ℕ, List, Option, Some, None}
-use Rattle.stun_base.specs.declared.algorithm.IntegrityAlgorithm.{IntegrityAlgorithm}
+use Rattle.stun_base.specs.declared.keys.algorithm.IntegrityAlgorithm.{IntegrityAlgorithm}
 use Rattle.stun_auth.specs.declared.algorithm_set.AlgorithmSet.{AlgorithmSet}
 
 -- the user who was validated last, and the algorithm that was agreed on

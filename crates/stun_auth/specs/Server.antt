@@ -6,20 +6,18 @@ use Rattle.std.specs.Str.{bytes_eq}
 use Rattle.std.specs.declared.result.Result.{Result}
 use Rattle.std.specs.declared.result.Result.TheVariants.{Ok, Err}
 use Rattle.std.specs.FinMap as map
-use Rattle.stun_base.specs.declared.algorithm.IntegrityAlgorithm.{IntegrityAlgorithm}
-use Rattle.stun_base.specs.declared.algorithm.IntegrityAlgorithm.TheVariants.{Sha1}
-use Rattle.stun_base.specs.Credentials.{NameAndPassword}
-use Rattle.stun_base.specs.Keys.{long_term_key}
+use Rattle.stun_base.specs.declared.keys.algorithm.IntegrityAlgorithm.{IntegrityAlgorithm}
+use Rattle.stun_base.specs.declared.keys.algorithm.IntegrityAlgorithm.TheVariants.{Sha1}
 use Rattle.stun_base.specs.Moments.{moment_after}
 use Rattle.stun_auth.specs.declared.algorithm_set.AlgorithmSet.{AlgorithmSet}
 use Rattle.stun_auth.specs.declared.feature.Feature.{Feature}
-use Rattle.stun_auth.specs.declared.server_reason.Refusal.{Refusal}
-use Rattle.stun_auth.specs.declared.server_reason.Refusal.TheVariants.{Unauthorized, BadRequest, StaleNonce}
+use Rattle.stun_auth.specs.declared.server.reason.Refusal.{Refusal}
+use Rattle.stun_auth.specs.declared.server.reason.Refusal.TheVariants.{Unauthorized, BadRequest, StaleNonce}
 use Rattle.stun_auth.specs.Algorithms.{contains, has, offered_list, same_list}
 use Rattle.stun_auth.specs.Feature.{is_possible}
 use Rattle.stun_auth.specs.Nonces.{asks_for_algorithms, nonce_of, security_bits}
 use Rattle.stun_auth.specs.Reading.{Reading, verified_under}
-use Rattle.stun_auth.specs.Registered.{Registered, key_of, user_named, user_with_hash}
+use Rattle.stun_auth.specs.Registered.{Registered, RegisteredUser, UserSecret, key_from, key_of, user_named, user_with_hash}
 use Rattle.stun_auth.specs.Seen.{ClientSeen, PlaceSeen, renewed}
 
 -- what one address can tell of a server
@@ -60,26 +58,29 @@ abbrev pub agreed : Reading → List ℕ → Option AlgorithmSet → Option Inte
 agreed r nonce offered = if asks_for_algorithms nonce then choice r.algorithms r.algorithm (offered_list offered) else Some Sha1
 
 -- the present user whom a message names: by a hash, where that is possible, or else by name
-abbrev pub named_by : Option (List ℕ) → Option (List ℕ) → Registered → Feature → Option NameAndPassword
+abbrev pub named_by : Option (List ℕ) → Option (List ℕ) → Registered → Feature → Option RegisteredUser
 named_by (Some hash) username users feature = if is_possible feature then user_with_hash users hash else None
 named_by None username users feature = option_and_then (user_named users) username
 
 -- the same by what is read of a message
-abbrev pub named : Registered → Feature → Reading → Option NameAndPassword
+abbrev pub named : Registered → Feature → Reading → Option RegisteredUser
 named users feature r = named_by r.userhash r.username users feature
 
 -- ---- acceptance, in one conjunction
 
 -- a realm, our nonce, algorithms that agree, a present user who is named, and the digest under that user's key
 pub record IsAccepted (users : Registered) (feature : Feature) (ours : List ℕ) (offered : Option AlgorithmSet) (r : Reading) (client : ClientSeen) : Type 0 where
-  pub password : List ℕ
+  pub secret : UserSecret
+  pub key : List ℕ
   pub realm : IsSome r.realm
   pub nonce : r.nonce ≡ Some ours
   pub algorithm : agreed r ours offered ≡ Some client.algorithm
-  pub named : named users feature r ≡ Some (record { username = client.name; password = password })
-  pub present : map.get users.passwords client.name ≡ Some password
+  pub named : named users feature r ≡ Some (record { username = client.name; secret = secret })
+  pub present : map.get users.secrets client.name ≡ Some secret
   pub supported : contains client.algorithm users.algorithms ≡ true
-  pub digest : IsSome (verified_under r (long_term_key client.algorithm client.name users.realm password))
+  -- the key that the user's password makes, or that is stored
+  pub key_is : key_from client.algorithm client.name users.realm secret ≡ Some key
+  pub digest : IsSome (verified_under r key)
 
 -- ---- the refusals, in a table
 
@@ -98,7 +99,7 @@ abbrev pub nonce_refusal : List ℕ → List ℕ → Refusal
 nonce_refusal ours theirs = if bits_differ (security_bits ours) (security_bits theirs) then Unauthorized else StaleNonce
 
 -- the algorithm whose digest verifies under the key that a user has for an algorithm
-abbrev pub verified_for : Registered → Reading → IntegrityAlgorithm → NameAndPassword → Option IntegrityAlgorithm
+abbrev pub verified_for : Registered → Reading → IntegrityAlgorithm → RegisteredUser → Option IntegrityAlgorithm
 verified_for users r a user = option_and_then (verified_under r) (key_of users user a)
 
 -- the algorithm whose digest verifies, of the user who is named and the algorithm that both sides mean
@@ -126,7 +127,7 @@ refusal users feature ours offered r =
 -- the client that an accepted message makes: the named user with the agreed algorithm
 abbrev pub client_of : Registered → Feature → List ℕ → Option AlgorithmSet → Reading → ClientSeen
 client_of users feature ours offered r = record {
-  name = option_map_or (λ (user : NameAndPassword). user.username) (named users feature r) [];
+  name = option_map_or (λ (user : RegisteredUser). user.username) (named users feature r) [];
   algorithm = unwrap_or (agreed r (their_nonce r) offered) Sha1;
 }
 

@@ -1,9 +1,9 @@
 -- Short-term authentication (RFC 8489, section 9.1).
 use Rattle.std.specs.Prelude.{◌≡◌, ℕ, ◌≤◌, false, List, Option, Some, None, Result, Ok, Err, ⊤}
 use Rattle.stun_base.specs.Algorithm.{digest_length}
-use Rattle.stun_base.specs.declared.algorithm.IntegrityAlgorithm.{IntegrityAlgorithm}
-use Rattle.stun_base.specs.declared.error.ValidateError.{ValidateError}
-use Rattle.stun_base.specs.declared.error.StunWriteError.{StunWriteError}
+use Rattle.stun_base.specs.declared.keys.algorithm.IntegrityAlgorithm.{IntegrityAlgorithm}
+use Rattle.stun_base.specs.declared.wire.error.ValidateError.{ValidateError}
+use Rattle.stun_base.specs.declared.wire.error.StunWriteError.{StunWriteError}
 use Rattle.stun_types.specs.Attribute.{attribute_length}
 use Rattle.stun_types.specs.Integrity.{verified_algorithm, integrity_refusal}
 use Rattle.stun_types.specs.Limits.{max_length}

@@ -1,6 +1,6 @@
 -- The algorithms that a client supports, in the order of their adding and without repeats.
 use Rattle.std.specs.Prelude.{List, [], ◌∷◌, ◌++◌, if◌then◌else◌}
-use Rattle.stun_base.specs.declared.algorithm.IntegrityAlgorithm.{IntegrityAlgorithm}
+use Rattle.stun_base.specs.declared.keys.algorithm.IntegrityAlgorithm.{IntegrityAlgorithm}
 use Rattle.stun_auth.specs.Algorithms.{has}
 
 -- the list with one more algorithm at its end, where it is not among them

@@ -6,14 +6,14 @@ use Rattle.std.specs.declared.result.Result.TheVariants.{Ok, Err}
 use Rattle.std.specs.FinMap as map
 use Rattle.std.specs.declared.net.socket_addr.SocketAddr.{SocketAddr}
 use Rattle.stun_base.specs.Address.{address_cmp}
-use Rattle.stun_base.specs.declared.algorithm.IntegrityAlgorithm.{IntegrityAlgorithm}
+use Rattle.stun_base.specs.declared.keys.algorithm.IntegrityAlgorithm.{IntegrityAlgorithm}
 use Rattle.stun_auth.specs.declared.feature.Feature.{Feature}
 use Rattle.stun_auth.specs.declared.feature.Feature.TheVariants.{Auto}
-use Rattle.stun_auth.specs.declared.server_reason.Refusal.{Refusal}
-use Rattle.stun_auth.specs.declared.server_reason.LongTermServerAuthErrorReason.{LongTermServerAuthErrorReason}
-use Rattle.stun_auth.specs.declared.server_reason.LongTermServerAuthErrorReason.TheVariants.{IntegrityFailed}
-use Rattle.stun_auth.specs.declared.server_reason.LongTermServerValidation.{LongTermServerValidation}
-use Rattle.stun_auth.specs.declared.server_reason.LongTermServerValidation.TheVariants.{Validated}
+use Rattle.stun_auth.specs.declared.server.reason.Refusal.{Refusal}
+use Rattle.stun_auth.specs.declared.server.reason.LongTermServerAuthErrorReason.{LongTermServerAuthErrorReason}
+use Rattle.stun_auth.specs.declared.server.reason.LongTermServerAuthErrorReason.TheVariants.{IntegrityFailed}
+use Rattle.stun_auth.specs.declared.server.reason.LongTermServerValidation.{LongTermServerValidation}
+use Rattle.stun_auth.specs.declared.server.reason.LongTermServerValidation.TheVariants.{Validated}
 use Rattle.stun_base.specs.MessageType.{is_response}
 use Rattle.stun_auth.specs.Reading.{Reading, verified_under}
 use Rattle.stun_auth.specs.Reasons.{reason_of}

@@ -17,5 +17,6 @@ pub mod Registered
 pub mod Seen
 pub mod ShortTermKept
 pub mod Supported
+pub mod UserSecret
 pub mod Users
 pub mod Validation

@@ -1,14 +1,15 @@
 //! The authenticators and what they share.
 pub use crate::client::LongTermClientAuth;
-pub use crate::client_answer::{
+pub use crate::client::answer::{
     LongTermClientAuthError, LongTermClientAuthErrorReason, LongTermClientValidation,
 };
 pub use crate::feature::Feature;
-pub use crate::named_user::NamedUser;
-pub use crate::nonce::{LONG_TERM_RFC8489_NONCE_COOKIE, NonceSecurityBits};
-pub use crate::server::{LongTermServerAuth, minimum_nonce_expiry_duration};
-pub use crate::server_reason::{
+pub use crate::message::nonce::{LONG_TERM_RFC8489_NONCE_COOKIE, NonceSecurityBits};
+pub use crate::server::named_user::NamedUser;
+pub use crate::server::reason::{
     LongTermServerAuthError, LongTermServerAuthErrorReason, LongTermServerValidation,
 };
-pub use crate::server_user::LongTermServerUser;
+pub use crate::server::stored_keys::StoredKeys;
+pub use crate::server::user::LongTermServerUser;
+pub use crate::server::{LongTermServerAuth, minimum_nonce_expiry_duration};
 pub use crate::short_term::ShortTermAuth;

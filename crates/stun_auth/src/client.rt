@@ -9,14 +9,16 @@ ghost use Rattle.stun_auth.specs.code.ClientKept.{offer_seen, state_seen};
 ghost use Rattle.stun_auth.specs.Supported.{added};
 ghost use Rattle.stun_auth.specs.code.Supported.{in_order};
 
+pub(crate) mod answer;
+pub(crate) mod challenge;
 mod signing;
 
-use crate::challenge::{KeptChallenge, Offer, Refusal, choose};
-use crate::client_answer::{
+use crate::client::answer::{
     LongTermClientAuthError, LongTermClientAuthErrorReason, LongTermClientValidation,
 };
+use crate::client::challenge::{KeptChallenge, Offer, Refusal, choose};
 use crate::feature::Feature;
-use crate::reading::Reading;
+use crate::message::reading::Reading;
 use crate::short_text::ShortText;
 use crate::supported::Supported;
 use std::alloc::{Allocator, Global};

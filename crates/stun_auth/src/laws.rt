@@ -1,12 +1,15 @@
 //! Laws over the definitions that the contracts of this crate cite.
-ghost use Rattle.std.specs.Prelude.{◌≡◌, ◌<◌, ◌≤◌, ◌^◌, ◌||◌, ℕ, ◌+◌, Bool, true, false, List, [], ◌∷◌, ◌++◌, length, Ok, Err, Option, Some, None, if◌then◌else◌, IsOk, IsTrue, IsUtf8, ◌↔◌, ◌⊎◌};
+ghost use Rattle.std.specs.Prelude.{◌≡◌, ◌≢◌, ◌<◌, ◌≤◌, ◌^◌, ◌||◌, ℕ, ◌+◌, Bool, true, false, List, [], ◌∷◌, ◌++◌, length, Ok, Err, Option, Some, None, if◌then◌else◌, IsOk, IsUtf8, ◌⊎◌};
 ghost use Rattle.std.specs.List.{AllByRecursion};
 ghost use Rattle.std.specs.Option.{IsSome, IsSomeAnd, is_some};
 ghost use Rattle.std.specs.FinMap as map;
 ghost use Rattle.std.specs.declared.net.socket_addr.SocketAddr.{SocketAddr};
+ghost use Rattle.stun_base.specs.Credentials.{NameAndPassword};
+ghost use Rattle.stun_base.specs.Keys.{long_term_key};
 ghost use Rattle.stun_base.specs.MessageType.{class_of, class_in, is_error};
-ghost use Rattle.stun_base.specs.declared.algorithm.IntegrityAlgorithm.TheVariants.{Sha256};
-ghost use Rattle.stun_base.specs.declared.message_type.MessageClass.{MessageClass};
+ghost use Rattle.stun_base.specs.declared.keys.algorithm.IntegrityAlgorithm.{IntegrityAlgorithm};
+ghost use Rattle.stun_base.specs.declared.keys.algorithm.IntegrityAlgorithm.TheVariants.{Sha256};
+ghost use Rattle.stun_base.specs.declared.wire.message_type.MessageClass.{MessageClass};
 ghost use Rattle.stun_types.specs.ErrorCode.{CodeAndReason, IsError};
 ghost use Rattle.stun_types.specs.Grammar.{spelled};
 ghost use Rattle.stun_types.specs.Message.{LENGTH_LIMIT};
@@ -14,6 +17,7 @@ ghost use Rattle.stun_types.specs.Tail.{AgreeUpToIntegrity};
 ghost use Rattle.stun_types.specs.Writing.{IsOpen};
 ghost use Rattle.stun_auth.specs.declared.algorithm_set.AlgorithmSet.{AlgorithmSet};
 ghost use Rattle.stun_auth.specs.declared.feature.Feature.{Feature as TheFeature};
+ghost use Rattle.stun_auth.specs.declared.server.stored_keys.StoredKeys.{StoredKeys};
 ghost use Rattle.stun_auth.specs.Additions.{Addition, Page, added_all, growth};
 ghost use Rattle.stun_auth.specs.Algorithms.{contains};
 ghost use Rattle.stun_auth.specs.Client.{ClientSettings, ClientState};
@@ -22,27 +26,18 @@ ghost use Rattle.stun_auth.specs.ClientStep.{client_step};
 ghost use Rattle.stun_auth.specs.Feature.{is_possible};
 ghost use Rattle.stun_auth.specs.Forgetting.{after_forgetting, place_kept};
 ghost use Rattle.stun_auth.specs.ForgettingSteps.{after_steps};
-ghost use Rattle.stun_auth.specs.Handed.{just, meant, with_users};
+ghost use Rattle.stun_auth.specs.Handed.{AreKeysOf, just, meant, with_just, with_users};
 ghost use Rattle.stun_auth.specs.Joined.{HasAdded, IsReadBack, IsTyped, page_after};
 ghost use Rattle.stun_auth.specs.Nonces.{asks_for_algorithms, asks_for_userhash, nonce_of, security_bits, spelled_bits};
 ghost use Rattle.stun_auth.specs.Reading.{Reading, error_code, reading_of};
 ghost use Rattle.stun_auth.specs.Reasons.{ServerRefusal};
+ghost use Rattle.stun_auth.specs.Registered.{Registered, key_at, user_by_keys, user_by_password, with_user, without_user};
 ghost use Rattle.stun_auth.specs.Seen.{ClientSeen, PlaceSeen};
 ghost use Rattle.stun_auth.specs.Server.{Sight, stands_at};
-ghost use Rattle.stun_auth.specs.ServerSigning.{after_signing, server_signed};
+ghost use Rattle.stun_auth.specs.ServerSigning.{after_signing, server_additions, server_signed};
 ghost use Rattle.stun_auth.specs.ShortTerm.{Secret, short_term_answer};
 ghost use Rattle.stun_auth.specs.Signed.{Added, ClientMaySign, HasRoomFor, IsBuilt, IsSignable, IsSmall, IsText, IsUnsigned, IsWithinLimits, ReadsAs, ServerMaySign, added_by_client, added_by_server, additions_of, error_attribute};
 ghost use Rattle.stun_auth.specs.Validation.{ChangesNothing, ServerSeen, ValidatesAccepted, after_message, answer, draws, needs_nonce, sight, verdict_at};
-
-use crate::client_answer::{
-    LongTermClientAuthError, LongTermClientAuthErrorReason, LongTermClientValidation,
-};
-use crate::feature::Feature;
-use crate::nonce::NonceSecurityBits;
-use crate::server_reason::{
-    LongTermServerAuthError, LongTermServerAuthErrorReason, LongTermServerValidation,
-};
-use std::alloc::AllocError;
 
 /// What was added is what is read: after successful additions to an open message, its own attributes count as before and
 /// then the added ones, and the digest that was added last verifies under its key.
@@ -128,6 +123,61 @@ pub fn the_named_user_is_enough()
     ensures source { (s : ServerSeen) (from : SocketAddr) (now : ℕ) (r : Reading)
         → draws (sight (with_users s (just s.registered (meant s from r))) from) now r
         ≡ draws (sight s from) now r }
+{}
+
+/// A user who is handed in by stored keys is judged and signed for as the user of the same name who
+/// is handed in by a password, where the keys are those that the password makes at the server's
+/// realm. A key for an algorithm that the server does not support may be any.
+pub fn stored_keys_are_as_their_password()
+    ensures answer { (s : ServerSeen) (user : NameAndPassword) (keys : StoredKeys)
+        (from : SocketAddr) (now : ℕ) (words : List ℕ) (r : Reading)
+        → AreKeysOf s.registered user keys
+        → answer (sight (with_just s (user_by_keys user.username keys)) from) now words r
+        ≡ answer (sight (with_just s (user_by_password user)) from) now words r }
+    ensures state { (s : ServerSeen) (user : NameAndPassword) (keys : StoredKeys)
+        (from : SocketAddr) (now : ℕ) (words : List ℕ) (r : Reading)
+        → AreKeysOf s.registered user keys
+        → with_users (after_message (with_just s (user_by_keys user.username keys)) from now
+        words r) s.registered
+        ≡ with_users (after_message (with_just s (user_by_password user)) from now
+        words r) s.registered }
+    ensures source { (s : ServerSeen) (user : NameAndPassword) (keys : StoredKeys)
+        (from : SocketAddr) (now : ℕ) (r : Reading)
+        → draws (sight (with_just s (user_by_keys user.username keys)) from) now r
+        ≡ draws (sight (with_just s (user_by_password user)) from) now r }
+    ensures signed { (s : ServerSeen) (user : NameAndPassword) (keys : StoredKeys)
+        (to : SocketAddr) (response : Bool) (page : Page)
+        → AreKeysOf s.registered user keys
+        → server_signed (sight (with_just s (user_by_keys user.username keys)) to) response page
+        ≡ server_signed (sight (with_just s (user_by_password user)) to) response page }
+    ensures additions { (s : ServerSeen) (user : NameAndPassword) (keys : StoredKeys)
+        (to : SocketAddr) (response : Bool)
+        → AreKeysOf s.registered user keys
+        → server_additions (sight (with_just s (user_by_keys user.username keys)) to) response
+        ≡ server_additions (sight (with_just s (user_by_password user)) to) response }
+    ensures left { (s : ServerSeen) (user : NameAndPassword) (keys : StoredKeys)
+        (to : SocketAddr) (response : Bool)
+        → with_users (after_signing (with_just s (user_by_keys user.username keys)) to
+        response) s.registered
+        ≡ with_users (after_signing (with_just s (user_by_password user)) to
+        response) s.registered }
+{}
+
+/// A user who is added has the long-term key of the user's name, realm and password for each
+/// supported algorithm, and no other key. A user who is removed has none. The keys of all other
+/// names stay. `user_verifies` shows it of messages.
+pub fn users_have_their_keys()
+    ensures added { (users : Registered) (user : NameAndPassword) (a : IntegrityAlgorithm)
+        → key_at (with_user users user) user.username a
+        ≡ (if contains a users.algorithms
+        then Some (long_term_key a user.username users.realm user.password) else None) }
+    ensures removed { (users : Registered) (name : List ℕ) (a : IntegrityAlgorithm)
+        → key_at (without_user users name) name a ≡ None }
+    ensures others_at_adding { (users : Registered) (user : NameAndPassword) (name : List ℕ)
+        (a : IntegrityAlgorithm) → name ≢ user.username
+        → key_at (with_user users user) name a ≡ key_at users name a }
+    ensures others_at_removal { (users : Registered) (gone name : List ℕ) (a : IntegrityAlgorithm)
+        → name ≢ gone → key_at (without_user users gone) name a ≡ key_at users name a }
 {}
 
 /// Forgetting changes each address's place by itself. After it each address that has a nonce has a client, or a nonce whose
@@ -303,131 +353,4 @@ pub fn server_messages_are_read()
 {
     signed_messages_are_read();
     sides_add_by_attribute();
-}
-
-/// Where nothing else is said user names are sent as their hash where the peer can do it too.
-pub fn default_feature() -> Feature
-    ensures { result ≡ Feature.Auto }
-{
-    Feature::default()
-}
-
-/// Where nothing else is said no security bit is set.
-pub fn default_security_bits() -> NonceSecurityBits
-    ensures { result ≡ 0 ∷ 0 ∷ 0 ∷ [] }
-{
-    NonceSecurityBits::default()
-}
-
-/// Copies of a feature and of security bits are the same values.
-pub fn copied_parts(
-    feature: &Feature,
-    bits: &NonceSecurityBits,
-) -> Result<(Feature, NonceSecurityBits), AllocError>
-    ensures { result ≡ Ok (feature.now, bits.now) }
-{
-    Ok((feature.clone()?, bits.clone()?))
-}
-
-/// Copies of answers and of reasons are the same values.
-pub fn copied_answers(
-    server: &LongTermServerValidation,
-    client: &LongTermClientValidation,
-    server_reason: &LongTermServerAuthErrorReason,
-    client_reason: &LongTermClientAuthErrorReason,
-) -> Result<
-    (
-        LongTermServerValidation,
-        LongTermClientValidation,
-        LongTermServerAuthErrorReason,
-        LongTermClientAuthErrorReason,
-    ),
-    AllocError,
->
-    ensures { result ≡ Ok (server.now, client.now, server_reason.now, client_reason.now) }
-{
-    Ok((
-        server.clone()?,
-        client.clone()?,
-        server_reason.clone()?,
-        client_reason.clone()?,
-    ))
-}
-
-/// Copies of refusals have the same reason.
-pub fn copied_refusals(
-    server: &LongTermServerAuthError,
-    client: &LongTermClientAuthError,
-) -> Result<(LongTermServerAuthError, LongTermClientAuthError), AllocError>
-    ensures { result ≡ Ok (server.now, client.now) }
-{
-    Ok((server.clone()?, client.clone()?))
-}
-
-/// Features are equal as values.
-pub fn is_same_feature(one: Feature, other: Feature) -> bool
-    ensures { IsTrue result ↔ (one ≡ other) }
-{
-    one == other
-}
-
-/// Security bits are equal as bytes.
-pub fn are_same_security_bits(one: NonceSecurityBits, other: NonceSecurityBits) -> bool
-    ensures { IsTrue result ↔ (one ≡ other) }
-{
-    one == other
-}
-
-/// A server's validations are equal as values.
-pub fn is_same_server_validation(
-    one: LongTermServerValidation,
-    other: LongTermServerValidation,
-) -> bool
-    ensures { IsTrue result ↔ (one ≡ other) }
-{
-    one == other
-}
-
-/// A client's validations are equal as values.
-pub fn is_same_client_validation(
-    one: LongTermClientValidation,
-    other: LongTermClientValidation,
-) -> bool
-    ensures { IsTrue result ↔ (one ≡ other) }
-{
-    one == other
-}
-
-/// A server's reasons are equal as values.
-pub fn is_same_server_reason(
-    one: LongTermServerAuthErrorReason,
-    other: LongTermServerAuthErrorReason,
-) -> bool
-    ensures { IsTrue result ↔ (one ≡ other) }
-{
-    one == other
-}
-
-/// A client's reasons are equal as values.
-pub fn is_same_client_reason(
-    one: LongTermClientAuthErrorReason,
-    other: LongTermClientAuthErrorReason,
-) -> bool
-    ensures { IsTrue result ↔ (one ≡ other) }
-{
-    one == other
-}
-
-/// A server's refusals are equal where their reasons are.
-pub fn is_same_server_refusal(one: LongTermServerAuthError, other: LongTermServerAuthError) -> bool
-    ensures { IsTrue result ↔ (one ≡ other) }
-{
-    one == other
-}
-
-/// A client's refusals are equal where their reasons are.
-pub fn is_same_client_refusal(one: LongTermClientAuthError, other: LongTermClientAuthError) -> bool
-    ensures { IsTrue result ↔ (one ≡ other) }
-{
-    one == other
 }

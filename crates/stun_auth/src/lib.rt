@@ -1,24 +1,14 @@
 //! Authentication of STUN messages (RFC 8489, section 9).
 #![tactic(auto)]
 
-mod addition;
 mod algorithm_set;
 pub mod auth;
-mod challenge;
 mod client;
-mod client_answer;
+pub mod derives;
 mod feature;
 pub mod laws;
-mod name_index;
-mod named_user;
-mod nonce;
-mod places;
-mod reading;
-mod registry;
+mod message;
 mod server;
-mod server_reason;
-mod server_user;
 mod short_term;
 mod short_text;
 mod supported;
-mod verdict;

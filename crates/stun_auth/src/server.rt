@@ -17,8 +17,8 @@ ghost use Rattle.stun_auth.specs.Validation.{new_server};
 
 use crate::algorithm_set::AlgorithmSet;
 use crate::feature::Feature;
-use crate::places::Places;
-use crate::registry::Registry;
+use crate::server::places::Places;
+use crate::server::registry::Registry;
 use std::alloc::{AllocError, Allocator, Global};
 use std::fmt;
 use std::marker::Model;
@@ -29,8 +29,17 @@ use stun_base::credentials::LongTermCredentials;
 use stun_base::instant::Instant;
 
 mod handed;
+pub(crate) mod name_index;
+pub(crate) mod named_user;
+pub(crate) mod places;
+pub(crate) mod reason;
+pub(crate) mod registry;
 mod signing;
+pub(crate) mod stored_keys;
+pub(crate) mod user;
+pub(crate) mod user_secret;
 mod validation;
+pub(crate) mod verdict;
 
 /// The seconds that a nonce may last at the least.
 const MINIMUM_NONCE_EXPIRY_SECONDS: u64 = 30;
@@ -47,8 +56,9 @@ pub fn minimum_nonce_expiry_duration() -> Duration
 
 /// The server's side of long-term authentication: the users of a realm, and for each address the nonce that was made for it.
 ///
-/// Contracts see the realm, the supported algorithms, the users' passwords by name, the settings, and the place of each
-/// address: its nonce with the nonce's end, the algorithms that were offered, and the client.
+/// Contracts see the realm, the supported algorithms, what each user is known by (a password, or
+/// stored keys), the settings, and the place of each address: its nonce with the nonce's end, the
+/// algorithms that were offered, and the client.
 ///
 /// Each request or indication from a new address makes a place, unless it has integrity and lacks REALM, NONCE or a name
 /// (none of these need be right), so whoever can send from many addresses makes the server grow. A place stays until

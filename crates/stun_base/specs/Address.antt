@@ -15,7 +15,9 @@ v4_cmp a b = ordering_then (slice_cmp nat_cmp a.ip.octets b.ip.octets) (nat_cmp 
 
 -- by address, port, flow information and scope
 abbrev pub v6_cmp : SocketAddrV6 → SocketAddrV6 → Ordering
-v6_cmp a b = ordering_then (slice_cmp nat_cmp a.ip.segments b.ip.segments) (ordering_then (nat_cmp a.port b.port)
+v6_cmp a b =
+    ordering_then (slice_cmp nat_cmp a.ip.segments b.ip.segments)
+    (ordering_then (nat_cmp a.port b.port)
     (ordering_then (nat_cmp a.flowinfo b.flowinfo) (nat_cmp a.scope_id b.scope_id)))
 
 -- IPv4 before IPv6

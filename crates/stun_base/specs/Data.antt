@@ -1,7 +1,7 @@
 -- Bytes that are borrowed or owned.
 use Rattle.std.specs.Prelude.{ℕ, List}
-use Rattle.stun_base.specs.declared.data.Data.{Data}
-use Rattle.stun_base.specs.declared.data.Data.TheVariants.{Borrowed, Owned}
+use Rattle.stun_base.specs.declared.wire.data.Data.{Data}
+use Rattle.stun_base.specs.declared.wire.data.Data.TheVariants.{Borrowed, Owned}
 
 -- the bytes, whoever owns them
 abbrev pub data_bytes : {A : Type 0} → Data A → List ℕ

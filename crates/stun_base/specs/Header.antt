@@ -1,10 +1,11 @@
--- The header of a message (RFC 8489, section 5): 20 bytes with the type, the number of bytes that
--- follow the header, the magic cookie and the transaction id. A number of a list of bytes is that
--- of byteorder, in network order.
-use Rattle.std.specs.Prelude.{◌≤◌, ◌^◌, ◌%◌, ℕ, Bool, IsTrue, List, length, drop, Option, Some, None, nat_lt, ◌&&◌, ◌==◌, if◌then◌else◌}
+-- The header of a message (RFC 8489, section 5). Its 20 bytes are the type, the number of bytes
+-- after the header, the magic cookie and the transaction id. A number of a list of bytes is that of
+-- byteorder, in network order.
+use Rattle.std.specs.Prelude.{◌≤◌, ◌^◌, ◌%◌, ℕ, Bool, IsTrue, List, length, drop}
+use Rattle.std.specs.Prelude.{Option, Some, None, nat_lt, ◌&&◌, ◌==◌, if◌then◌else◌}
 use Rattle.byteorder.specs.Endian.{big_number}
-use Rattle.stun_base.specs.declared.error.StunParseError.{StunParseError}
-use Rattle.stun_base.specs.declared.error.StunParseError.TheVariants.{Truncated, NotStun}
+use Rattle.stun_base.specs.declared.wire.error.StunParseError.{StunParseError}
+use Rattle.stun_base.specs.declared.wire.error.StunParseError.TheVariants.{Truncated, NotStun}
 
 -- the number of bytes of a header (section 5)
 abbrev pub HEADER_LENGTH : ℕ
@@ -44,11 +45,12 @@ header_of bytes = record {
   transaction_id = transaction_id_field bytes;
 }
 
--- whether the fields are those of a STUN message: the two top bits of the type are zero, the cookie is
--- there, and the attributes take a multiple of 4 bytes (sections 5 and 14)
+-- whether the fields are those of a STUN message (sections 5 and 14). The two top bits of the type
+-- are zero, the cookie is the magic cookie, and the length is a multiple of 4
 abbrev pub is_stun : List ℕ → Bool
 is_stun bytes =
-    nat_lt (type_field bytes) (2 ^ 14) && (cookie_field bytes == MAGIC_COOKIE) && (length_field bytes % 4 == 0)
+    nat_lt (type_field bytes) (2 ^ 14) && (cookie_field bytes == MAGIC_COOKIE)
+    && (length_field bytes % 4 == 0)
 
 -- the bytes begin with a header
 pub record BeginsWithHeader (bytes : List ℕ) : Type 0 where

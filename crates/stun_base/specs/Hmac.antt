@@ -1,6 +1,8 @@
--- The keyed hash HMAC (RFC 2104) over a hash function that works on blocks of 64 bytes, as SHA-1
--- and SHA-256 do. The hash function is the first argument throughout: from a message to its digest.
-use Rattle.std.specs.Prelude.{ℕ, ◌-◌, List, ◌++◌, length, map, replicate, bit_xor, nat_lt, if◌then◌else◌}
+-- The keyed hash HMAC (RFC 2104) over a hash function with blocks of 64 bytes, as SHA-1 and
+-- SHA-256. The first argument of each definition is the hash function, from a message to its
+-- digest.
+use Rattle.std.specs.Prelude.{ℕ, ◌-◌, List, ◌++◌, length, map}
+use Rattle.std.specs.Prelude.{replicate, bit_xor, nat_lt, if◌then◌else◌}
 
 -- the bytes of one block (section 2)
 abbrev pub block_length : ℕ
@@ -11,21 +13,21 @@ abbrev pub short_key : (List ℕ → List ℕ) → List ℕ → List ℕ
 short_key hash key = if nat_lt block_length (length key) then hash key else key
 
 -- bytes filled up to a block by zeros (section 2, step 1)
-abbrev pub filled : List ℕ → List ℕ
-filled bytes = bytes ++ replicate (block_length - length bytes) 0
+abbrev pub block_of : List ℕ → List ℕ
+block_of bytes = bytes ++ replicate (block_length - length bytes) 0
 
 -- the key as one block
 abbrev pub key_block : (List ℕ → List ℕ) → List ℕ → List ℕ
-key_block hash key = filled (short_key hash key)
+key_block hash key = block_of (short_key hash key)
 
 -- each byte of a block xor the pad (section 2, steps 2 and 5)
-abbrev pub padded : ℕ → List ℕ → List ℕ
-padded pad block = map (λ byte. bit_xor byte pad) block
+abbrev pub xor_pad : ℕ → List ℕ → List ℕ
+xor_pad pad block = map (λ byte. bit_xor byte pad) block
 
 -- the digest of the key block under the inner pad, then the text (section 2, steps 2 to 4)
 abbrev pub inner_digest : (List ℕ → List ℕ) → List ℕ → List ℕ → List ℕ
-inner_digest hash key text = hash (padded 0x36 (key_block hash key) ++ text)
+inner_digest hash key text = hash (xor_pad 0x36 (key_block hash key) ++ text)
 
 -- HMAC of a text under a key (section 2)
 unfoldable pub hmac : (List ℕ → List ℕ) → List ℕ → List ℕ → List ℕ
-hmac hash key text = hash (padded 0x5c (key_block hash key) ++ inner_digest hash key text)
+hmac hash key text = hash (xor_pad 0x5c (key_block hash key) ++ inner_digest hash key text)

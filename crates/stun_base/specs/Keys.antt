@@ -1,13 +1,12 @@
--- The keys and hashes that credentials give (RFC 8489). Texts are their bytes, as they are handed
--- in.
+-- The keys and hashes of credentials (RFC 8489). Texts are their bytes, as the caller passes them.
 pub mod OfCredentials
 use Rattle.std.specs.Prelude.{ℕ, List, ◌++◌, Bool, ◌&&◌, codes}
 use Rattle.std.specs.Str.{is_utf8}
 use Rattle.md5.specs.Md5.{md5}
 use Rattle.sha2.specs.Sha256.{sha256}
 use Rattle.stun_base.specs.Credentials.{UserAtRealm}
-use Rattle.stun_base.specs.declared.algorithm.IntegrityAlgorithm.{IntegrityAlgorithm}
-use Rattle.stun_base.specs.declared.algorithm.IntegrityAlgorithm.TheVariants.{Sha1, Sha256}
+use Rattle.stun_base.specs.declared.keys.algorithm.IntegrityAlgorithm.{IntegrityAlgorithm}
+use Rattle.stun_base.specs.declared.keys.algorithm.IntegrityAlgorithm.TheVariants.{Sha1, Sha256}
 
 -- two texts with a colon between them (section 9.2.2)
 abbrev pub with_colon : List ℕ → List ℕ → List ℕ
@@ -17,7 +16,8 @@ with_colon front back = front ++ codes ":" ++ back
 -- 9.2.2 and 18.5.1)
 abbrev pub long_term_key : IntegrityAlgorithm → List ℕ → List ℕ → List ℕ → List ℕ
 long_term_key Sha1 username realm password = md5 (with_colon (with_colon username realm) password)
-long_term_key Sha256 username realm password = sha256 (with_colon (with_colon username realm) password)
+long_term_key Sha256 username realm password =
+    sha256 (with_colon (with_colon username realm) password)
 
 -- whether bytes are the name, realm and password of a user: each is UTF-8
 abbrev pub are_utf8 : List ℕ → List ℕ → List ℕ → Bool
@@ -27,10 +27,10 @@ are_utf8 username realm password = is_utf8 username && is_utf8 realm && is_utf8 
 abbrev pub long_term_key_of : UserAtRealm → IntegrityAlgorithm → List ℕ
 long_term_key_of user algorithm = long_term_key algorithm user.username user.realm user.password
 
--- the short-term key, which is the password's bytes for either algorithm (section 9.1.1)
+-- the short-term key: the password's bytes, for either algorithm (section 9.1.1)
 abbrev pub short_term_key : List ℕ → IntegrityAlgorithm → List ℕ
 short_term_key password algorithm = password
 
--- the hash that stands for a user name at a realm (section 14.4)
+-- the hash that names a user at a realm (section 14.4)
 abbrev pub userhash : List ℕ → List ℕ → List ℕ
 userhash username realm = sha256 (with_colon username realm)

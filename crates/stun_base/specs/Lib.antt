@@ -6,7 +6,7 @@ pub mod Header
 pub mod MessageType
 -- the ids of transactions (section 5)
 pub mod TransactionId
--- the random words that an id or a nonce is made of
+-- the random numbers of an id or a nonce
 pub mod Words
 -- the types of attributes (section 18.3)
 pub mod Attributes
@@ -16,11 +16,11 @@ pub mod AttributeText
 pub mod Hmac
 -- the digests of message integrity (RFC 8489, sections 14.5 and 14.6)
 pub mod Algorithm
--- the keys and hashes that credentials give (sections 9.1.1, 9.2.2 and 14.4)
+-- the keys and hashes of credentials (sections 9.1.1, 9.2.2 and 14.4)
 pub mod Keys
 -- credentials as records of texts (section 9)
 pub mod Credentials
--- moments and spans, in nanoseconds
+-- times and spans, in nanoseconds
 pub mod Moments
 -- the texts of transports
 pub mod Transport

@@ -1,9 +1,11 @@
--- The type field of a header (RFC 8489, section 5): from the top, the bits M11..M7 C1 M6..M4 C0
--- M3..M0 of a method M and a class C.
-use Rattle.std.specs.Prelude.{ℕ, Bool, true, false, IsTrue, ◌+◌, ◌*◌, ◌/◌, ◌%◌, ◌==◌, if◌then◌else◌, List}
-use Rattle.stun_base.specs.declared.message_type.MessageClass.{MessageClass}
+-- The type field of a header (RFC 8489, section 5). Its bits, from the top, are M11..M7 C1 M6..M4
+-- C0 M3..M0, of method M and class C.
+use Rattle.std.specs.Prelude.{ℕ, Bool, true, false, IsTrue, ◌+◌, ◌*◌}
+use Rattle.std.specs.Prelude.{◌/◌, ◌%◌, ◌==◌, if◌then◌else◌, List}
+use Rattle.stun_base.specs.declared.wire.message_type.MessageClass.{MessageClass}
 use Rattle.stun_base.specs.Header.{type_field}
-use Rattle.stun_base.specs.declared.message_type.MessageClass.TheVariants.{Request, Indication, Success, Error}
+use Rattle.stun_base.specs.declared.wire.message_type.MessageClass.TheVariants.{Request, Indication}
+use Rattle.stun_base.specs.declared.wire.message_type.MessageClass.TheVariants.{Success, Error}
 
 -- the two bits C1 C0 of a class
 abbrev pub class_number : MessageClass → ℕ
@@ -15,7 +17,8 @@ class_number Error = 3
 -- the class that two bits C1 C0 name
 abbrev pub class_of_bits : ℕ → MessageClass
 class_of_bits bits =
-    if bits == 0 then Request else if bits == 1 then Indication else if bits == 2 then Success else Error
+    if bits == 0 then Request else if bits == 1 then Indication else if bits == 2 then Success
+    else Error
 
 -- the class of a type: C1 is its bit of 256, and C0 its bit of 16
 abbrev pub class_of : ℕ → MessageClass
@@ -28,7 +31,8 @@ method_of number = number % 16 + number / 32 % 8 * 16 + number / 512 % 32 * 128
 -- the type of a class and a method
 abbrev pub type_number : MessageClass → ℕ → ℕ
 type_number class method =
-    method % 16 + class_number class % 2 * 16 + method / 16 % 8 * 32 + class_number class / 2 * 256 + method / 128 * 512
+    method % 16 + class_number class % 2 * 16 + method / 16 % 8 * 32 + class_number class / 2 * 256
+    + method / 128 * 512
 
 -- ---- kinds of classes
 abbrev pub is_request : MessageClass → Bool

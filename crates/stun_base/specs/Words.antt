@@ -1,19 +1,19 @@
--- What a random source gives, 32 bits at a time. A source is the stream of rand_core: what it will
--- answer from now on.
+-- The random numbers of a source, of 32 bits each. A source is the stream of rand_core: what it
+-- returns from now on.
 use Rattle.std.specs.Prelude.{ℕ, zero, suc, List, [], ◌∷◌}
 use Rattle.rand_core.specs.Stream.{Stream, next_u32}
 
--- the next words of a source, the first in front
+-- the next numbers of a source, in their order
 unfoldable pub next_words : ℕ → Stream → List ℕ
 next_words zero source = []
 next_words (suc n) source = (next_u32 source).0 ∷ next_words n (next_u32 source).1
 
--- the source that many words further
+-- the source after so many numbers
 unfoldable pub after_words : ℕ → Stream → Stream
 after_words zero source = source
 after_words (suc n) source = after_words n (next_u32 source).1
 
--- a source of words that are handed in: the next of them and the rest, and zeros where none is left
+-- a source of numbers that the caller passed: the next and the rest, and zero once none is left
 abbrev pub next_word : List ℕ → ℕ × List ℕ
 next_word [] = (0, [])
 next_word (word ∷ words) = (word, words)

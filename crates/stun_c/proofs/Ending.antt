@@ -4,7 +4,7 @@ use Rattle.std.specs.Option.{option_map}
 use Rattle.std.specs.Prelude.{Some, None, is_some, find, max, nat_lt, ◌==◌, ◌||◌}
 use Rattle.std.proofs.lemmas.List.{drop-drop}
 use Rattle.stun_base.specs.Attributes.{FINGERPRINT}
-use Rattle.stun_base.specs.declared.error.StunWriteError.TheVariants.{AttributeExists as WriteAttributeExists, TooLarge, TooSmall}
+use Rattle.stun_base.specs.declared.wire.error.StunWriteError.TheVariants.{AttributeExists as WriteAttributeExists, TooLarge, TooSmall}
 use Rattle.stun_types.specs.Attribute.{attribute_length}
 use Rattle.stun_types.specs.Writing.{length_with, max_length, size_refusal}
 use Rattle.stun_extra.specs.Fingerprint.{fingerprint_attribute, fingerprint_refusal, with_fingerprint}

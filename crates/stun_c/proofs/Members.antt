@@ -3,14 +3,14 @@ use Rattle.std.proofs.Common.{◌≡◌, ◌∙◌, ◌≤◌, ◌+◌, ℕ, Boo
 use Rattle.std.specs.Prelude.{nat_lt, not, ◌||◌, if◌then◌else◌, IfSome, IfOk, MatchOption, Option, Some, None, Result, Ok, Err}
 use Rattle.std.proofs.lemmas.List.{drop-drop, length-take, take_min}
 use Rattle.stun_base.specs.Header.{HEADER_LENGTH}
-use Rattle.stun_base.specs.declared.error.StunParseError.{StunParseError}
-use Rattle.stun_base.specs.declared.error.StunParseError.TheVariants.{MissingAttribute}
+use Rattle.stun_base.specs.declared.wire.error.StunParseError.{StunParseError}
+use Rattle.stun_base.specs.declared.wire.error.StunParseError.TheVariants.{MissingAttribute}
 use Rattle.stun_types.specs.Attribute.{TypedValue, has_attribute, value_length_field}
 use Rattle.stun_types.specs.Reading.{attribute_answer}
 use Rattle.stun_types.specs.Integrity.{first_of}
 use Rattle.stun_types.specs.Visible.{visible}
 use Rattle.stun_types.specs.Walk.{Member}
-use Rattle.stun_types.specs.code.Walk.{IsWithin}
+use Rattle.stun_types.specs.code.Walk.{IsInside}
 use Rattle.stun_types.proofs.IntegrityLemmas.{IfSome-find, first_of-within, visible-within}
 use Rattle.stun_types.proofs.WalkLemmas.{whole_within}
 use Rattle.stun_c.specs.declared.codes.Refusal.{Refusal}
@@ -25,13 +25,13 @@ read_member-is kind reading None answer is = is
 read_member-is kind reading (Some m) answer is = is
 
 -- a place within is no more than the length
-place-within : (bytes : List ℕ) (found : Option Member) → IfSome found (IsWithin bytes) → IfSome found (λ m. m.0 ≤ length bytes)
+place-within : (bytes : List ℕ) (found : Option Member) → IfSome found (IsInside bytes) → IfSome found (λ m. m.0 ≤ length bytes)
 place-within bytes None within = within
 place-within bytes (Some m) within = omega (arith, within.whole)
 
 -- the attribute that comes after a place does so within
 pub next-within : (place : ℕ) (bytes : List ℕ) → IfSome (next_member place bytes) (λ m. m.0 ≤ length bytes)
-next-within place bytes = place-within bytes (next_member place bytes) (IfSome-find (IsWithin bytes) (λ m. nat_lt place m.0) (visible bytes) (visible-within bytes))
+next-within place bytes = place-within bytes (next_member place bytes) (IfSome-find (IsInside bytes) (λ m. nat_lt place m.0) (visible bytes) (visible-within bytes))
 
 -- so does the first of a type
 pub first-within : (kind : ℕ) (bytes : List ℕ) → IfSome (first_of kind (visible bytes)) (λ m. m.0 ≤ length bytes)

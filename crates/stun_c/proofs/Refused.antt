@@ -5,12 +5,12 @@ use Rattle.std.proofs.lemmas.List.{append-nil, drop-drop, drop_at, take_at}
 use Rattle.byteorder.specs.Endian.{big_bytes}
 use Rattle.stun_base.specs.Header.{MAGIC_COOKIE, transaction_id_field, type_field}
 use Rattle.stun_base.specs.MessageType.{method_of, type_number}
-use Rattle.stun_base.specs.declared.attribute_type.AttributeType.{AttributeType}
-use Rattle.stun_base.specs.declared.message_type.MessageClass.TheVariants.{Error}
+use Rattle.stun_base.specs.declared.wire.attribute_type.AttributeType.{AttributeType}
+use Rattle.stun_base.specs.declared.wire.message_type.MessageClass.TheVariants.{Error}
 use Rattle.stun_types.specs.Attribute.{attribute_length}
 use Rattle.stun_types.specs.Grammar.{spelled, spelled_attribute}
 use Rattle.stun_types.specs.Message.{with_length}
-use Rattle.stun_types.specs.Writing.{begun_answer, length_with, with_attribute}
+use Rattle.stun_types.specs.Writing.{empty_answer, length_with, with_attribute}
 use Rattle.stun_extra.specs.Unknown.{spelled_types}
 use Rattle.stun_c.specs.declared.codes.Refusal.TheVariants.{BufferTooSmall}
 use Rattle.stun_c.specs.Answers.{buffer_after, fitted, written_number}
@@ -18,15 +18,15 @@ use Rattle.stun_c.specs.Extra.{error_420, refused_front, types_attribute, unknow
 use Rattle.stun_c.proofs.Lengths.{length-spelled_attribute, length-with_attribute}
 
 -- a header takes 20 bytes
-length-begun : (request : List ℕ) → length (begun_answer Error request) ≡ 20
+length-begun : (request : List ℕ) → length (empty_answer Error request) ≡ 20
 length-begun request = refl
 
 -- the front of a buffer, its header and then its error
-pub front_written : (request out begun written : List ℕ) → begun ≡ begun_answer Error request ++ drop 20 out
+pub front_written : (request out begun written : List ℕ) → begun ≡ empty_answer Error request ++ drop 20 out
     → written ≡ with_attribute (take 20 begun) error_420 ++ drop 48 begun → written ≡ refused_front request ++ drop 48 out
 unfolding refused_front
 front_written request out begun written is_begun is_written =
-    let header = begun_answer Error request in
+    let header = empty_answer Error request in
     let front : take 20 begun ≡ header = ap (take 20) is_begun ∙ take_at header (drop 20 out) 20 (length-begun request) in
     let behind : drop 20 begun ≡ drop 20 out = ap (drop 20) is_begun ∙ drop_at header (drop 20 out) 20 (length-begun request) in
     let rest : drop 48 begun ≡ drop 48 out = sym (drop-drop 28 20 begun) ∙ (ap (drop 28) behind ∙ drop-drop 28 20 out) in

@@ -4,8 +4,8 @@ use Rattle.std.specs.Prelude.{Some, None, Ok}
 use Rattle.byteorder.specs.Endian.{big_number}
 use Rattle.stun_base.specs.Attributes.{USERNAME}
 use Rattle.stun_base.specs.MessageType.{type_number}
-use Rattle.stun_base.specs.declared.algorithm.IntegrityAlgorithm.{IntegrityAlgorithm}
-use Rattle.stun_base.specs.declared.message_type.MessageClass.TheVariants.{Request}
+use Rattle.stun_base.specs.declared.keys.algorithm.IntegrityAlgorithm.{IntegrityAlgorithm}
+use Rattle.stun_base.specs.declared.wire.message_type.MessageClass.TheVariants.{Request}
 use Rattle.stun_types.specs.Grammar.{spelled}
 use Rattle.stun_types.specs.Writing.{with_integrity}
 use Rattle.stun_c.specs.Codes.{algorithm_numbered}

@@ -3,7 +3,7 @@ use Rattle.std.proofs.Common.{◌≡◌, ◌<◌, ◌≤◌, ℕ, zero, suc, ◌
 use Rattle.std.specs.Prelude.{nat_lt, slice_get, Some, None}
 use Rattle.std.proofs.lemmas.List.{drop-drop, drop_all, drop_more, length-map, length-take, length-take-le, length_push, map_push, set-append_right, set_past, take-append-le, take_all, take_at}
 use Rattle.byteorder.specs.Endian.{big_bytes}
-use Rattle.stun_base.specs.declared.attribute_type.AttributeType.{AttributeType}
+use Rattle.stun_base.specs.declared.wire.attribute_type.AttributeType.{AttributeType}
 use Rattle.stun_extra.specs.Unknown.{spelled_types, types_in}
 use Rattle.stun_c.specs.Extra.{numbers_after}
 

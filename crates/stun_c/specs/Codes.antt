@@ -1,11 +1,11 @@
 -- The numbers that callers get and give, as include/stunp.h has them.
 use Rattle.std.specs.Prelude.{ℕ, ℤ, pos, neg_ℤ, int_lt, unsigned_abs, List, [], ◌∷◌, ◌++◌, codes, Option, Some, None, ◌==◌, if◌then◌else◌}
-use Rattle.stun_base.specs.declared.error.StunParseError.{StunParseError}
-use Rattle.stun_base.specs.declared.error.StunParseError.TheVariants.{Truncated as ParseTruncated, NotStun as ParseNotStun, TooLarge as ParseTooLarge, MissingAttribute, InvalidAttributeData}
-use Rattle.stun_base.specs.declared.error.ValidateError.{ValidateError}
-use Rattle.stun_base.specs.declared.error.ValidateError.TheVariants.{Parse, IntegrityFailed as DigestFailed}
-use Rattle.stun_base.specs.declared.algorithm.IntegrityAlgorithm.{IntegrityAlgorithm}
-use Rattle.stun_base.specs.declared.algorithm.IntegrityAlgorithm.TheVariants.{Sha1, Sha256}
+use Rattle.stun_base.specs.declared.wire.error.StunParseError.{StunParseError}
+use Rattle.stun_base.specs.declared.wire.error.StunParseError.TheVariants.{Truncated as ParseTruncated, NotStun as ParseNotStun, TooLarge as ParseTooLarge, MissingAttribute, InvalidAttributeData}
+use Rattle.stun_base.specs.declared.wire.error.ValidateError.{ValidateError}
+use Rattle.stun_base.specs.declared.wire.error.ValidateError.TheVariants.{Parse, IntegrityFailed as DigestFailed}
+use Rattle.stun_base.specs.declared.keys.algorithm.IntegrityAlgorithm.{IntegrityAlgorithm}
+use Rattle.stun_base.specs.declared.keys.algorithm.IntegrityAlgorithm.TheVariants.{Sha1, Sha256}
 use Rattle.stun_c.specs.declared.codes.Refusal.{Refusal}
 use Rattle.stun_c.specs.declared.codes.Refusal.TheVariants.{Truncated, NotStun, TooLarge, NoIntegrity, MalformedIntegrity, IntegrityFailed, BadArgument, NotText, TextTooLong, BufferTooSmall, NotAllowed, Closed, AttributeExists, MessageTooLong, MissingAttribute as NotFound, MalformedAttribute}
 

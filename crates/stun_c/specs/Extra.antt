@@ -3,14 +3,14 @@ use Rattle.std.specs.Prelude.{ℕ, ℤ, pos, ◌+◌, ◌-◌, List, [], ◌++�
 use Rattle.std.specs.Option.{option_or, option_map}
 use Rattle.stun_base.specs.Attributes.{ERROR_CODE, FINGERPRINT}
 use Rattle.stun_base.specs.MessageType.{class_in, class_number}
-use Rattle.stun_base.specs.declared.attribute_type.AttributeType.{AttributeType}
-use Rattle.stun_base.specs.declared.error.StunWriteError.{StunWriteError}
-use Rattle.stun_base.specs.declared.error.StunWriteError.TheVariants.{NotAllowed as WriteNotAllowed, MessageIntegrityExists, AttributeExists as WriteAttributeExists, IntegrityFailed as WriteIntegrityFailed, OutOfMemory, TooLarge as WriteTooLarge, TooSmall}
-use Rattle.stun_base.specs.declared.message_type.MessageClass.TheVariants.{Error}
+use Rattle.stun_base.specs.declared.wire.attribute_type.AttributeType.{AttributeType}
+use Rattle.stun_base.specs.declared.wire.error.StunWriteError.{StunWriteError}
+use Rattle.stun_base.specs.declared.wire.error.StunWriteError.TheVariants.{NotAllowed as WriteNotAllowed, MessageIntegrityExists, AttributeExists as WriteAttributeExists, IntegrityFailed as WriteIntegrityFailed, OutOfMemory, TooLarge as WriteTooLarge, TooSmall}
+use Rattle.stun_base.specs.declared.wire.message_type.MessageClass.TheVariants.{Error}
 use Rattle.stun_types.specs.Attribute.{TypedValue}
 use Rattle.stun_types.specs.ErrorCode.{error_value}
 use Rattle.stun_types.specs.Message.{refusal}
-use Rattle.stun_types.specs.Writing.{begun_answer, with_attribute}
+use Rattle.stun_types.specs.Writing.{empty_answer, with_attribute}
 use Rattle.stun_extra.specs.Fingerprint.{fingerprint_in, with_fingerprint}
 use Rattle.stun_extra.specs.Unknown.{UNKNOWN_ATTRIBUTES, spelled_types, types_of, unknown_attributes_in, unknown_types}
 use Rattle.stun_extra.specs.declared.fingerprint.Fingerprint.{Fingerprint}
@@ -96,7 +96,7 @@ error_420 = record { kind = ERROR_CODE; value = error_value (record { code = 420
 
 -- the front of the answer to a request: an error response with its method and its id, and the error
 unfoldable pub refused_front : List ℕ → List ℕ
-refused_front request = with_attribute (begun_answer Error request) error_420
+refused_front request = with_attribute (empty_answer Error request) error_420
 
 -- UNKNOWN-ATTRIBUTES of types (section 14.13)
 abbrev pub types_attribute : List AttributeType → TypedValue

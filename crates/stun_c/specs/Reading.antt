@@ -6,8 +6,8 @@ use Rattle.byteorder.specs.Endian.{big_number}
 use Rattle.stun_base.specs.Attributes.{ERROR_CODE, XOR_MAPPED_ADDRESS}
 use Rattle.stun_base.specs.Header.{HEADER_LENGTH, header_refusal, length_field, transaction_id_field, type_field}
 use Rattle.stun_base.specs.MessageType.{class_in, class_number, method_of}
-use Rattle.stun_base.specs.declared.error.StunParseError.{StunParseError}
-use Rattle.stun_base.specs.declared.error.StunParseError.TheVariants.{MissingAttribute}
+use Rattle.stun_base.specs.declared.wire.error.StunParseError.{StunParseError}
+use Rattle.stun_base.specs.declared.wire.error.StunParseError.TheVariants.{MissingAttribute}
 use Rattle.stun_types.specs.Attribute.{TypedValue, first_attribute, has_attribute}
 use Rattle.stun_types.specs.ErrorCode.{CodeAndReason, error_of}
 use Rattle.stun_types.specs.Integrity.{first_of}

@@ -2,9 +2,9 @@
 use Rattle.std.specs.Prelude.{ℕ, List, [], ◌∷◌, length, nat_lt, not, ◌==◌, ◌&&◌, if◌then◌else◌, Option, Some, None, Result, Ok, Err}
 use Rattle.std.specs.Str.{is_utf8}
 use Rattle.byteorder.specs.Endian.{big_number}
-use Rattle.stun_base.specs.declared.algorithm.IntegrityAlgorithm.{IntegrityAlgorithm}
-use Rattle.stun_base.specs.declared.algorithm.IntegrityAlgorithm.TheVariants.{Sha1, Sha256}
-use Rattle.stun_base.specs.declared.message_type.MessageClass.TheVariants.{Request}
+use Rattle.stun_base.specs.declared.keys.algorithm.IntegrityAlgorithm.{IntegrityAlgorithm}
+use Rattle.stun_base.specs.declared.keys.algorithm.IntegrityAlgorithm.TheVariants.{Sha1, Sha256}
+use Rattle.stun_base.specs.declared.wire.message_type.MessageClass.TheVariants.{Request}
 use Rattle.stun_base.specs.Attributes.{USERNAME}
 use Rattle.stun_base.specs.Keys.{long_term_key, userhash}
 use Rattle.stun_base.specs.MessageType.{type_number}

@@ -2,10 +2,10 @@
 
 ghost use Rattle.std.specs.Prelude.{◌≡◌, ◌≤◌, ◌<◌, ◌+◌, ◌*◌, ◌++◌, ◌^◌, length, pos, take, drop, set, IfOk, IfErr, OnOk, Some, None, Ok, Err};
 ghost use Rattle.byteorder.specs.Endian.{big_bytes};
-ghost use Rattle.stun_base.specs.declared.message_type.MessageClass.{MessageClass};
+ghost use Rattle.stun_base.specs.declared.wire.message_type.MessageClass.{MessageClass};
 ghost use Rattle.stun_types.specs.Attribute.{attribute_length};
 ghost use Rattle.stun_types.specs.Grammar.{spelled_attribute};
-ghost use Rattle.stun_types.specs.Writing.{begun_answer, with_attribute};
+ghost use Rattle.stun_types.specs.Writing.{empty_answer, with_attribute};
 ghost use Rattle.stun_extra.specs.Unknown.{spelled_types, types_of, unknown_types};
 ghost use Rattle.stun_c.specs.Answers.{fitted, written_number, buffer_after};
 ghost use Rattle.stun_c.specs.code.Room.{HasRoom};
@@ -115,7 +115,7 @@ const FRONT_LENGTH: usize = 48;
 /// The header of an error response to a message.
 fn header<'a>(request: &Message<'_>, buffer: &'a mut [u8]) -> &'a [u8]
     requires { 20 ≤ length buffer.old }
-    ensures { result.now ≡ begun_answer MessageClass.Error request.now }
+    ensures { result.now ≡ empty_answer MessageClass.Error request.now }
 {
     let writer = MessageWriteMutSlice::new(buffer);
     Message::builder_error(request, writer).unwrap().finish()
@@ -124,7 +124,7 @@ fn header<'a>(request: &Message<'_>, buffer: &'a mut [u8]) -> &'a [u8]
 /// Writes the header of an error response to a message.
 fn begin_answer(request: &Message<'_>, out: &mut [u8])
     requires { 20 ≤ length out.old }
-    ensures { out.new ≡ begun_answer MessageClass.Error request.now ++ drop 20 out.old }
+    ensures { out.new ≡ empty_answer MessageClass.Error request.now ++ drop 20 out.old }
 {
     let mut place = [0; HEADER_LENGTH];
     let header = header(request, &mut place);

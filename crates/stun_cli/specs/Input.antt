@@ -1,6 +1,27 @@
--- How often an input is asked for.
-use Rattle.std.specs.Prelude.{ℕ}
+-- How often an input is asked for, and why a command has none.
+use Rattle.std.specs.Prelude.{◌≡◌, ◌≢◌, ◌<◌, ◌+◌, ◌-◌, ◌^◌, ◌⊎◌, ⊤, ℕ, List, Bool, true, Option, Result, IfSome, MatchResult, length, min}
+use Rattle.std.specs.IoError.{error_kind}
+use Rattle.std.specs.declared.io.Error.{Error}
+use Rattle.std.specs.declared.io.ErrorKind.TheVariants.{Interrupted}
+use Rattle.stun_cli.specs.declared.failure.Failure.{Failure}
+use Rattle.stun_cli.specs.declared.failure.Failure.TheVariants.{Io, Memory, NoEnd}
 
 -- how often a command asks its reader, at most
 abbrev pub most_reads : ℕ
 most_reads = 1048576
+
+-- how often a reader has been asked after so many reads more; a count ends at 2 ^ 32 - 1
+abbrev pub asked_after : ℕ → ℕ → ℕ
+asked_after reads asked = min (asked + reads) (2 ^ 32 - 1)
+
+-- a read failed; one that was interrupted is tried again
+abbrev pub IsFailed : Result ℕ Error → Type 0
+IsFailed read = MatchResult read (λ _. ⊥) (λ error. error_kind error ≢ Interrupted)
+
+-- why a reader that had these bytes before is not read to its end: its last read failed; or it had
+-- more bytes than so many, or was asked as often as it may be. An allocation may fail at any time
+abbrev pub IsReason : Failure → ℕ → Option (List ℕ) → ℕ → ℕ → Bool → Type 0
+IsReason Io most given asked asked_now failed = failed ≡ true
+IsReason NoEnd most given asked asked_now failed =
+    IfSome given (λ input. most < length input) ⊎ (asked_now ≡ asked_after most_reads asked)
+IsReason Memory most given asked asked_now failed = ⊤

@@ -1,4 +1,6 @@
 //! Why nothing was read or written.
+ghost use Rattle.std.specs.Prelude.{◌≡◌};
+ghost use Rattle.stun_cli.specs.declared.failure.Failure.TheVariants.{Memory};
 
 use std::alloc::AllocError;
 
@@ -14,6 +16,8 @@ pub enum Failure {
 }
 
 impl From<AllocError> for Failure {
+    ghost from_gives = { λ _ failure. failure ≡ Memory };
+
     fn from(_error: AllocError) -> Failure {
         Failure::Memory
     }

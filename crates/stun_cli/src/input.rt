@@ -1,8 +1,8 @@
 //! The one way in which commands read.
-ghost use Rattle.std.specs.Prelude.{◌≡◌, ◌≤◌, ◌+◌, ℕ, IfOk, IfSome, length};
+ghost use Rattle.std.specs.Prelude.{◌≡◌, ◌≤◌, ◌+◌, ◌↔◌, ℕ, Bool, true, IfErr, IfOk, IfSome, length};
 ghost use Rattle.std.specs.Io.{ReadsAtMost};
 ghost use Rattle.std.specs.Io.KnownBytes.{ReadConsumes};
-ghost use Rattle.stun_cli.specs.Input.{most_reads};
+ghost use Rattle.stun_cli.specs.Input.{most_reads, asked_after, IsFailed, IsReason};
 
 use crate::failure::Failure;
 use std::alloc::Allocator;
@@ -17,15 +17,18 @@ const READ_SIZE: usize = 256;
 
 /// A reader whose reads contracts can count.
 pub trait CountedRead: Read {
-    // How often the reader has been asked.
+    // How often the reader has been asked, up to 4294967295 times.
     ghost asked: { Self → ℕ };
+    // Whether the last read failed, and was not only interrupted.
+    ghost failed: { Self → Bool };
 
     /// One read, as `read` makes it, which counts also where it is interrupted.
     fn ask(&mut self, buf: &mut [u8]) -> io::Result<usize>
         ensures bound { ReadsAtMost result buf.new }
         ensures bytes { ReadConsumes (Self.remaining self.old)
             (Self.remaining self.new) result buf.new }
-        ensures counted { asked self.new ≤ asked self.old + 1 };
+        ensures counted { asked self.new ≡ asked_after 1 (asked self.old) }
+        ensures failed { (failed self.new ≡ true) ↔ IsFailed result };
 }
 
 /// A reader that counts how often it is asked.
@@ -33,12 +36,17 @@ pub trait CountedRead: Read {
 pub struct Counted<R: Read + Drop> {
     pub reader: R,
     asked: u32,
+    failed: bool,
 }
 
 impl<R: Read + Drop> Counted<R> {
     /// Has not been asked yet.
     pub fn new(reader: R) -> Counted<R> {
-        Counted { reader, asked: 0 }
+        Counted {
+            reader,
+            asked: 0,
+            failed: false,
+        }
     }
 }
 
@@ -53,9 +61,16 @@ impl<R: Read + Drop> Read for Counted<R> {
 impl<R: Read + Drop> CountedRead for Counted<R> {
     ghost asked = { λ counted. counted.asked };
 
+    ghost failed = { λ counted. counted.failed };
+
     fn ask(&mut self, buf: &mut [u8]) -> io::Result<usize> {
         self.asked = self.asked.saturating_add(1);
-        self.reader.read(buf)
+        let result = self.reader.read(buf);
+        self.failed = match &result {
+            Ok(_) => false,
+            Err(error) => error.kind() != ErrorKind::Interrupted,
+        };
+        result
     }
 }
 
@@ -72,6 +87,8 @@ pub fn read_to_end<R: CountedRead, A: Allocator>(
         (λ input. IfOk result (λ bytes. bytes.items ≡ input)) }
     ensures limit { IfOk result (λ bytes. length bytes.items ≤ most) }
     ensures asked { R.asked reader.new ≤ R.asked reader.old + most_reads }
+    ensures reason { IfErr result (λ failure. IsReason failure most (R.remaining reader.old)
+        (R.asked reader.old) (R.asked reader.new) (R.failed reader.new)) }
 {
     let mut bytes = Vec::new(alloc);
     let mut buffer = [0u8; READ_SIZE];

@@ -5,9 +5,9 @@ use Rattle.std.proofs.lemmas.List.{append-nil}
 use Rattle.stun_base.specs.Attributes.{ERROR_CODE}
 use Rattle.stun_base.specs.Header.{transaction_id_field, type_field}
 use Rattle.stun_base.specs.MessageType.{method_of, type_number}
-use Rattle.stun_base.specs.declared.message_type.MessageClass.TheVariants.{Error}
+use Rattle.stun_base.specs.declared.wire.message_type.MessageClass.TheVariants.{Error}
 use Rattle.stun_types.specs.ErrorCode.{CodeAndReason, error_value}
-use Rattle.stun_base.specs.declared.attribute_type.AttributeType.{AttributeType}
+use Rattle.stun_base.specs.declared.wire.attribute_type.AttributeType.{AttributeType}
 use Rattle.stun_types.specs.Attribute.{TypedValue, attribute_length}
 use Rattle.stun_types.specs.Grammar.{spelled, spelled_attribute}
 use Rattle.stun_types.proofs.AddingLemmas.{length-spelled_attribute}

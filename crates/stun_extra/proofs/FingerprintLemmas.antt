@@ -12,7 +12,7 @@ use Rattle.byteorder.specs.Endian.{big_bytes, big_number}
 use Rattle.byteorder.specs.Numbers.{big_number-reads_back}
 use Rattle.stun_base.specs.Attributes.{MESSAGE_INTEGRITY, MESSAGE_INTEGRITY_SHA256, FINGERPRINT}
 use Rattle.stun_base.specs.Header.{HEADER_LENGTH}
-use Rattle.stun_base.specs.declared.algorithm.IntegrityAlgorithm.{IntegrityAlgorithm}
+use Rattle.stun_base.specs.declared.keys.algorithm.IntegrityAlgorithm.{IntegrityAlgorithm}
 use Rattle.stun_types.specs.Grammar.{spelled_attribute}
 use Rattle.stun_types.specs.Integrity.{deciding, first_of, verified_at, verified_by}
 use Rattle.stun_types.specs.Limits.{max_length}
@@ -20,7 +20,7 @@ use Rattle.stun_types.specs.Message.{IsMessage, with_length}
 use Rattle.stun_types.specs.Visible.{before, counts, counts_behind, has_kind, visible}
 use Rattle.stun_types.specs.Walk.{Member, walk}
 use Rattle.stun_types.specs.Writing.{HasOneMore, IsAddable, length_with}
-use Rattle.stun_types.specs.code.Walk.{IsWithin}
+use Rattle.stun_types.specs.code.Walk.{IsInside}
 use Rattle.stun_types.proofs.AddingLemmas.{IsMessage-added, length-spelled_attribute, or_none, raised, walk-added}
 use Rattle.stun_types.proofs.IntegrityLemmas.{deciding_within, walk_up_to-within}
 use Rattle.stun_types.proofs.TailLemmas.{verified_by-tail}
@@ -88,7 +88,7 @@ visible-added message longer last place kind none walked =
     let members = walk message in
     let test = counts (members ++ last ∷ []) in
     let earlier : filter test members ≡ filter (counts members) members =
-    filter-same (IsWithin message) test (counts members) members (walk_up_to-within (length message) HEADER_LENGTH message (omega arith))
+    filter-same (IsInside message) test (counts members) members (walk_up_to-within (length message) HEADER_LENGTH message (omega arith))
     (λ m within. counts-added members last m (omega (arith, within.whole, place))) in
     let no_other = has_kind-before FINGERPRINT last.0 members none in
     let last_counts : test last ≡ true =
@@ -223,7 +223,7 @@ set_before (suc (suc (suc zero))) n (x ∷ y ∷ z ∷ w ∷ bytes) behind long 
 set_before (suc (suc (suc (suc place)))) n (x ∷ y ∷ z ∷ w ∷ bytes) behind long = refl
 
 -- what is before an attribute is the same, but for the length field
-same_before : (message : List ℕ) (m : Member) → 20 ≤ length message → IsWithin message m
+same_before : (message : List ℕ) (m : Member) → 20 ≤ length message → IsInside message m
     → with_length (take m.0 (with_fingerprint message)) 0 ≡ with_length (take m.0 message) 0
 same_before message m long within =
     let raised_message = with_length message (length_with message 4) in
@@ -244,6 +244,6 @@ verified_by-fingerprint keys message free = by (deciding message) refl
         ap (option_and_then (verified_at keys longer)) (deciding-fingerprint message free ∙ none)
         ∙ sym (ap (option_and_then (verified_at keys message)) none)
     by (Some m) decides =
-        let within : IsWithin message m = deciding_within message (Some m) decides in
+        let within : IsInside message m = deciding_within message (Some m) decides in
         verified_by-tail keys longer message m (deciding-fingerprint message free ∙ decides) decides
         (same_before message m free.is_message.header.is_whole within)

@@ -2,7 +2,7 @@
 use Rattle.std.proofs.Common.{◌≡◌, ℕ, ◌-◌, ◌*◌, ◌%◌, List, [], ◌∷◌, ◌++◌, length, replicate, sym, ◌∙◌, ap, arith, append_assoc}
 use Rattle.std.proofs.lemmas.List.{append-nil}
 use Rattle.byteorder.specs.Endian.{big_bytes}
-use Rattle.stun_base.specs.declared.attribute_type.AttributeType.{AttributeType}
+use Rattle.stun_base.specs.declared.wire.attribute_type.AttributeType.{AttributeType}
 use Rattle.stun_types.specs.Attribute.{padded_length}
 use Rattle.stun_types.specs.Grammar.{spelled_attribute}
 use Rattle.stun_extra.specs.Unknown.{UNKNOWN_ATTRIBUTES, spelled_types}

@@ -5,7 +5,7 @@ use Rattle.std.specs.Prelude.{Some, filter, not, ◌==◌}
 use Rattle.std.specs.List.{AllByRecursion, slice_get}
 use Rattle.std.proofs.lemmas.List.{drop-drop}
 use Rattle.byteorder.specs.Endian.{big_number}
-use Rattle.stun_base.specs.declared.attribute_type.AttributeType.{AttributeType}
+use Rattle.stun_base.specs.declared.wire.attribute_type.AttributeType.{AttributeType}
 use Rattle.stun_types.specs.Attribute.{first_attribute, has_attribute}
 use Rattle.stun_base.specs.Header.{HEADER_LENGTH}
 use Rattle.stun_types.specs.Visible.{counts, visible}

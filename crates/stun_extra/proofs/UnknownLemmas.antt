@@ -3,7 +3,7 @@ use Rattle.std.proofs.Common.{◌≡◌, ℕ, ◌*◌, ◌≤◌, true, false, L
 use Rattle.std.specs.Prelude.{filter, not, ◌==◌, ◌||◌}
 use Rattle.std.proofs.lemmas.List.{length-map}
 use Rattle.std.proofs.lemmas.List.Sums.{count_by-le-length, length-filter}
-use Rattle.stun_base.specs.declared.attribute_type.AttributeType.{AttributeType}
+use Rattle.stun_base.specs.declared.wire.attribute_type.AttributeType.{AttributeType}
 use Rattle.stun_types.specs.Visible.{visible}
 use Rattle.stun_types.specs.Walk.{Member}
 use Rattle.stun_extra.specs.Unknown.{is_unknown, kinds_of, once, spelled_types, types_of, unknown_types}

@@ -3,7 +3,7 @@ use Rattle.std.specs.Prelude.{◌≡◌, ◌<◌, ◌+◌, ◌*◌, ◌/◌, ◌
 use Rattle.std.proofs.Common.{arith, refl}
 use Rattle.std.specs.List.{AllByRecursion, flat_map, list_any}
 use Rattle.byteorder.specs.Endian.{big_bytes}
-use Rattle.stun_base.specs.declared.attribute_type.AttributeType.{AttributeType}
+use Rattle.stun_base.specs.declared.wire.attribute_type.AttributeType.{AttributeType}
 use Rattle.stun_types.specs.Attribute.{TypedValue}
 use Rattle.stun_types.specs.ErrorCode.{error_value}
 use Rattle.stun_types.specs.Grammar.{spelled}
@@ -11,7 +11,7 @@ use Rattle.stun_types.specs.Integrity.{first_of}
 use Rattle.stun_base.specs.Attributes.{ERROR_CODE}
 use Rattle.stun_base.specs.Header.{transaction_id_field, type_field}
 use Rattle.stun_base.specs.MessageType.{class_in, method_of, type_number}
-use Rattle.stun_base.specs.declared.message_type.MessageClass.TheVariants.{Error, Request}
+use Rattle.stun_base.specs.declared.wire.message_type.MessageClass.TheVariants.{Error, Request}
 use Rattle.stun_types.specs.Visible.{visible}
 use Rattle.stun_types.specs.Walk.{Member}
 pub use Rattle.stun_extra.specs.AttributeTypes.{UNKNOWN_ATTRIBUTES}

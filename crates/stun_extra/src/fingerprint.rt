@@ -1,7 +1,7 @@
 //! FINGERPRINT (RFC 8489, section 14.7): written at the end of a message, and checked.
 ghost use Rattle.std.specs.Prelude.{◌≡◌, ◌≤◌, ℕ, false, List, length, IfOk, IsOk, IsOkUnless, MatchOption, None, Err};
 ghost use Rattle.stun_base.specs.Attributes.{FINGERPRINT};
-ghost use Rattle.stun_base.specs.declared.algorithm.IntegrityAlgorithm.{IntegrityAlgorithm};
+ghost use Rattle.stun_base.specs.declared.keys.algorithm.IntegrityAlgorithm.{IntegrityAlgorithm};
 ghost use Rattle.stun_types.specs.Integrity.{first_of, verified_by};
 ghost use Rattle.stun_types.specs.Message.{IsMessage};
 ghost use Rattle.stun_types.specs.Visible.{visible};

@@ -31,7 +31,7 @@ pub struct UnknownTypes<'a> {
 
 impl<'a> Model for UnknownTypes<'a> {
     ghost use Rattle.std.specs.Prelude.{List};
-    ghost use Rattle.stun_base.specs.declared.attribute_type.AttributeType.{AttributeType};
+    ghost use Rattle.stun_base.specs.declared.wire.attribute_type.AttributeType.{AttributeType};
     ghost use Rattle.stun_extra.specs.code.Told.{left_to_tell};
 
     ghost Value = { List AttributeType };

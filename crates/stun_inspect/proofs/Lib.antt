@@ -1,4 +1,5 @@
 -- Lemmas of the program.
 mod DecodeLemmas
+mod LineLemmas
 mod RunLemmas
 mod TellingLemmas

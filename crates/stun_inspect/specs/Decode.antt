@@ -2,8 +2,9 @@
 use Rattle.std.specs.Prelude.{◌≡◌, ℕ, List, [], ◌∷◌, ◌++◌, codes, length, Option, Some, None}
 use Rattle.std.specs.Fmt.{decimal}
 use Rattle.std.specs.Io.KnownBytes.{Appends}
-use Rattle.stun_base.specs.declared.error.StunParseError.{StunParseError}
+use Rattle.stun_base.specs.declared.wire.error.StunParseError.{StunParseError}
 use Rattle.stun_base.specs.AttributeText.{type_text}
+use Rattle.stun_cli.specs.Line.{IsLine}
 use Rattle.stun_cli.specs.Verdict.{refusal_line}
 use Rattle.stun_types.specs.Message.{refusal}
 use Rattle.stun_cli.specs.declared.status.Status.{Status}
@@ -16,23 +17,32 @@ use Rattle.stun_inspect.specs.Fingerprint.{ending_of}
 abbrev pub NAME_LENGTH : ℕ
 NAME_LENGTH = 28
 
--- a text on an attribute of a message has its type and its place after the column of its name, what
--- follows says the rest, and of a FINGERPRINT the end says whether it is right; then comes a line
--- feed. That the rest has no other line feed is not said here
+-- the text on an attribute of a message: its type and its place after the column of its name, then
+-- the rest, of a FINGERPRINT whether it is right, and a line feed
+abbrev pub line_with : List ℕ → Told → List ℕ → List ℕ → List ℕ
+line_with message told name rest =
+    name ++ (codes " " ++ (type_text told.attribute.kind ++ (codes " at " ++ (decimal told.place ++ (codes " " ++ (rest ++ (ending_of message told ++ 10 ∷ [])))))))
+
+-- it is one line
 abbrev pub IsLineOn : List ℕ → Told → List ℕ → Type 0
 IsLineOn message told line =
-    (name : List ℕ) × (rest : List ℕ) × (length name ≡ NAME_LENGTH) × (line
-    ≡ name ++ (codes " " ++ (type_text told.attribute.kind ++ (codes " at " ++ (decimal told.place ++ (codes " " ++ (rest ++ (ending_of message told ++ 10 ∷ []))))))))
+    (name : List ℕ) × (rest : List ℕ) × (length name ≡ NAME_LENGTH) × IsLine line × (line ≡ line_with message told name rest)
 
--- a text is one such text on each attribute, in order
+-- a text is one line on each attribute, in order
 abbrev pub AreLinesOn : List ℕ → List Told → List ℕ → Type 0
 AreLinesOn message [] text = text ≡ []
 AreLinesOn message (first ∷ others) text =
     (line : List ℕ) × (rest : List ℕ) × IsLineOn message first line × AreLinesOn message others rest × (text ≡ line ++ rest)
 
--- what is said of a message: something of its header, and then a text on each attribute
+-- three lines on the header: on class, method and transaction id
+abbrev pub IsHeader : List ℕ → Type 0
+IsHeader text =
+    (first : List ℕ) × (second : List ℕ) × (third : List ℕ) × IsLine first × IsLine second × IsLine third
+    × (text ≡ first ++ (second ++ third))
+
+-- what is said of a message: the lines on its header, and then a line on each attribute
 abbrev pub Describes : List ℕ → List ℕ → Type 0
-Describes message text = (header : List ℕ) × (lines : List ℕ) × AreLinesOn message (told_of message) lines × (text ≡ header ++ lines)
+Describes message text = (header : List ℕ) × (lines : List ℕ) × IsHeader header × AreLinesOn message (told_of message) lines × (text ≡ header ++ lines)
 
 -- the message is described, or the line for what refuses the bytes is printed
 abbrev pub PrintsUnlessRefused : Option StunParseError → List ℕ → Status → Option (List ℕ) → Option (List ℕ) → Type 0

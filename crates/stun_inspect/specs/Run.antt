@@ -4,7 +4,7 @@ use Rattle.std.specs.Prelude.{◌≡◌, ◌≢◌, ℕ, List, [], ◌∷◌, �
 use Rattle.std.specs.Io.KnownBytes.{Appends}
 use Rattle.hex.specs.Hex.{encode_lower}
 use Rattle.stun_base.specs.Keys.{short_term_key, long_term_key, userhash}
-use Rattle.stun_base.specs.declared.algorithm.IntegrityAlgorithm.{IntegrityAlgorithm}
+use Rattle.stun_base.specs.declared.keys.algorithm.IntegrityAlgorithm.{IntegrityAlgorithm}
 use Rattle.stun_inspect.specs.declared.command.Command.{Command}
 use Rattle.stun_inspect.specs.declared.command.Command.TheVariants.{Help, Version, Decode, Verify, Key, Userhash, Nonce}
 use Rattle.stun_inspect.specs.declared.command.User.{User}
@@ -13,6 +13,7 @@ use Rattle.stun_cli.specs.declared.status.Status.{Status}
 use Rattle.stun_cli.specs.declared.status.Status.TheVariants.{Good}
 use Rattle.stun_inspect.specs.Decode.{PrintsDecoded}
 use Rattle.stun_inspect.specs.Input.{is_raw}
+use Rattle.stun_cli.specs.Line.{IsLine}
 use Rattle.stun_cli.specs.Verdict.{verdict_of}
 use Rattle.stun_inspect.specs.Verify.{PrintsVerdict}
 
@@ -24,6 +25,10 @@ keys_for (Some user) password = λ algorithm. long_term_key algorithm user.name.
 -- a text is printed, and the answer is good
 abbrev pub PrintsText : List ℕ → Status → Option (List ℕ) → Option (List ℕ) → Type 0
 PrintsText text status before after = (status ≡ Good) × Appends before after text
+
+-- one line is printed
+abbrev pub PrintsLine : Status → Option (List ℕ) → Option (List ℕ) → Type 0
+PrintsLine status before after = (line : List ℕ) × IsLine line × PrintsText line status before after
 
 -- bytes are printed as a line of hexadecimal digits
 abbrev pub PrintsDigits : List ℕ → Status → Option (List ℕ) → Option (List ℕ) → Type 0
@@ -44,4 +49,4 @@ Answers (Key algorithm user password) given result before after =
     PrintsDigits (long_term_key algorithm user.name.now user.realm.now password.now) status before after)
 Answers (Userhash user) given result before after =
     IfOk result (λ status. PrintsDigits (userhash user.name.now user.realm.now) status before after)
-Answers (Nonce nonce) given result before after = IfOk result (λ status. status ≡ Good)
+Answers (Nonce nonce) given result before after = IfOk result (λ status. PrintsLine status before after)

@@ -1,7 +1,7 @@
 -- The attributes of a message one by one: place, type, value, and what hides it.
 use Rattle.std.specs.Prelude.{ℕ, Bool, List, map, filter, not, ◌==◌, ◌&&◌, Option, Some, None, is_none, if◌then◌else◌}
 use Rattle.stun_base.specs.Attributes.{MESSAGE_INTEGRITY, MESSAGE_INTEGRITY_SHA256, FINGERPRINT}
-use Rattle.stun_base.specs.declared.attribute_type.AttributeType.{AttributeType}
+use Rattle.stun_base.specs.declared.wire.attribute_type.AttributeType.{AttributeType}
 use Rattle.stun_types.specs.Walk.{Member, walk}
 use Rattle.stun_types.specs.Visible.{before, has_kind}
 use Rattle.stun_inspect.specs.declared.telling.Told.{Told}

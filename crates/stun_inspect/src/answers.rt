@@ -1,10 +1,11 @@
 //! What each command does with its reader and its writer.
-ghost use Rattle.std.specs.Prelude.{◌≡◌, ◌≢◌, codes, true, IfOk, IfSome};
+ghost use Rattle.std.specs.Prelude.{◌≡◌, ◌≢◌, codes, true, IfOk, IfSome, string_bytes};
 ghost use Rattle.stun_base.specs.Keys.{long_term_key};
 ghost use Rattle.stun_base.specs.Keys.OfCredentials.{keys_of};
 ghost use Rattle.stun_inspect.specs.Decode.{PrintsDecoded};
 ghost use Rattle.stun_inspect.specs.Input.{is_raw};
 ghost use Rattle.stun_inspect.specs.Run.{Answers, PrintsDigits, PrintsText, keys_for};
+ghost use Rattle.stun_cli.specs.Line.{IsLine};
 ghost use Rattle.stun_cli.specs.Verdict.{verdict_of};
 ghost use Rattle.stun_inspect.specs.Verify.{PrintsVerdict};
 
@@ -20,7 +21,7 @@ use crate::verdict::{line, verdict_on};
 use std::alloc::{AllocError, Allocator};
 use std::io::Write;
 use stun_cli::input::{CountedRead, read_to_end};
-use stun_cli::output::write_text;
+use stun_cli::output::{line_of, write_text};
 use stun_cli::status::Status;
 use stun_cli::verdict::refusal_line;
 use stun_types::attribute::Userhash;
@@ -303,9 +304,10 @@ fn password_of<'a>(word: &'a str, input: &'a [u8]) -> Result<(&'a str, &'a [u8])
 }
 
 /// The line on the security bits of a nonce.
-fn nonce_line<A: Allocator + Copy>(alloc: A, nonce: &str) -> Result<String<A>, AllocError> {
-    let mut line = String::new(alloc);
-    push_security_bits(&mut line, nonce)?;
-    line.push('\n')?;
-    Ok(line)
+fn nonce_line<A: Allocator + Copy>(alloc: A, nonce: &str) -> Result<String<A>, AllocError>
+    ensures { IfOk result (λ line. IsLine (string_bytes line)) }
+{
+    let mut text = String::new(alloc);
+    push_security_bits(&mut text, nonce)?;
+    line_of(alloc, text)
 }

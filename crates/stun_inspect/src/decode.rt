@@ -1,12 +1,14 @@
 //! What `decode` says of a message.
-ghost use Rattle.std.specs.Prelude.{◌≡◌, IfOk, length, string_bytes};
-ghost use Rattle.stun_inspect.specs.Decode.{AreLinesOn, Describes, IsLineOn, NAME_LENGTH};
+ghost use Rattle.std.specs.Prelude.{◌≡◌, false, IfOk, length, string_bytes};
+ghost use Rattle.stun_cli.specs.Line.{has_line_feed, IsLine};
+ghost use Rattle.stun_inspect.specs.Decode.{AreLinesOn, Describes, IsHeader, IsLineOn, NAME_LENGTH};
 
 use crate::fingerprint::ending_of;
 use crate::registry::{Form, attribute, attribute_name, method_name};
 use crate::telling::{Told, tell};
 use crate::value::{push_digits, push_value};
 use std::alloc::{AllocError, Allocator};
+use stun_cli::output::{has_line_feed, line_of, unbroken};
 use stun_types::message::{Message, MessageClass, TransactionId};
 
 /// What is printed of a message: its class, its method and its id, and then a line on each
@@ -38,18 +40,37 @@ fn class_name(class: MessageClass) -> &'static str {
 fn header_text<A: Allocator + Copy>(
     alloc: A,
     message: &Message<'_>,
-) -> Result<String<A>, AllocError> {
-    let class = class_name(message.class());
-    let method = message.method().value();
-    let name = method_name(method);
-    let mut text = format!(in alloc;
-        "{:<28} {class}\n{:<28} {name} 0x{method:03x}\n{:<28} ",
-        "class", "method", "id"
-    )?;
-    let id = message.transaction_id().as_u128().to_be_bytes();
-    push_digits(&mut text, &id[4..])?;
-    text.push('\n')?;
+) -> Result<String<A>, AllocError>
+    ensures { IfOk result (λ text. IsHeader (string_bytes text)) }
+{
+    let kind = class_name(message.class());
+    let first = header_line(alloc, "class", kind)?;
+    let method = method_text(alloc, message.method().value())?;
+    let second = header_line(alloc, "method", method.as_str())?;
+    let mut id = String::new(alloc);
+    let bytes = message.transaction_id().as_u128().to_be_bytes();
+    push_digits(&mut id, &bytes[4..])?;
+    let third = header_line(alloc, "id", id.as_str())?;
+    let text = format!(in alloc; "{first}{second}{third}")?;
     Ok(text)
+}
+
+/// The line on a part of the header.
+fn header_line<A: Allocator + Copy>(
+    alloc: A,
+    name: &str,
+    value: &str,
+) -> Result<String<A>, AllocError>
+    ensures { IfOk result (λ line. IsLine (string_bytes line)) }
+{
+    let text = format!(in alloc; "{name:<28} {value}")?;
+    line_of(alloc, text)
+}
+
+/// The name and the number of a method.
+fn method_text<A: Allocator + Copy>(alloc: A, method: u16) -> Result<String<A>, AllocError> {
+    let name = method_name(method);
+    format!(in alloc; "{name} 0x{method:03x}")
 }
 
 /// A line on each attribute of a message.
@@ -96,7 +117,8 @@ const NAME_LENGTH: usize = 28;
 
 /// The column of a name, with blanks after it.
 fn column_of<A: Allocator + Copy>(alloc: A, name: &str) -> Result<String<A>, AllocError>
-    ensures { IfOk result (λ column. length (string_bytes column) ≡ NAME_LENGTH) }
+    ensures length { IfOk result (λ column. length (string_bytes column) ≡ NAME_LENGTH) }
+    ensures unbroken { IfOk result (λ column. has_line_feed (string_bytes column) ≡ false) }
 {
     let mut column = [b' '; NAME_LENGTH];
     for (place, byte) in name.bytes().enumerate() {
@@ -105,8 +127,8 @@ fn column_of<A: Allocator + Copy>(alloc: A, name: &str) -> Result<String<A>, All
         }
     }
     match str::from_utf8(&column) {
-        Ok(text) => String::from_str(alloc, text),
-        Err(_) => String::from_str(alloc, "                            "),
+        Ok(text) if !has_line_feed(text) => String::from_str(alloc, text),
+        _ => String::from_str(alloc, "                            "),
     }
 }
 
@@ -128,7 +150,9 @@ fn rest_of_line<A: Allocator + Copy>(
     told: &Told<'_>,
     form: Form,
     id: TransactionId,
-) -> Result<String<A>, AllocError> {
+) -> Result<String<A>, AllocError>
+    ensures { IfOk result (λ rest. has_line_feed (string_bytes rest) ≡ false) }
+{
     let length = told.attribute.length();
     let blanks = blanks_after(told.place);
     let mut rest = format!(in alloc; "{blanks}{length:>5} bytes  ")?;
@@ -137,5 +161,5 @@ fn rest_of_line<A: Allocator + Copy>(
         write!(rest, "hidden by {hider}: ")?;
     }
     push_value(&mut rest, form, told.attribute.value(), id)?;
-    Ok(rest)
+    unbroken(alloc, rest)
 }

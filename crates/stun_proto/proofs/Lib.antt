@@ -1,51 +1,10 @@
-pub mod AcceptingLemmas
-pub mod AfterCalls
-pub mod AgentLoopLemmas
-pub mod Along
-pub mod Answered
-pub mod AppendedLemmas
-pub mod Chosen
-pub mod Counting
-pub mod Digests
-pub mod DriveLemmas
-pub mod Driven
-pub mod Existence
-pub mod ExampleLemmas
-pub mod GoingOn
-pub mod Hashes
-pub mod Heard
-pub mod IsolationLemmas
-pub mod Keeping
-pub mod LateLemmas
-pub mod MadeLemmas
-pub mod Matched
-pub mod Meeting
-pub mod MeetingLoopLemmas
-pub mod NextLemmas
-pub mod Once
-pub mod Outcomes
-pub mod OneTransaction
-pub mod PathLemmas
-pub mod Refusals
-pub mod Renewed
-pub mod RepliesLemmas
-pub mod RunLemmas
-pub mod Runs
-pub mod ScheduleLaw
-pub mod Sending
-pub mod ServedCalls
-pub mod ServedExample
-pub mod ServerLoopLemmas
-pub mod ShardsLemmas
-pub mod Sights
-pub mod Signed
-pub mod SignedRuns
-pub mod SigningLemmas
-pub mod Small
-pub mod Stages
-pub mod Standing
-pub mod Strongest
-pub mod TurnLemmas
-pub mod Typed
-pub mod ValidateLemmas
-pub mod Work
+-- What several proofs share, by the sentence that it serves.
+
+-- sentence 1: what a server answers in a run of calls, and what each address can tell of it
+pub mod server_runs
+
+-- sentence 2: a client and a server who meet, step by step, and what they come to
+pub mod meetings
+
+-- sentence 3: an agent that is driven, turn by turn, and the plan of each request
+pub mod agent_runs

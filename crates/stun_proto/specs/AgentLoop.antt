@@ -6,7 +6,7 @@ use Rattle.std.specs.Global.{Vec}
 use Rattle.std.specs.declared.net.socket_addr.SocketAddr.{SocketAddr}
 use Rattle.stun_base.specs.Header.{transaction_id_field}
 use Rattle.stun_base.specs.Moments.{last_moment, moment_after}
-use Rattle.stun_base.specs.declared.transport.TransportType.{TransportType}
+use Rattle.stun_base.specs.declared.wire.transport.TransportType.{TransportType}
 use Rattle.stun_agent.specs.Agent.{Agent, request_refusal}
 use Rattle.stun_agent.specs.Timing.{Settings, final_wait, planned_end, slots, timeout}
 use Rattle.stun_agent.specs.Transactions.{IsAscending, wake_up}

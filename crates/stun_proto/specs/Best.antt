@@ -2,7 +2,7 @@
 use Rattle.std.specs.Prelude.{◌≡◌, ◌≤◌, ◌↔◌, ◌⊎◌, not, ◌&&◌, if◌then◌else◌, nat_lt, List, Contains, filter, Option, Some, None}
 use Rattle.std.specs.List.{reduce}
 use Rattle.stun_base.specs.Algorithm.{strength}
-use Rattle.stun_base.specs.declared.algorithm.IntegrityAlgorithm.{IntegrityAlgorithm}
+use Rattle.stun_base.specs.declared.keys.algorithm.IntegrityAlgorithm.{IntegrityAlgorithm}
 use Rattle.stun_auth.specs.declared.feature.Feature.{Feature}
 use Rattle.stun_auth.specs.declared.feature.Feature.TheVariants.{Required, Disabled}
 use Rattle.stun_auth.specs.Algorithms.{has}

@@ -1,6 +1,6 @@
 -- What the steps of a run add to the counters of its agent (RFC 8489, section 6.2).
 use Rattle.std.specs.Prelude.{ℕ, ◌≡◌, ◌≤◌, Bool, true, false, List, filter, length, sum_by, Option, Some, None}
-use Rattle.stun_base.specs.declared.message_type.MessageClass.{MessageClass}
+use Rattle.stun_base.specs.declared.wire.message_type.MessageClass.{MessageClass}
 use Rattle.stun_base.specs.MessageType.{class_in, is_indication, is_response}
 use Rattle.stun_agent.specs.Agent.{Agent}
 use Rattle.stun_agent.specs.Statistics.{Statistics, last_count, raised}

@@ -3,7 +3,7 @@
 -- whole runs by these calls. Words.antt says where each word is defined.
 use Rattle.std.specs.FinMap as map
 use Rattle.std.specs.Prelude.{◌≡◌, ◌≤◌, ◌+◌, ◌-◌, ◌↔◌, ◌⊎◌, ◌∷◌, ◌++◌}
-use Rattle.stun_auth.specs.declared.server_reason.LongTermServerValidation.TheVariants as Served
+use Rattle.stun_auth.specs.declared.server.reason.LongTermServerValidation.TheVariants as Served
 use Rattle.stun_proto.specs.Serving as Serving
 use Rattle.stun_proto.specs.Words.{ℕ, false, List, filter, length, slice_get, take, Some, None, AllByRecursion, IsSome, Vec, SocketAddr, Result, Ok, Err, digest, NameAndPassword, HEADER_LENGTH, header_refusal, transaction_id_field, long_term_key, class_in, is_response, IntegrityAlgorithm, Request, TypedValue, deciding, integrity_algorithm, TEXT_LIMIT, USERNAME_LIMIT, with_length, UnsupportedFeature, listed, Challenge, ClientState, authenticated, initial, Reading, verified_under, PlaceSeen, Sight, AcceptedWith, Answer, ServerSeen, sight, ServerCall, Validate, NegotiateError, Memory, Outcome, Validated, ClientRefused, HashIsRefused, IsShared, IsStrongestShared, IsReady, own, own_replies, Meeting, Reads, sight_by_replies, Reply, Agent, planned_end, at, AgentEvent, SendRequest, requester, Requester, Asks, IsUndisturbed, plan, cut, Step, is_of}
 

@@ -7,28 +7,28 @@ use Rattle.std.specs.declared.net.socket_addr.SocketAddr.{SocketAddr}
 use Rattle.stun_base.specs.Credentials.{NameAndPassword}
 use Rattle.stun_base.specs.Keys.{userhash}
 use Rattle.stun_base.specs.Moments.{moment_after}
-use Rattle.stun_base.specs.declared.algorithm.IntegrityAlgorithm.{IntegrityAlgorithm}
+use Rattle.stun_base.specs.declared.keys.algorithm.IntegrityAlgorithm.{IntegrityAlgorithm}
 use Rattle.stun_types.specs.Limits.{TEXT_LIMIT, USERNAME_LIMIT}
-use Rattle.stun_auth.specs.declared.client_answer.LongTermClientAuthErrorReason.TheVariants.{UnsupportedFeature}
+use Rattle.stun_auth.specs.declared.client.answer.LongTermClientAuthErrorReason.TheVariants.{UnsupportedFeature}
 use Rattle.stun_auth.specs.Algorithms.{listed}
 use Rattle.stun_auth.specs.Client.{Challenge, authenticated, initial}
 use Rattle.stun_auth.specs.Registered.{Registered}
 use Rattle.stun_auth.specs.Seen.{ClientSeen, PlaceSeen}
 use Rattle.stun_auth.specs.Validation.{ServerSeen, sight}
 use Rattle.stun_proto.specs.Best.{best}
-use Rattle.stun_proto.specs.Matching.{AreJoined, AreOfOthers, AreTexts}
+use Rattle.stun_proto.specs.Matching.{AreJoined, AreOfOthers, AreTexts, IsRegistered}
 use Rattle.stun_proto.specs.Negotiation.{Meeting, Met, negotiated}
 use Rattle.stun_proto.specs.declared.replay.negotiation.Outcome.TheVariants.{Validated, ClientRefused}
 
 -- no two present users share a hash
 abbrev pub HaveOwnHashes : Registered → Type 0
-HaveOwnHashes users = (a b : List ℕ) → is_some (map.get users.passwords a) ≡ true → is_some (map.get users.passwords b) ≡ true
+HaveOwnHashes users = (a b : List ℕ) → is_some (map.get users.secrets a) ≡ true → is_some (map.get users.secrets b) ≡ true
     → userhash a users.realm ≡ userhash b users.realm → a ≡ b
 
--- a new client is ready: it has a present user's credentials, comes from an address without a place, and is in time
+-- a new client is ready: it has a registered user's credentials, comes from an address without a place, and is in time
 pub record IsReady (m : Meeting) (who : NameAndPassword) (server : ServerSeen) : Type 0 where
   pub credentials : m.settings.credentials ≡ Some who
-  pub present : map.get server.registered.passwords who.username ≡ Some who.password
+  pub registered : IsRegistered server.registered who
   pub hashes : HaveOwnHashes server.registered
   pub new_address : map.get server.places m.from ≡ None
   -- the calls between are those of other addresses: none is on users or settings, none forgets expired nonces, and the address's

@@ -3,7 +3,7 @@ use Rattle.std.specs.Prelude.{◌≡◌, List, [], ◌∷◌, Bool, true, if◌t
 use Rattle.std.specs.Option.{option_map}
 use Rattle.std.specs.declared.net.socket_addr.SocketAddr.{SocketAddr}
 use Rattle.stun_base.specs.Address.{same_address}
-use Rattle.stun_base.specs.declared.error.StunParseError.{StunParseError}
+use Rattle.stun_base.specs.declared.wire.error.StunParseError.{StunParseError}
 use Rattle.stun_types.specs.Message.{refusal}
 use Rattle.stun_auth.specs.Forgetting.{place_kept}
 use Rattle.stun_auth.specs.Places.{with_client}

@@ -5,12 +5,13 @@ use Rattle.std.specs.FinMap as map
 use Rattle.std.specs.declared.net.socket_addr.SocketAddr.{SocketAddr}
 use Rattle.stun_base.specs.Credentials.{NameAndPassword}
 use Rattle.stun_base.specs.Keys.{long_term_key}
+use Rattle.stun_base.specs.declared.keys.algorithm.IntegrityAlgorithm.{IntegrityAlgorithm}
 use Rattle.stun_auth.specs.declared.feature.Feature.{Feature}
 use Rattle.stun_auth.specs.Algorithms.{contains, listed}
 use Rattle.stun_auth.specs.Client.{Challenge}
 use Rattle.stun_auth.specs.ClientStep.{naming_of}
 use Rattle.stun_auth.specs.Nonces.{nonce_of}
-use Rattle.stun_auth.specs.Registered.{Registered}
+use Rattle.stun_auth.specs.Registered.{Registered, UserSecret, key_from}
 use Rattle.stun_auth.specs.Seen.{PlaceSeen}
 use Rattle.stun_auth.specs.Server.{Sight, named_by}
 use Rattle.stun_auth.specs.Signed.{hashed_name, plain_name}
@@ -26,7 +27,16 @@ pub record AreTexts (its_realm its_name : List ℕ) : Type 0 where
   pub realm : IsUtf8 its_realm
   pub username : IsUtf8 its_name
 
--- the challenge that a client keeps is the one that the server has kept at the place, and the client has a present user's key
+-- the user is registered, by this password or by the keys that it makes
+pub record IsRegistered (users : Registered) (who : NameAndPassword) : Type 0 where
+  pub secret : UserSecret
+  pub present : map.get users.secrets who.username ≡ Some secret
+  pub keys : (a : IntegrityAlgorithm) → contains a users.algorithms ≡ true
+      → key_from a who.username users.realm secret
+      ≡ Some (long_term_key a who.username users.realm who.password)
+
+-- the challenge that a client keeps is the one that the server has kept at the place, and the
+-- client has a registered user's key
 pub record Matches (users : Registered) (feature : Feature) (p : PlaceSeen) (c : Challenge) (who : NameAndPassword) : Type 0 where
   pub realm : c.realm ≡ users.realm
   pub nonce : c.nonce ≡ p.nonce
@@ -36,9 +46,10 @@ pub record Matches (users : Registered) (feature : Feature) (p : PlaceSeen) (c :
   pub algorithms : c.algorithms ≡ listed users.algorithms
   pub algorithm : contains c.algorithm users.algorithms ≡ true
   pub naming : (hashes : Bool) × (c.naming ≡ naming_of hashes who.username users.realm)
-  pub named : named_by (hashed_name c.naming) (plain_name c.naming) users feature ≡ Some who
+  pub known : IsRegistered users who
+  pub named : named_by (hashed_name c.naming) (plain_name c.naming) users feature
+      ≡ Some (record { username = who.username; secret = known.secret })
   pub key : c.key ≡ long_term_key c.algorithm who.username users.realm who.password
-  pub present : map.get users.passwords who.username ≡ Some who.password
 
 -- a client's challenge and what its address can tell of the server match, and the client is known there
 pub record AreJoined (v : Sight) (p : PlaceSeen) (c : Challenge) (who : NameAndPassword) : Type 0 where

@@ -5,15 +5,15 @@ use Rattle.std.specs.declared.result.Result.{Result}
 use Rattle.std.specs.declared.result.Result.TheVariants.{Ok, Err}
 use Rattle.std.specs.declared.net.socket_addr.SocketAddr.{SocketAddr}
 use Rattle.stun_base.specs.MessageType.{type_number}
-use Rattle.stun_base.specs.declared.algorithm.IntegrityAlgorithm.{IntegrityAlgorithm}
-use Rattle.stun_base.specs.declared.error.StunWriteError.{StunWriteError}
-use Rattle.stun_base.specs.declared.message_type.MessageClass.TheVariants as Class
+use Rattle.stun_base.specs.declared.keys.algorithm.IntegrityAlgorithm.{IntegrityAlgorithm}
+use Rattle.stun_base.specs.declared.wire.error.StunWriteError.{StunWriteError}
+use Rattle.stun_base.specs.declared.wire.message_type.MessageClass.TheVariants as Class
 use Rattle.stun_types.specs.ErrorCode.{CodeAndReason, default_reason}
 use Rattle.stun_types.specs.Grammar.{spelled}
-use Rattle.stun_auth.specs.declared.client_answer.LongTermClientAuthErrorReason.TheVariants as Client
-use Rattle.stun_auth.specs.declared.client_answer.LongTermClientValidation.TheVariants as Read
-use Rattle.stun_auth.specs.declared.server_reason.LongTermServerAuthErrorReason.TheVariants as Server
-use Rattle.stun_auth.specs.declared.server_reason.LongTermServerValidation.TheVariants as Served
+use Rattle.stun_auth.specs.declared.client.answer.LongTermClientAuthErrorReason.TheVariants as Client
+use Rattle.stun_auth.specs.declared.client.answer.LongTermClientValidation.TheVariants as Read
+use Rattle.stun_auth.specs.declared.server.reason.LongTermServerAuthErrorReason.TheVariants as Server
+use Rattle.stun_auth.specs.declared.server.reason.LongTermServerValidation.TheVariants as Served
 use Rattle.stun_auth.specs.Additions.{Page, added_all}
 use Rattle.stun_auth.specs.Client.{ClientSettings, ClientState}
 use Rattle.stun_auth.specs.ClientSigning.{client_additions}

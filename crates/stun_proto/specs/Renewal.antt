@@ -7,9 +7,9 @@ use Rattle.std.specs.declared.result.Result.TheVariants.{Ok, Err}
 use Rattle.stun_base.specs.Address.{same_address}
 use Rattle.stun_base.specs.Credentials.{NameAndPassword}
 use Rattle.stun_base.specs.Moments.{last_moment}
-use Rattle.stun_base.specs.declared.message_type.MessageClass.TheVariants.{Request}
-use Rattle.stun_auth.specs.declared.server_reason.LongTermServerAuthErrorReason.TheVariants.{StaleNonce}
-use Rattle.stun_auth.specs.declared.server_reason.LongTermServerValidation.TheVariants.{Validated}
+use Rattle.stun_base.specs.declared.wire.message_type.MessageClass.TheVariants.{Request}
+use Rattle.stun_auth.specs.declared.server.reason.LongTermServerAuthErrorReason.TheVariants.{StaleNonce}
+use Rattle.stun_auth.specs.declared.server.reason.LongTermServerValidation.TheVariants.{Validated}
 use Rattle.stun_auth.specs.Additions.{Page, added_all}
 use Rattle.stun_auth.specs.Client.{Challenge, ClientSettings, ClientState, authenticated}
 use Rattle.stun_auth.specs.ClientSigning.{client_additions}

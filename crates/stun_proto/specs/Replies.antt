@@ -3,13 +3,13 @@
 use Rattle.std.specs.Prelude.{ℕ, List, [], ◌∷◌, Bool, true, false, if◌then◌else◌, Option, None, Some}
 use Rattle.std.specs.Option.{option_map, option_map_or}
 use Rattle.std.specs.declared.net.socket_addr.SocketAddr.{SocketAddr}
-use Rattle.stun_base.specs.Credentials.{NameAndPassword}
-use Rattle.stun_base.specs.declared.error.StunParseError.{StunParseError}
+use Rattle.stun_base.specs.declared.wire.error.StunParseError.{StunParseError}
 use Rattle.stun_types.specs.Message.{refusal}
 use Rattle.stun_auth.specs.Forgetting.{place_kept}
 use Rattle.stun_auth.specs.Places.{with_client}
 use Rattle.stun_base.specs.MessageType.{is_response}
 use Rattle.stun_auth.specs.Reading.{Reading, reading_of}
+use Rattle.stun_auth.specs.Registered.{RegisteredUser}
 use Rattle.stun_auth.specs.Seen.{PlaceSeen}
 use Rattle.stun_auth.specs.Server.{Sight, named, standing}
 use Rattle.stun_auth.specs.Validation.{needs_nonce}
@@ -47,10 +47,10 @@ is_signed Done = false
 is_signed TooShort = false
 
 -- the place with the named user as its client, where the message was validated
-abbrev pub client_by_reply : PlaceSeen → Option NameAndPassword → Reply → PlaceSeen
+abbrev pub client_by_reply : PlaceSeen → Option RegisteredUser → Reply → PlaceSeen
 client_by_reply place who (NotAMessage error) = place
 client_by_reply place who (Validated algorithm) =
-    record place { client = Some (record { name = option_map_or (λ (user : NameAndPassword). user.username) who []; algorithm = algorithm }) }
+    record place { client = Some (record { name = option_map_or (λ (user : RegisteredUser). user.username) who []; algorithm = algorithm }) }
 client_by_reply place who (Refused reason) = place
 client_by_reply place who (Signed bytes) = place
 client_by_reply place who (SignRefused error) = place

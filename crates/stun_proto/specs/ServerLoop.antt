@@ -3,8 +3,8 @@
 use Rattle.std.specs.Prelude.{◌≡◌, ◌<◌, ℕ, List, [], ◌∷◌, length, Option, Some, None, Result, Ok, Err, string_bytes, if◌then◌else◌}
 use Rattle.std.specs.Duration.{as_nanos}
 use Rattle.stun_base.specs.Credentials.{NameAndPassword}
-use Rattle.stun_base.specs.declared.error.StunParseError.{StunParseError}
-use Rattle.stun_base.specs.declared.error.StunWriteError.{StunWriteError}
+use Rattle.stun_base.specs.declared.wire.error.StunParseError.{StunParseError}
+use Rattle.stun_base.specs.declared.wire.error.StunWriteError.{StunWriteError}
 use Rattle.stun_base.specs.MessageType.{class_in, is_response}
 use Rattle.stun_types.specs.Attribute.{TypedValue}
 use Rattle.stun_types.specs.Message.{refusal}

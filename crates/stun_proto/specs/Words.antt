@@ -29,14 +29,14 @@ pub use Rattle.stun_base.specs.Credentials.{NameAndPassword}
 pub use Rattle.stun_base.specs.Header.{HEADER_LENGTH, header_refusal, transaction_id_field}
 pub use Rattle.stun_base.specs.Keys.{long_term_key}
 pub use Rattle.stun_base.specs.MessageType.{class_in, is_response}
-pub use Rattle.stun_base.specs.declared.algorithm.IntegrityAlgorithm.{IntegrityAlgorithm}
-pub use Rattle.stun_base.specs.declared.message_type.MessageClass.TheVariants.{Request}
+pub use Rattle.stun_base.specs.declared.keys.algorithm.IntegrityAlgorithm.{IntegrityAlgorithm}
+pub use Rattle.stun_base.specs.declared.wire.message_type.MessageClass.TheVariants.{Request}
 pub use Rattle.stun_types.specs.Attribute.{TypedValue}
 pub use Rattle.stun_types.specs.Integrity.{deciding, integrity_algorithm}
 pub use Rattle.stun_types.specs.Limits.{TEXT_LIMIT, USERNAME_LIMIT}
 pub use Rattle.stun_types.specs.Message.{with_length}
 -- ---- server and client
-pub use Rattle.stun_auth.specs.declared.client_answer.LongTermClientAuthErrorReason.TheVariants.{UnsupportedFeature}
+pub use Rattle.stun_auth.specs.declared.client.answer.LongTermClientAuthErrorReason.TheVariants.{UnsupportedFeature}
 pub use Rattle.stun_auth.specs.Algorithms.{listed}
 pub use Rattle.stun_auth.specs.Client.{Challenge, ClientState, authenticated, initial}
 pub use Rattle.stun_auth.specs.Reading.{Reading, verified_under}

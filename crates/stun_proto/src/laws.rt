@@ -1,11 +1,11 @@
 //! Laws of runs: what holds of the definitions alone, and what equalities are.
-ghost use Rattle.std.specs.Prelude.{◌≡◌, ◌≤◌, ◌-◌, ◌↔◌, IsTrue, List, [], Ok, length, ℕ};
+ghost use Rattle.std.specs.Prelude.{◌≡◌, ◌≤◌, ◌-◌, List, [], Ok, length, ℕ};
 ghost use Rattle.std.specs.declared.net.socket_addr.SocketAddr.{SocketAddr as Address};
 ghost use Rattle.std.specs.Global.{Vec as TheVec};
 ghost use Rattle.stun_base.specs.Moments.{last_moment};
 ghost use Rattle.stun_base.specs.Words.{next_words};
-ghost use Rattle.stun_base.specs.declared.transport.TransportType.{TransportType as Transport};
-ghost use Rattle.stun_base.specs.declared.transport.TransportType.TheVariants.{Udp, Tcp};
+ghost use Rattle.stun_base.specs.declared.wire.transport.TransportType.{TransportType as Transport};
+ghost use Rattle.stun_base.specs.declared.wire.transport.TransportType.TheVariants.{Udp, Tcp};
 ghost use Rattle.stun_types.specs.Message.{IsMessage, LENGTH_LIMIT};
 ghost use Rattle.stun_types.specs.WriteVec.{Written};
 ghost use Rattle.stun_agent.specs.Agent.{Agent, new_agent};
@@ -21,9 +21,7 @@ ghost use Rattle.stun_proto.specs.AgentLoop.{LateLoopsAreBounded, LoopsAreDriven
 ghost use Rattle.stun_proto.specs.Appending.{AgreeingAreAnsweredAlike, ContinuedAreAnsweredAlike};
 ghost use Rattle.stun_proto.specs.Best.{BestIsStrongest};
 ghost use Rattle.stun_proto.specs.Examples.{binding_request, udp_steps, tcp_steps};
-ghost use Rattle.stun_proto.specs.CallValues.{value_of};
 ghost use Rattle.stun_proto.specs.Counters.{RunsCountSteps};
-ghost use Rattle.stun_proto.specs.EventValues.{event_value};
 ghost use Rattle.stun_proto.specs.Honest.{AgreesOn, ShortNamesAreSigned, StrongestIsAgreed};
 ghost use Rattle.stun_proto.specs.MeetingExample.{IsServed, a_meeting, a_server, a_user};
 ghost use Rattle.stun_proto.specs.MeetingLoop.{MeetingsAgree, MeetingsAreNegotiated};
@@ -34,18 +32,16 @@ ghost use Rattle.stun_proto.specs.Run.{IsDriven};
 ghost use Rattle.stun_proto.specs.RunLaws.{EventsHaveRuns, IsDetermined, IsDeterminedThroughout, KeepPlans, requester};
 ghost use Rattle.stun_proto.specs.Schedule.{AreInOrder, plan};
 ghost use Rattle.stun_proto.specs.ServerLoop.{BuiltAreWrittenSo, CallsAreServed, CallsAreValidated, IsMade, told};
-ghost use Rattle.stun_proto.specs.Serving.{reply_of, reply_of_answer, reply_of_signing};
+ghost use Rattle.stun_proto.specs.Serving.{reply_of_answer, reply_of_signing};
 ghost use Rattle.stun_proto.specs.Shards.{ShardsServeAsOne};
 ghost use Rattle.stun_proto.specs.Signing.{written_anew};
-ghost use Rattle.stun_proto.specs.Steps.{Step, step_of};
+ghost use Rattle.stun_proto.specs.Steps.{Step};
 ghost use Rattle.stun_proto.specs.Stopped.{StoppedRunsEnd, StoppedRunsGoOn, StoppedRunsHaveTheRest, StoppedRunsStopAgain};
 ghost use Rattle.stun_proto.specs.declared.replay.event.AgentEvent.{AgentEvent as TheEvent};
 
-use crate::replay::{
-    AgentEvent, AgentStep, NegotiateError, Outcome, ServerCall, ServerReply, Stopped,
-};
+use crate::replay::ServerCall;
 use rand_core::Rng;
-use std::alloc::{AllocError, Allocator};
+use std::alloc::Allocator;
 use std::net::SocketAddr;
 use stun_auth::auth::{LongTermServerAuth, LongTermServerAuthError, LongTermServerValidation};
 use stun_auth::laws as auth_laws;
@@ -290,64 +286,4 @@ pub fn nonce_is_renewed()
     auth_laws::signed_messages_are_read();
     auth_laws::built_messages_can_be_signed();
     auth_laws::sides_add_by_attribute();
-}
-
-/// What meetings come to is equal as values.
-pub fn is_same_outcome(one: Outcome, other: Outcome) -> bool
-    ensures { IsTrue result ↔ (one ≡ other) }
-{
-    one == other
-}
-
-/// Reasons why a meeting came to nothing are equal as values.
-pub fn is_same_negotiate_error(one: NegotiateError, other: NegotiateError) -> bool
-    ensures { IsTrue result ↔ (one ≡ other) }
-{
-    one == other
-}
-
-/// Replies are equal as values: errors, algorithms and reasons as they are, and signed messages by their bytes.
-pub fn is_same_reply<A: Allocator>(one: &ServerReply<A>, other: &ServerReply<A>) -> bool
-    ensures { IsTrue result ↔ (reply_of one.now ≡ reply_of other.now) }
-{
-    one == other
-}
-
-/// Calls are equal as values: messages by their bytes, names and passwords by theirs.
-pub fn is_same_call(one: &ServerCall, other: &ServerCall) -> bool
-    ensures { IsTrue result ↔ (value_of one.now ≡ value_of other.now) }
-{
-    one == other
-}
-
-/// Events are equal as values: bytes, addresses, ids and timeouts as they are.
-pub fn is_same_event(one: &AgentEvent, other: &AgentEvent) -> bool
-    ensures { IsTrue result ↔ (event_value one.now ≡ event_value other.now) }
-{
-    one == other
-}
-
-/// Stops of runs are equal where as many events or calls are complete.
-pub fn is_same_stop(one: Stopped, other: Stopped) -> bool
-    ensures { IsTrue result ↔ (one ≡ other) }
-{
-    one == other
-}
-
-/// Copies of outcomes, of errors and of stops are the same values.
-pub fn copied_outcomes(
-    outcome: &Outcome,
-    error: &NegotiateError,
-    stopped: &Stopped,
-) -> Result<(Outcome, NegotiateError, Stopped), AllocError>
-    ensures { result ≡ Ok (outcome.now, error.now, stopped.now) }
-{
-    Ok((outcome.clone()?, error.clone()?, stopped.clone()?))
-}
-
-/// Steps of an agent are equal where moments, ids, addresses, bytes and answers are.
-pub fn is_same_step<A: Allocator>(one: &AgentStep<A>, other: &AgentStep<A>) -> bool
-    ensures { IsTrue result ↔ (step_of one.now ≡ step_of other.now) }
-{
-    one == other
 }

@@ -52,6 +52,7 @@
 //! | `Instant` | a moment, in nanoseconds since a start of the caller's |
 #![tactic(auto)]
 
+pub mod derives;
 pub mod laws;
 pub mod prelude;
 pub mod replay;

@@ -8,8 +8,8 @@ use Rattle.stun_agent.specs.declared.error.StunError.{StunError}
 use Rattle.stun_agent.specs.declared.error.StunError.TheVariants as Error
 use Rattle.stun_base.specs.Header.{header_refusal, transaction_id_field}
 use Rattle.stun_base.specs.MessageType.{class_in, is_request}
-use Rattle.stun_base.specs.declared.error.StunParseError.{StunParseError}
-use Rattle.stun_base.specs.declared.error.StunParseError.TheVariants as Parse
+use Rattle.stun_base.specs.declared.wire.error.StunParseError.{StunParseError}
+use Rattle.stun_base.specs.declared.wire.error.StunParseError.TheVariants as Parse
 use Rattle.stun_state.specs.Agent.{done_unless, refusal_of_agent}
 use Rattle.stun_state.specs.Answers.{ForRefusal, at_address, message_refusal, unless_refused}
 use Rattle.stun_state.specs.Codes.{refusal_of_parse}

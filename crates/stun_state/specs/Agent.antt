@@ -13,8 +13,8 @@ use Rattle.stun_agent.specs.declared.agent.StunAgentPollRet.{StunAgentPollRet}
 use Rattle.stun_agent.specs.declared.agent.StunAgentPollRet.TheVariants.{TransactionTimedOut, TransactionCancelled, WaitUntil}
 use Rattle.stun_agent.specs.declared.error.StunError.{StunError}
 use Rattle.stun_agent.specs.declared.error.StunError.TheVariants as Error
-use Rattle.stun_base.specs.declared.transport.TransportType.{TransportType}
-use Rattle.stun_base.specs.declared.transport.TransportType.TheVariants.{Udp, Tcp}
+use Rattle.stun_base.specs.declared.wire.transport.TransportType.{TransportType}
+use Rattle.stun_base.specs.declared.wire.transport.TransportType.TheVariants.{Udp, Tcp}
 use Rattle.stun_types.specs.Message.{refusal}
 use Rattle.stun_state.specs.Addresses.{address_of, socket_address}
 use Rattle.stun_state.specs.Answers.{after_address, kept_if_refused, message_refusal, unless_refused}

@@ -1,19 +1,22 @@
 -- A verdict in two steps: whom a message names, and what the server answers that has just the user
 -- whom its caller hands in (RFC 8489, section 9.2.4).
-use Rattle.std.specs.Prelude.{ℕ, ℤ, List, length, Option, Some, None, Result, Ok, Err}
+use Rattle.std.specs.Prelude.{ℕ, ℤ, ◌==◌, if◌then◌else◌, List, length, Option, Some, None, Result, Ok, Err}
 use Rattle.std.specs.declared.net.socket_addr.SocketAddr.{SocketAddr}
-use Rattle.stun_base.specs.declared.algorithm.IntegrityAlgorithm.{IntegrityAlgorithm}
+use Rattle.stun_base.specs.declared.keys.algorithm.IntegrityAlgorithm.{IntegrityAlgorithm}
 use Rattle.stun_types.specs.Message.{refusal}
 use Rattle.stun_auth.specs.Handed.{Named, by_hash, by_name, judged_by, just, with_users}
 use Rattle.stun_auth.specs.Reading.{reading_of}
+use Rattle.stun_auth.specs.Registered.{Registered, RegisteredUser, user_by_keys, user_by_password}
+use Rattle.stun_auth.specs.declared.server.stored_keys.StoredKeys.{StoredKeys}
 use Rattle.stun_auth.specs.Validation.{ServerSeen, after_message, answer, sight}
 use Rattle.stun_state.specs.Addresses.{socket_address}
-use Rattle.stun_state.specs.Answers.{after_address, at_address, kept_if_refused, message_refusal, texts_refusal, unless_refused}
+use Rattle.stun_state.specs.Answers.{after_address, at_address, kept_if_refused, message_refusal, text_refusal, texts_refusal, unless_refused}
 use Rattle.stun_state.specs.Numbers.{algorithm_answer}
 use Rattle.stun_state.specs.Server.{room_refusal, validation_answer}
 use Rattle.stun_state.specs.Signing.{buffer_after, fitted, kept_after_signing, signed_for}
 use Rattle.stun_state.specs.declared.address.Address.{Address}
 use Rattle.stun_state.specs.declared.codes.Refusal.{Refusal}
+use Rattle.stun_state.specs.declared.codes.Refusal.TheVariants.{BadArgument}
 use Rattle.stun_state.specs.declared.handle.server.Server.{Server as Kept}
 
 -- ---- who asks
@@ -62,63 +65,102 @@ abbrev pub naming_length : Option Named → ℕ → ℕ
 naming_length None before = before
 naming_length (Some named) before = length (naming_bytes named)
 
+-- ---- the user whom a caller hands in
+
+-- the user of a name who is known by a password. Both are texts, or are refused
+abbrev pub user_of_password : List ℕ → List ℕ → Result RegisteredUser Refusal
+user_of_password name password =
+    unless_refused (texts_refusal name password)
+    (Ok (user_by_password (record { username = name; password = password })))
+
+-- a stored key of so many bytes as a caller gives it: none where it has no bytes, and refused where
+-- it has another length
+abbrev pub key_given : ℕ → List ℕ → Result (Option (List ℕ)) Refusal
+key_given size key =
+    if length key == 0 then Ok None
+    else if length key == size then Ok (Some key) else Err BadArgument
+
+-- both, or the first refusal
+abbrev pub keys_given : Result (Option (List ℕ)) Refusal → Result (Option (List ℕ)) Refusal
+    → Result StoredKeys Refusal
+keys_given (Err refusal) sha256 = Err refusal
+keys_given (Ok sha1) (Err refusal) = Err refusal
+keys_given (Ok sha1) (Ok sha256) = Ok (record { sha1 = sha1; sha256 = sha256 })
+
+-- the user of a name who is known by stored keys
+abbrev pub user_known : List ℕ → Result StoredKeys Refusal → Result RegisteredUser Refusal
+user_known name (Ok keys) = Ok (user_by_keys name keys)
+user_known name (Err refusal) = Err refusal
+
+-- the same as a caller gives them: the name, which is a text, the key for HMAC-SHA1 of 16 bytes
+-- (RFC 8489, section 9.2.2), and that for HMAC-SHA256 of 32 (section 18.5.1)
+abbrev pub user_of_keys : List ℕ → List ℕ → List ℕ → Result RegisteredUser Refusal
+user_of_keys name sha1 sha256 =
+    unless_refused (text_refusal name)
+    (user_known name (keys_given (key_given 16 sha1) (key_given 32 sha256)))
+
+-- the users of a server that has just this user
+abbrev pub just_given : Registered → Result RegisteredUser Refusal → Result Registered Refusal
+just_given users (Ok user) = Ok (just users (Some user))
+just_given users (Err refusal) = Err refusal
+
+-- what is answered with these users, and what is left; a refusal is answered, and leaves what was
+-- there
+abbrev pub with_given : {V : Type 0} → Result Registered Refusal → (Registered → Result V Refusal)
+    → Result V Refusal
+with_given (Ok users) answer = answer users
+with_given (Err refusal) answer = Err refusal
+
+abbrev pub left_with : {V : Type 0} → Result Registered Refusal → V → (Registered → V) → V
+left_with (Ok users) before after = after users
+left_with (Err refusal) before after = before
+
 -- ---- the verdict with a user
 
--- the server that has just this user
-abbrev pub handed : ServerSeen → List ℕ → List ℕ → ServerSeen
-handed s name password =
-    with_users s (just s.registered (Some (record { username = name; password = password })))
-
--- the first reason of two
-abbrev pub refused_first : Option Refusal → Option Refusal → Option Refusal
-refused_first None second = second
-refused_first (Some first) second = Some first
-
--- why bytes from an address get no verdict: they are no message, come from one too many, or the
--- user's texts are none
-abbrev pub handing_refusal : Kept → List ℕ → List ℕ → List ℕ → SocketAddr → Option Refusal
-handing_refusal k bytes name password from =
-    refused_first (message_refusal (refusal bytes))
-    (refused_first (room_refusal k.server k.most_addresses from) (texts_refusal name password))
-
--- what is answered to them
-abbrev pub validated_of : Kept → List ℕ → ℕ → List ℕ → List ℕ → List ℕ → SocketAddr
+-- what is answered to bytes from an address. They are refused first where they are no message, then
+-- where they come from one address too many, and then where the user is refused
+abbrev pub validated_of : Kept → List ℕ → ℕ → List ℕ → Result RegisteredUser Refusal → SocketAddr
     → Result IntegrityAlgorithm Refusal
-validated_of k bytes now words name password from =
-    unless_refused (handing_refusal k bytes name password from)
-    (validation_answer
-    (answer (sight (handed k.server name password) from) now words (reading_of bytes)))
+validated_of k bytes now words user from =
+    unless_refused (message_refusal (refusal bytes))
+    (unless_refused (room_refusal k.server k.most_addresses from)
+    (with_given (just_given k.server.registered user) (λ users. validation_answer
+    (answer (sight (with_users k.server users) from) now words (reading_of bytes)))))
 
 -- the server that they leave, with its own users
-abbrev pub after_validating_of : Kept → List ℕ → ℕ → List ℕ → List ℕ → List ℕ → SocketAddr
-    → ServerSeen
-after_validating_of k bytes now words name password from =
-    kept_if_refused (handing_refusal k bytes name password from) k.server
-    (with_users (after_message (handed k.server name password) from now words (reading_of bytes))
-    k.server.registered)
+abbrev pub after_validating_of : Kept → List ℕ → ℕ → List ℕ → Result RegisteredUser Refusal
+    → SocketAddr → ServerSeen
+after_validating_of k bytes now words user from =
+    kept_if_refused (message_refusal (refusal bytes)) k.server
+    (kept_if_refused (room_refusal k.server k.most_addresses from) k.server
+    (left_with (just_given k.server.registered user) k.server (λ users. with_users
+    (after_message (with_users k.server users) from now words (reading_of bytes))
+    k.server.registered)))
 
 -- the number that a caller gets, and the server that is kept then
-abbrev pub validation_number_of : Kept → List ℕ → Address → ℕ → List ℕ → List ℕ → List ℕ → ℤ
-validation_number_of k bytes from now words name password =
-    algorithm_answer
-    (at_address (socket_address from) (validated_of k bytes now words name password))
+abbrev pub validation_number_of : Kept → List ℕ → Address → ℕ → List ℕ
+    → Result RegisteredUser Refusal → ℤ
+validation_number_of k bytes from now words user =
+    algorithm_answer (at_address (socket_address from) (validated_of k bytes now words user))
 
-abbrev pub kept_after_validating_of : Kept → List ℕ → Address → ℕ → List ℕ → List ℕ → List ℕ
-    → ServerSeen
-kept_after_validating_of k bytes from now words name password =
-    after_address (socket_address from) k.server
-    (after_validating_of k bytes now words name password)
+abbrev pub kept_after_validating_of : Kept → List ℕ → Address → ℕ → List ℕ
+    → Result RegisteredUser Refusal → ServerSeen
+kept_after_validating_of k bytes from now words user =
+    after_address (socket_address from) k.server (after_validating_of k bytes now words user)
 
 -- ---- signing with a user
 
--- a message in the first bytes of a buffer, signed by the server that has just this user: texts
--- that are none are refused before
-abbrev pub signed_of : ServerSeen → List ℕ → ℕ → Address → List ℕ → List ℕ → Result (List ℕ) Refusal
-signed_of s buffer count to name password =
-    unless_refused (texts_refusal name password)
-    (signed_for (handed s name password) buffer count to)
+-- a message in the first bytes of a buffer, signed by the server that has just this user: where the
+-- user is refused, that comes first
+abbrev pub signed_of : ServerSeen → List ℕ → ℕ → Address → Result RegisteredUser Refusal
+    → Result (List ℕ) Refusal
+signed_of s buffer count to user =
+    with_given (just_given s.registered user)
+    (λ users. signed_for (with_users s users) buffer count to)
 
 -- the server that is kept then, with its own users
-abbrev pub kept_after_signing_of : ServerSeen → List ℕ → ℕ → Address → List ℕ → List ℕ → ServerSeen
-kept_after_signing_of s buffer count to name password =
-    with_users (kept_after_signing (handed s name password) buffer count to) s.registered
+abbrev pub kept_after_signing_of : ServerSeen → List ℕ → ℕ → Address
+    → Result RegisteredUser Refusal → ServerSeen
+kept_after_signing_of s buffer count to user =
+    left_with (just_given s.registered user) s
+    (λ users. with_users (kept_after_signing (with_users s users) buffer count to) s.registered)

@@ -3,11 +3,11 @@ use Rattle.std.specs.Prelude.{ℕ, ℤ, List, ◌++◌, length, drop, max, nat_l
 use Rattle.std.specs.FinMap as map
 use Rattle.std.specs.Option.{option_map}
 use Rattle.std.specs.declared.net.socket_addr.SocketAddr.{SocketAddr}
-use Rattle.stun_base.specs.declared.algorithm.IntegrityAlgorithm.{IntegrityAlgorithm}
+use Rattle.stun_base.specs.declared.keys.algorithm.IntegrityAlgorithm.{IntegrityAlgorithm}
 use Rattle.stun_types.specs.Message.{refusal}
 use Rattle.stun_auth.specs.declared.algorithm_set.AlgorithmSet.{AlgorithmSet}
 use Rattle.stun_auth.specs.declared.feature.Feature.{Feature}
-use Rattle.stun_auth.specs.declared.server_reason.LongTermServerValidation.TheVariants.{Validated}
+use Rattle.stun_auth.specs.declared.server.reason.LongTermServerValidation.TheVariants.{Validated}
 use Rattle.stun_auth.specs.ForgettingSteps.{next_address}
 use Rattle.stun_auth.specs.Nonces.{MINIMUM_EXPIRY}
 use Rattle.stun_auth.specs.Places.{with_change, with_client}

@@ -3,5 +3,6 @@
 pub mod Handle
 -- how much of its memory a message has taken
 pub mod Desk
+pub mod Given
 -- what is known of a message that is to be signed
 pub mod Measured

@@ -4,7 +4,6 @@
 ghost use Rattle.std.specs.Prelude.{◌≡◌, ◌≤◌, ◌+◌, ◌-◌, ◌^◌, ◌<◌, ⊤, nat_lt, true, false, length, take, Some, None, Ok, Err, IfOk, IfErr, OnErr, OnOk};
 ghost use Rattle.stun_auth.specs.Additions.{WantsMemory, page_of};
 ghost use Rattle.stun_auth.specs.Handed.{just, with_users};
-ghost use Rattle.stun_auth.specs.Registered.{Registered};
 ghost use Rattle.stun_auth.specs.ServerSigning.{after_signing, server_additions, server_growth, server_signed};
 ghost use Rattle.stun_auth.specs.Reading.{reading_of};
 ghost use Rattle.stun_auth.specs.Validation.{after_message, answer, sight};
@@ -12,8 +11,9 @@ ghost use Rattle.stun_base.specs.Header.{BeginsWithHeader};
 ghost use Rattle.stun_base.specs.MessageType.{class_in, is_response};
 ghost use Rattle.stun_types.specs.Limits.{LENGTH_LIMIT as length_limit};
 ghost use Rattle.stun_state.specs.Addresses.{socket_address};
-ghost use Rattle.stun_state.specs.Answers.{OrMemory, after_address, at_address, texts_refusal};
-ghost use Rattle.stun_state.specs.Handed.{handed, kept_after_signing_of, kept_after_validating_of, named_by, naming_answer, naming_length, naming_written, signed_of, validated_of};
+ghost use Rattle.stun_state.specs.Answers.{OrMemory, after_address, at_address};
+ghost use Rattle.stun_state.specs.Handed.{just_given, key_given, kept_after_signing_of, kept_after_validating_of, keys_given, named_by, naming_answer, naming_length, naming_written, signed_of, validated_of};
+ghost use Rattle.stun_state.specs.code.Given.{user_given};
 ghost use Rattle.stun_state.specs.Server.{validation_answer};
 ghost use Rattle.stun_state.specs.Signing.{buffer_after, is_too_long, length_of, message_of, server_signs, signed_by_server};
 ghost use Rattle.stun_state.specs.code.Measured.{IsMeasured};
@@ -26,7 +26,7 @@ use crate::signing::{SHORT, base_message, fill, put, writer_of};
 use crate::text::{copied, text};
 use std::alloc::Global;
 use std::net::SocketAddr;
-use stun_auth::auth::{LongTermServerAuth, LongTermServerUser, NamedUser};
+use stun_auth::auth::{LongTermServerAuth, LongTermServerUser, NamedUser, StoredKeys};
 use stun_base::algorithm::IntegrityAlgorithm;
 use stun_base::credentials::LongTermCredentials;
 use stun_base::instant::Instant;
@@ -34,6 +34,16 @@ use stun_base::words::WordSource;
 use stun_types::limits::LENGTH_LIMIT;
 use stun_types::message::Message;
 use stun_types::prelude::*;
+
+/// What a caller gives of a user beside the name.
+#[derive(Clone, Copy)]
+pub(crate) enum Given<'a> {
+    /// The password.
+    Password(&'a [u8]),
+    /// The stored keys for HMAC-SHA1, of 16 bytes, and for HMAC-SHA256, of 32. A key that is not
+    /// stored has no bytes.
+    Keys(&'a [u8], &'a [u8]),
+}
 
 /// By whose key a message from an address is judged: 1 by a name, 2 by its hash, which is at the
 /// front of the buffer then, or 0 where nobody is meant; and how long it is, also where the buffer
@@ -69,28 +79,60 @@ pub fn named_user(
     }
 }
 
-/// The user of a name and a password, with keys for the server.
+/// A key as a caller gives it: none where it has no bytes, or `BadArgument` where it has not the
+/// length of one.
+fn key_of<const N: usize>(bytes: &[u8]) -> Result<Option<[u8; N]>, Refusal>
+    ensures { result ≡ key_given N bytes.now }
+{
+    if bytes.is_empty() {
+        return Ok(None);
+    }
+    if bytes.len() != N {
+        return Err(Refusal::BadArgument);
+    }
+    let mut key = [0; N];
+    key.copy_from_slice(bytes);
+    Ok(Some(key))
+}
+
+/// The stored keys that a caller gives.
+fn keys_of(sha1: &[u8], sha256: &[u8]) -> Result<StoredKeys, Refusal>
+    ensures { result ≡ keys_given (key_given 16 sha1.now) (key_given 32 sha256.now) }
+{
+    let sha1 = key_of(sha1)?;
+    let sha256 = key_of(sha256)?;
+    Ok(StoredKeys { sha1, sha256 })
+}
+
+/// The user of a name who is known by what a caller gives, with keys for the server.
 fn prepared(
     alloc: Global,
     server: &LongTermServerAuth<Global>,
     name: &[u8],
-    password: &[u8],
+    given: Given<'_>,
 ) -> Result<LongTermServerUser<Global>, Refusal>
-    ensures ok { IfOk result (λ user. user ≡ just server.now.registered
-        (Some (record { username = name.now; password = password.now }))) }
-    ensures accepted { OnOk result (texts_refusal name.now password.now ≡ None) }
+    ensures ok { IfOk result (λ user. just_given server.now.registered (user_given name.now given.entry)
+        ≡ Ok user) }
     ensures err { IfErr result (λ refusal. OrMemory result
-        (texts_refusal name.now password.now ≡ Some refusal)
-        (texts_refusal name.now password.now ≡ None)) }
+        (just_given server.now.registered (user_given name.now given.entry) ≡ Err refusal) ⊤) }
 {
     let name = text(name)?;
-    let password = text(password)?;
-    let credentials = LongTermCredentials::new(copied(alloc, name)?, copied(alloc, password)?);
-    Ok(server.prepare_user(credentials)?)
+    match given {
+        Given::Password(password) => {
+            let password = text(password)?;
+            let name = copied(alloc, name)?;
+            let credentials = LongTermCredentials::new(name, copied(alloc, password)?);
+            Ok(server.prepare_user(credentials)?)
+        }
+        Given::Keys(sha1, sha256) => {
+            let keys = keys_of(sha1, sha256)?;
+            Ok(server.prepare_user_with_keys(copied(alloc, name)?, keys)?)
+        }
+    }
 }
 
-/// Who signed a message, where the server has just the user of a name and a password.
-pub fn validate(
+/// Who signed a message, where the server has just the user of a name.
+pub(crate) fn validate(
     alloc: Global,
     kept: &mut Server,
     message: &[u8],
@@ -98,22 +140,22 @@ pub fn validate(
     now: u64,
     words: &[u32; 16],
     name: &[u8],
-    password: &[u8],
+    given: Given<'_>,
 ) -> Result<IntegrityAlgorithm, Refusal>
     ensures answer { OrMemory result
         (result ≡ at_address (socket_address from.now)
-        (validated_of kept.old message.now now words.now name.now password.now)) ⊤ }
+        (validated_of kept.old message.now now words.now (user_given name.now given.entry))) ⊤ }
     ensures state { OrMemory result
         (kept.new ≡ record kept.old {
           server = kept_after_validating_of kept.old message.now from.now now words.now
-              name.now password.now;
+              (user_given name.now given.entry);
         })
         (kept.new ≡ kept.old) }
 {
     let from = from.socket()?;
     let message = Message::from_bytes(message)?;
     check_room(&kept.server, kept.most_addresses, from)?;
-    let mut user = prepared(alloc, &kept.server, name, password)?;
+    let mut user = prepared(alloc, &kept.server, name, given)?;
     let moment = Instant::from_nanos(now);
     validate_message(&mut kept.server, &message, from, moment, *words, &mut user)
 }
@@ -143,26 +185,26 @@ fn validate_message(
 }
 
 /// Signs the message in the first `length` bytes of a buffer, which goes to an address, where the
-/// server has just the user of a name and a password. A refusal leaves the buffer.
-pub fn sign(
+/// server has just the user of a name. A refusal leaves the buffer.
+pub(crate) fn sign(
     alloc: Global,
     server: &mut LongTermServerAuth<Global>,
     buffer: &mut [u8],
     length: usize,
     to: &Address,
     name: &[u8],
-    password: &[u8],
+    given: Given<'_>,
 ) -> Result<usize, Refusal>
     ensures answer { OrMemory result (result ≡ length_of
-        (signed_of server.old buffer.old length to.now name.now password.now)) ⊤ }
+        (signed_of server.old buffer.old length to.now (user_given name.now given.entry))) ⊤ }
     ensures written { OrMemory result (buffer.new ≡ buffer_after
-        (signed_of server.old buffer.old length to.now name.now password.now) buffer.old)
+        (signed_of server.old buffer.old length to.now (user_given name.now given.entry)) buffer.old)
         (buffer.new ≡ buffer.old) }
     ensures state { OnOk result (server.new ≡ kept_after_signing_of server.old buffer.old length
-        to.now name.now password.now) }
+        to.now (user_given name.now given.entry)) }
     ensures refused { OnErr result (server.new ≡ server.old) }
 {
-    let mut user = prepared(alloc, server, name, password)?;
+    let mut user = prepared(alloc, server, name, given)?;
     sign_with(server, buffer, length, to, &mut user)
 }
 

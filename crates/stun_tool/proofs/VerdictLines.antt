@@ -3,9 +3,9 @@ use Rattle.std.proofs.Common.{◌≡◌, ℕ, ◌+◌, ◌<◌, lit<, List, leng
 use Rattle.std.proofs.KnownBytes.{Appends-nil}
 use Rattle.std.specs.Prelude.{Contains, nat_lt, ◌==◌, if◌then◌else◌}
 use Rattle.stun_base.specs.Header.{HEADER_LENGTH, is_stun, length_field}
-use Rattle.stun_base.specs.declared.error.StunParseError.TheVariants.{Truncated, NotStun, TooLarge, MissingAttribute, InvalidAttributeData}
-use Rattle.stun_base.specs.declared.algorithm.IntegrityAlgorithm.{IntegrityAlgorithm}
-use Rattle.stun_base.specs.declared.algorithm.IntegrityAlgorithm.TheVariants.{Sha1, Sha256}
+use Rattle.stun_base.specs.declared.wire.error.StunParseError.TheVariants.{Truncated, NotStun, TooLarge, MissingAttribute, InvalidAttributeData}
+use Rattle.stun_base.specs.declared.keys.algorithm.IntegrityAlgorithm.{IntegrityAlgorithm}
+use Rattle.stun_base.specs.declared.keys.algorithm.IntegrityAlgorithm.TheVariants.{Sha1, Sha256}
 use Rattle.stun_types.specs.Integrity.{refusal_of, is_well_formed, verified_algorithm, integrity_refusal, deciding}
 use Rattle.stun_types.specs.Message.{first_refusal}
 use Rattle.stun_types.specs.Walk.{Member, taken, walk}

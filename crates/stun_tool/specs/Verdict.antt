@@ -1,7 +1,7 @@
 -- What `check` says of an input, and how it says it.
 use Rattle.std.specs.Prelude.{ℕ, List, [], ◌∷◌, ◌++◌, codes, Option, Some, None}
-use Rattle.stun_base.specs.declared.error.StunParseError.TheVariants.{Truncated, NotStun, TooLarge}
-use Rattle.stun_base.specs.declared.algorithm.IntegrityAlgorithm.TheVariants.{Sha1, Sha256}
+use Rattle.stun_base.specs.declared.wire.error.StunParseError.TheVariants.{Truncated, NotStun, TooLarge}
+use Rattle.stun_base.specs.declared.keys.algorithm.IntegrityAlgorithm.TheVariants.{Sha1, Sha256}
 use Rattle.stun_cli.specs.declared.verdict.Verdict.{Verdict}
 use Rattle.stun_cli.specs.declared.verdict.Verdict.TheVariants.{Valid, OtherDigest, NoIntegrity, MalformedIntegrity, NotAMessage, BadInput}
 use Rattle.stun_cli.specs.Verdict.{verdict_of, refusal_line}

@@ -1,18 +1,28 @@
--- The entries of password algorithms: how many there are, which one is at an index, and the steps of reading and writing.
-use Rattle.std.proofs.Common.{◌≡◌, ℕ, zero, suc, ◌+◌, ◌*◌, ◌<◌, ◌≤◌, List, [], ◌∷◌, ◌++◌, length, take, drop, get_or, true, false, ◌&&◌, refl, ap, sym, ◌∙◌, arith}
+-- The entries of password algorithms: how many there are, which one is at an index, and the steps
+-- of reading and writing.
+use Rattle.std.proofs.Common.{◌≡◌, ℕ, zero, suc, ◌+◌, ◌*◌, ◌<◌, ◌≤◌, List, [], ◌∷◌, ◌++◌, length}
+use Rattle.std.proofs.Common.{take, drop, get_or, true, false, ◌&&◌, refl, ap, sym, ◌∙◌, arith}
 use Rattle.std.specs.Prelude.{Option, Some, None, ◌^◌, ◌==◌, if◌then◌else◌}
 use Rattle.std.specs.Option.{is_some, unwrap_or}
 use Rattle.std.specs.List.{slice_get}
 use Rattle.std.proofs.lemmas.List.{drop-drop, take_more, flat_map_more}
 use Rattle.std.proofs.lemmas.Bool.Decides.{nat_tests}
 use Rattle.std.proofs.lemmas.Option.{get_or_from_slice_get, slice_get_within}
-use Rattle.stun_types.specs.declared.attribute.password_algorithm.PasswordAlgorithmValue.{PasswordAlgorithmValue}
-use Rattle.stun_types.specs.declared.attribute.password_algorithm.PasswordAlgorithmValue.TheVariants.{MD5, SHA256}
-use Rattle.stun_types.specs.PasswordAlgorithms.{algorithm_number, numbered, spelled_entry, spelled_entries, entries, entry_at_front, in_front_of}
+use Rattle.stun_types.specs.declared.attribute.password_algorithm.PasswordAlgorithmValue.{
+  PasswordAlgorithmValue,
+}
+use Rattle.stun_types.specs.declared.attribute.password_algorithm.PasswordAlgorithmValue.TheVariants.{
+  MD5,
+  SHA256,
+}
+use Rattle.stun_types.specs.PasswordAlgorithms.{number_of_algorithm, algorithm_of_number}
+use Rattle.stun_types.specs.PasswordAlgorithms.{spelled_entry, spelled_entries}
+use Rattle.stun_types.specs.PasswordAlgorithms.{entries, entry_at_front, in_front_of}
 use Rattle.stun_types.specs.code.PasswordAlgorithms.{entry_list, are_entries}
 
 -- each algorithm takes four bytes
-pub length_of_entries : (list : List PasswordAlgorithmValue) → length (spelled_entries list) ≡ 4 * length list
+pub length_of_entries : (list : List PasswordAlgorithmValue)
+    → length (spelled_entries list) ≡ 4 * length list
 length_of_entries [] = refl
 length_of_entries (MD5 ∷ list) = omega (arith, length_of_entries list)
 length_of_entries (SHA256 ∷ list) = omega (arith, length_of_entries list)
@@ -23,14 +33,17 @@ length_of_entry MD5 = refl
 length_of_entry SHA256 = refl
 
 -- within the list there is an algorithm
-pub not_past : (list : List PasswordAlgorithmValue) (i : ℕ) → i < length list → slice_get list i ≡ None → ⊥
+pub not_past : (list : List PasswordAlgorithmValue) (i : ℕ) → i < length list
+    → slice_get list i ≡ None → ⊥
 not_past [] i within past = omega arith
 not_past (x ∷ list) zero within past = cc
 not_past (x ∷ list) (suc i) within past = not_past list i (omega arith) past
 
 -- one entry more, after a front
-pub entries_more : (front : List ℕ) (list : List PasswordAlgorithmValue) (i : ℕ) (algorithm : PasswordAlgorithmValue) → slice_get list i ≡ Some algorithm
-    → front ++ spelled_entries (take (i + 1) list) ≡ (front ++ spelled_entries (take i list)) ++ spelled_entry algorithm
+pub entries_more : (front : List ℕ) (list : List PasswordAlgorithmValue) (i : ℕ)
+    (algorithm : PasswordAlgorithmValue) → slice_get list i ≡ Some algorithm
+    → front ++ spelled_entries (take (i + 1) list)
+    ≡ (front ++ spelled_entries (take i list)) ++ spelled_entry algorithm
 entries_more front list i algorithm at =
     let below : i < length list = slice_get_within list i algorithm at in
     rw (take_more list i algorithm below, get_or_from_slice_get list i algorithm algorithm at)
@@ -44,25 +57,30 @@ same_list [] (y ∷ other) lengths same = absurd (omega arith)
 same_list (x ∷ one) [] lengths same = absurd (omega arith)
 same_list (x ∷ one) (y ∷ other) lengths same =
     let first : Some x ≡ Some y = same 0 (omega arith) in
-    let others : one ≡ other = same_list one other (omega arith) (λ k below. same (suc k) (omega arith)) in
+    let others : one ≡ other =
+    same_list one other (omega arith) (λ k below. same (suc k) (omega arith)) in
     cc
 
 -- the parts of a list that was put together of a first algorithm and others
-record Parts (others : Option (List PasswordAlgorithmValue)) (first : Option PasswordAlgorithmValue) (list : List PasswordAlgorithmValue) : Type 0 where
+record Parts (others : Option (List PasswordAlgorithmValue)) (first : Option PasswordAlgorithmValue)
+    (list : List PasswordAlgorithmValue) : Type 0 where
   pub head : PasswordAlgorithmValue
   pub tail : List PasswordAlgorithmValue
   pub others_are : others ≡ Some tail
   pub first_is : first ≡ Some head
   pub list_is : list ≡ head ∷ tail
 
-parts : (others : Option (List PasswordAlgorithmValue)) (first : Option PasswordAlgorithmValue) (list : List PasswordAlgorithmValue)
+parts : (others : Option (List PasswordAlgorithmValue)) (first : Option PasswordAlgorithmValue)
+    (list : List PasswordAlgorithmValue)
     → in_front_of others first ≡ Some list → Parts others first list
 parts None first list whole = absurd (cc)
 parts (Some tail) None list whole = absurd (cc)
-parts (Some tail) (Some head) list whole = record { head = head; tail = tail; others_are = refl; first_is = refl; list_is = cc }
+parts (Some tail) (Some head) list whole =
+    record { head = head; tail = tail; others_are = refl; first_is = refl; list_is = cc }
 
 -- as many entries as algorithms
-pub entries-length : (bytes : List ℕ) (list : List PasswordAlgorithmValue) → entries bytes ≡ Some list → length bytes ≡ 4 * length list
+pub entries-length : (bytes : List ℕ) (list : List PasswordAlgorithmValue)
+    → entries bytes ≡ Some list → length bytes ≡ 4 * length list
 entries-length [] [] read = refl
 entries-length [] (x ∷ list) read = absurd (cc)
 entries-length (a ∷ []) list read = absurd (cc)
@@ -75,7 +93,8 @@ entries-length (a ∷ b ∷ c ∷ d ∷ rest) list read =
     omega arith
 
 -- the algorithm at an index is that of the entry there
-pub entries-get : (bytes : List ℕ) (list : List PasswordAlgorithmValue) (i : ℕ) → entries bytes ≡ Some list → i < length list
+pub entries-get : (bytes : List ℕ) (list : List PasswordAlgorithmValue) (i : ℕ)
+    → entries bytes ≡ Some list → i < length list
     → slice_get list i ≡ entry_at_front (drop (4 * i) bytes)
 entries-get [] [] i read within = absurd (omega arith)
 entries-get [] (x ∷ list) i read within = absurd (cc)
@@ -88,13 +107,17 @@ entries-get (a ∷ b ∷ c ∷ d ∷ rest) list zero read within =
 entries-get (a ∷ b ∷ c ∷ d ∷ rest) list (suc i) read within =
     let p = parts (entries rest) (entry_at_front (a ∷ b ∷ c ∷ d ∷ [])) list read in
     let longer : length list ≡ length (p.head ∷ p.tail) = ap length p.list_is in
-    let later : slice_get p.tail i ≡ entry_at_front (drop (4 * i) rest) = entries-get rest p.tail i p.others_are (omega arith) in
-    let skipped : drop (4 * i) rest ≡ drop (4 + 4 * i) (a ∷ b ∷ c ∷ d ∷ rest) = drop-drop (4 * i) 4 (a ∷ b ∷ c ∷ d ∷ rest) in
+    let later : slice_get p.tail i ≡ entry_at_front (drop (4 * i) rest) =
+    entries-get rest p.tail i p.others_are (omega arith) in
+    let skipped : drop (4 * i) rest ≡ drop (4 + 4 * i) (a ∷ b ∷ c ∷ d ∷ rest) =
+    drop-drop (4 * i) 4 (a ∷ b ∷ c ∷ d ∷ rest) in
     let place : 4 + 4 * i ≡ 4 * suc i = omega arith in
-    rw p.list_is (later ∙ ap entry_at_front (skipped ∙ ap (λ n. drop n (a ∷ b ∷ c ∷ d ∷ rest)) place))
+    rw p.list_is
+    (later ∙ ap entry_at_front (skipped ∙ ap (λ n. drop n (a ∷ b ∷ c ∷ d ∷ rest)) place))
 
 -- what is there is the value, whatever stands in for nothing
-there : (list : Option (List PasswordAlgorithmValue)) → is_some list ≡ true → list ≡ Some (unwrap_or list [])
+there : (list : Option (List PasswordAlgorithmValue)) → is_some list ≡ true
+    → list ≡ Some (unwrap_or list [])
 there None some = absurd (cc)
 there (Some list) some = refl
 
@@ -107,19 +130,23 @@ known (Some others) None = refl
 known (Some others) (Some first) = refl
 
 -- the list of known entries is what they read as
-pub entry_list-read : (bytes : List ℕ) → are_entries bytes ≡ true → entries bytes ≡ Some (entry_list bytes)
+pub entry_list-read : (bytes : List ℕ) → are_entries bytes ≡ true
+    → entries bytes ≡ Some (entry_list bytes)
 entry_list-read bytes known = there (entries bytes) known
 
 -- one entry, and then the others
-pub are_entries-step : (bytes : List ℕ) → 4 ≤ length bytes → are_entries bytes ≡ (is_some (entry_at_front bytes) && are_entries (drop 4 bytes))
+pub are_entries-step : (bytes : List ℕ) → 4 ≤ length bytes
+    → are_entries bytes ≡ (is_some (entry_at_front bytes) && are_entries (drop 4 bytes))
 are_entries-step [] long = absurd (omega arith)
 are_entries-step (a ∷ []) long = absurd (omega arith)
 are_entries-step (a ∷ b ∷ []) long = absurd (omega arith)
 are_entries-step (a ∷ b ∷ c ∷ []) long = absurd (omega arith)
-are_entries-step (a ∷ b ∷ c ∷ d ∷ rest) long = known (entries rest) (entry_at_front (a ∷ b ∷ c ∷ d ∷ []))
+are_entries-step (a ∷ b ∷ c ∷ d ∷ rest) long =
+    known (entries rest) (entry_at_front (a ∷ b ∷ c ∷ d ∷ []))
 
 -- fewer than four bytes are no entry
-pub are_entries-short : (bytes : List ℕ) → 0 < length bytes → length bytes < 4 → are_entries bytes ≡ false
+pub are_entries-short : (bytes : List ℕ) → 0 < length bytes → length bytes < 4
+    → are_entries bytes ≡ false
 are_entries-short [] some short = absurd (omega arith)
 are_entries-short (a ∷ []) some short = refl
 are_entries-short (a ∷ b ∷ []) some short = refl
@@ -131,13 +158,15 @@ pub record AreBytes (bytes : List ℕ) : Type 0 where
   pub each : (i : ℕ) → get_or bytes i 0 < 2 ^ 8
 
 -- an algorithm that is read has its number, and no parameters
-front-is : (kind parameters : ℕ) (algorithm : PasswordAlgorithmValue) → (if parameters == 0 then numbered kind else None) ≡ Some algorithm
-    → (parameters ≡ 0) × (kind ≡ algorithm_number algorithm)
+front-is : (kind parameters : ℕ) (algorithm : PasswordAlgorithmValue)
+    → (if parameters == 0 then algorithm_of_number kind else None) ≡ Some algorithm
+    → (parameters ≡ 0) × (kind ≡ number_of_algorithm algorithm)
 front-is kind parameters MD5 read = (grind (arith, nat_tests), grind (arith, nat_tests))
 front-is kind parameters SHA256 read = (grind (arith, nat_tests), grind (arith, nat_tests))
 
 -- an entry that is read is what its algorithm is written as
-entry-spelled : (a b c d : ℕ) (algorithm : PasswordAlgorithmValue) → b < 2 ^ 8 → entry_at_front (a ∷ b ∷ c ∷ d ∷ []) ≡ Some algorithm
+entry-spelled : (a b c d : ℕ) (algorithm : PasswordAlgorithmValue) → b < 2 ^ 8
+    → entry_at_front (a ∷ b ∷ c ∷ d ∷ []) ≡ Some algorithm
     → spelled_entry algorithm ≡ a ∷ b ∷ c ∷ d ∷ []
 entry-spelled a b c d MD5 small read =
     let is = front-is (a * 256 + (b * 1 + 0)) (c * 256 + (d * 1 + 0)) MD5 read in
@@ -159,7 +188,8 @@ entry-spelled a b c d SHA256 small read =
     rw (a0, b2, c0, d0) refl
 
 -- entries that are read are what their list is written as
-pub entries-spelled : (bytes : List ℕ) (list : List PasswordAlgorithmValue) → AreBytes bytes → entries bytes ≡ Some list → spelled_entries list ≡ bytes
+pub entries-spelled : (bytes : List ℕ) (list : List PasswordAlgorithmValue) → AreBytes bytes
+    → entries bytes ≡ Some list → spelled_entries list ≡ bytes
 entries-spelled [] [] small read = refl
 entries-spelled [] (x ∷ list) small read = absurd (cc)
 entries-spelled (a ∷ []) list small read = absurd (cc)

@@ -9,7 +9,8 @@ pub record HasFields (bytes : List ℕ) : Type 0 where
   pub cookie : cookie_field bytes ≡ MAGIC_COOKIE
   pub aligned : length_field bytes % 4 ≡ 0
 
-tests : (kind cookie count : ℕ) → IsTrue (nat_lt kind (2 ^ 14) && (cookie == MAGIC_COOKIE) && (count % 4 == 0))
+tests : (kind cookie count : ℕ)
+    → IsTrue (nat_lt kind (2 ^ 14) && (cookie == MAGIC_COOKIE) && (count % 4 == 0))
     → (kind < 2 ^ 14) × ((cookie ≡ MAGIC_COOKIE) × (count % 4 ≡ 0))
 tests kind cookie count all = search rules
 
@@ -25,4 +26,6 @@ fields_of bytes all =
 
 -- and each tell of all
 pub is_stun-fields : (bytes : List ℕ) → HasFields bytes → IsTrue (is_stun bytes)
-is_stun-fields bytes each = passed (type_field bytes) (cookie_field bytes) (length_field bytes) each.top_bits each.cookie each.aligned
+is_stun-fields bytes each =
+    passed (type_field bytes) (cookie_field bytes) (length_field bytes) each.top_bits each.cookie
+    each.aligned

@@ -269,7 +269,8 @@ unless_found {weaker} {bytes = bytes} so no_stronger no_weaker =
     so.left ∙ ((λ j. option_or (no_stronger j) (option_or before (no_weaker j))) ∙ or_none before)
 
 pub IsUndecided-end : {weaker : Option ℕ} {place : ℕ} {bytes : List ℕ}
-    → IsUndecided weaker place bytes → has_attribute (drop place bytes) ≡ false → deciding bytes ≡ member_at bytes weaker
+    → IsUndecided weaker place bytes → has_attribute (drop place bytes) ≡ false
+    → deciding bytes ≡ member_at bytes weaker
 IsUndecided-end {place = place} {bytes} so none =
     let no_more = visible_from-end place bytes none in
     unless_found so (ap (first_of MESSAGE_INTEGRITY_SHA256) no_more)

@@ -20,7 +20,8 @@ same_attribute_equivalence =
 -- two errors have the same code and reason
 abbrev pub same_error : CodeAndReason → CodeAndReason → Bool
 same_error =
-    eq_of_both (on (λ (e : CodeAndReason). e.code) nat_eq) (on (λ (e : CodeAndReason). e.reason) same_text)
+    eq_of_both (on (λ (e : CodeAndReason). e.code) nat_eq)
+    (on (λ (e : CodeAndReason). e.reason) same_text)
 
 -- `same_error` is an equivalence
 pub same_error_equivalence : IsEquivalence same_error

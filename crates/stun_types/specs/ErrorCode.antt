@@ -1,9 +1,12 @@
--- ERROR-CODE (RFC 8489, section 14.8): 21 reserved bits, zero when written and ignored when read, the hundreds digit of the
--- code in 3 bits, its remainder by 100 in 8 bits, and a reason phrase.
-use Rattle.std.specs.Prelude.{ℕ, ◌+◌, ◌*◌, ◌/◌, ◌%◌, ◌<◌, ◌≤◌, List, [], ◌∷◌, length, drop, slice_index, codes, nat_le, nat_lt, ◌==◌, ◌&&◌, ◌||◌, if◌then◌else◌, Option, Some, None, IsUtf8}
+-- ERROR-CODE (RFC 8489, section 14.8). It has 21 reserved bits, the hundreds digit of the code in 3
+-- bits, its remainder by 100 in 8 bits, and a reason phrase. The reserved bits are zero when
+-- written, and ignored when read.
+use Rattle.std.specs.Prelude.{ℕ, ◌+◌, ◌*◌, ◌/◌, ◌%◌, ◌<◌, ◌≤◌, List, [], ◌∷◌, length}
+use Rattle.std.specs.Prelude.{drop, slice_index, codes, nat_le, nat_lt, ◌==◌, ◌&&◌}
+use Rattle.std.specs.Prelude.{◌||◌, if◌then◌else◌, Option, Some, None, IsUtf8}
 use Rattle.stun_base.specs.Attributes.{ERROR_CODE}
-use Rattle.stun_base.specs.declared.error.StunWriteError.{StunWriteError}
-use Rattle.stun_base.specs.declared.error.StunWriteError.TheVariants.{NotAllowed, TooLarge}
+use Rattle.stun_base.specs.declared.wire.error.StunWriteError.{StunWriteError}
+use Rattle.stun_base.specs.declared.wire.error.StunWriteError.TheVariants.{NotAllowed, TooLarge}
 use Rattle.stun_types.specs.Attribute.{TypedValue}
 use Rattle.stun_types.specs.Limits.{TEXT_LIMIT}
 use Rattle.stun_types.specs.Text.{short_text}
@@ -13,13 +16,14 @@ pub record CodeAndReason : Type 0 where
   pub code : ℕ
   pub reason : List ℕ
 
--- the phrase of a code whose reason is not set
+-- the reason of a code that was given none
 abbrev pub default_reason : ℕ → List ℕ
 default_reason code =
     if code == 400 then codes "Bad Request"
-    else (if code == 401 then codes "Unauthorized" else (if code == 438 then codes "Stale Nonce" else []))
+    else (if code == 401 then codes "Unauthorized"
+    else (if code == 438 then codes "Stale Nonce" else []))
 
--- why an error cannot be written, the first reason that holds: its code, then its reason
+-- why an error cannot be written, if it cannot: first for its code, then for its reason
 abbrev pub error_refusal : CodeAndReason → Option StunWriteError
 error_refusal error =
     if nat_lt error.code 300 || nat_le 700 error.code then Some NotAllowed
@@ -31,6 +35,10 @@ pub record IsError (error : CodeAndReason) : Type 0 where
   pub below_700 : error.code < 700
   pub text : IsUtf8 error.reason
   pub short : length error.reason ≤ TEXT_LIMIT
+
+-- the number of bytes before the reason: reserved bits, class and number
+abbrev pub CODE_LENGTH : ℕ
+CODE_LENGTH = 4
 
 -- the value of the attribute
 abbrev pub error_value : CodeAndReason → List ℕ
@@ -44,20 +52,23 @@ class_field value = slice_index value 2 % 8
 abbrev pub number_field : List ℕ → ℕ
 number_field value = slice_index value 3
 
--- the code in the value, where class and number are those of a code
+-- the code in the value, if class and number are those of a code
 abbrev pub code_in : List ℕ → Option ℕ
 code_in value =
-    if nat_le 3 (class_field value) && nat_le (class_field value) 6 && nat_le (number_field value) 99
+    if nat_le 3 (class_field value) && nat_le (class_field value) 6
+    && nat_le (number_field value) 99
     then Some (100 * class_field value + number_field value) else None
 
--- an error of a code and a reason, where both are there
+-- the error of a code and a reason, if there are both
 abbrev pub error_with : Option ℕ → Option (List ℕ) → Option CodeAndReason
 error_with (Some code) (Some reason) = Some (record { code = code; reason = reason })
 error_with (Some code) None = None
 error_with None reason = None
 
--- the error in an attribute of this type, where it is well formed
+-- the error in an attribute of this type, if it is well formed
 abbrev pub error_of : TypedValue → Option CodeAndReason
 error_of attribute =
-    if attribute.kind == ERROR_CODE && nat_le 4 (length attribute.value)
-    then error_with (code_in attribute.value) (short_text TEXT_LIMIT (drop 4 attribute.value)) else None
+    if attribute.kind == ERROR_CODE && nat_le CODE_LENGTH (length attribute.value)
+    then
+    error_with (code_in attribute.value) (short_text TEXT_LIMIT (drop CODE_LENGTH attribute.value))
+    else None

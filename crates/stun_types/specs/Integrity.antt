@@ -1,16 +1,18 @@
 -- Whether the keyed digest of a message verifies (RFC 8489, sections 14.5, 14.6 and 9.2.4).
-use Rattle.std.specs.Prelude.{ℕ, ◌+◌, ◌-◌, ◌%◌, Bool, List, length, take, find, nat_eq, nat_le, ◌==◌, ◌&&◌, ◌||◌, Option, Some, None, if◌then◌else◌}
+use Rattle.std.specs.Prelude.{ℕ, ◌+◌, ◌-◌, ◌%◌, Bool, List, length, take, find, nat_eq}
+use Rattle.std.specs.Prelude.{nat_le, ◌==◌, ◌&&◌, ◌||◌, Option, Some, None, if◌then◌else◌}
 use Rattle.std.specs.Option.{option_or, option_and_then}
 use Rattle.std.specs.Cmp.Lexicographic.{pointwise}
-use Rattle.stun_base.specs.declared.error.StunParseError.TheVariants.{MissingAttribute, InvalidAttributeData}
-use Rattle.stun_base.specs.declared.error.ValidateError.{ValidateError}
-use Rattle.stun_base.specs.declared.error.ValidateError.TheVariants.{Parse, IntegrityFailed}
-use Rattle.stun_base.specs.declared.algorithm.IntegrityAlgorithm.{IntegrityAlgorithm}
-use Rattle.stun_base.specs.declared.algorithm.IntegrityAlgorithm.TheVariants.{Sha1, Sha256}
+use Rattle.stun_base.specs.declared.wire.error.StunParseError.TheVariants.{MissingAttribute}
+use Rattle.stun_base.specs.declared.wire.error.StunParseError.TheVariants.{InvalidAttributeData}
+use Rattle.stun_base.specs.declared.wire.error.ValidateError.{ValidateError}
+use Rattle.stun_base.specs.declared.wire.error.ValidateError.TheVariants.{Parse, IntegrityFailed}
+use Rattle.stun_base.specs.declared.keys.algorithm.IntegrityAlgorithm.{IntegrityAlgorithm}
+use Rattle.stun_base.specs.declared.keys.algorithm.IntegrityAlgorithm.TheVariants.{Sha1, Sha256}
 use Rattle.stun_base.specs.Attributes.{MESSAGE_INTEGRITY, MESSAGE_INTEGRITY_SHA256}
 use Rattle.stun_base.specs.Header.{HEADER_LENGTH}
 use Rattle.stun_base.specs.Algorithm.{digest, digest_length}
-use Rattle.stun_types.specs.Attribute.{TypedValue}
+use Rattle.stun_types.specs.Attribute.{TypedValue, ATTRIBUTE_HEADER_LENGTH}
 use Rattle.stun_types.specs.Message.{with_length}
 use Rattle.stun_types.specs.Walk.{Member}
 use Rattle.stun_types.specs.Visible.{visible}
@@ -19,30 +21,37 @@ use Rattle.stun_types.specs.Visible.{visible}
 abbrev pub first_of : ℕ → List Member → Option Member
 first_of kind members = find (λ m. m.1.kind == kind) members
 
--- the member whose digest decides: the stronger one, where both are visible
+-- the member whose digest decides: the stronger one, if both are visible
 abbrev pub deciding : List ℕ → Option Member
-deciding bytes = option_or (first_of MESSAGE_INTEGRITY_SHA256 (visible bytes)) (first_of MESSAGE_INTEGRITY (visible bytes))
+deciding bytes =
+    option_or (first_of MESSAGE_INTEGRITY_SHA256 (visible bytes))
+    (first_of MESSAGE_INTEGRITY (visible bytes))
 
--- what an integrity attribute at a place with a value of so many bytes covers: the bytes before it, with the length
--- field of a message that ends after it (sections 14.5 and 14.6)
+-- what an integrity attribute at a place covers, with a value of so many bytes (sections 14.5 and
+-- 14.6). It is the bytes before the attribute, with the length field of a message that ends after
+-- it
 abbrev pub covered : List ℕ → ℕ → ℕ → List ℕ
-covered bytes place count = with_length (take place bytes) (place + 4 + count - HEADER_LENGTH)
+covered bytes place count =
+    with_length (take place bytes) (place + ATTRIBUTE_HEADER_LENGTH + count - HEADER_LENGTH)
 
 -- the algorithm of an integrity attribute
 abbrev pub integrity_algorithm : TypedValue → IntegrityAlgorithm
 integrity_algorithm attribute = if attribute.kind == MESSAGE_INTEGRITY_SHA256 then Sha256 else Sha1
 
--- whether a member's value is the whole digest, under a key, of what it covers
+-- whether the value of a member is the whole digest of what it covers, under a key
 abbrev pub is_digest : List ℕ → List ℕ → Member → Bool
 is_digest bytes key m =
     (length m.1.value == digest_length (integrity_algorithm m.1))
-    && pointwise nat_eq m.1.value (digest (integrity_algorithm m.1) key (covered bytes m.0 (length m.1.value)))
+    && pointwise nat_eq m.1.value
+    (digest (integrity_algorithm m.1) key (covered bytes m.0 (length m.1.value)))
 
--- the algorithm of a member whose value is its digest under that algorithm's key
+-- the algorithm of a member, if its value is the digest under the key for that algorithm
 abbrev pub verified_at : (IntegrityAlgorithm → List ℕ) → List ℕ → Member → Option IntegrityAlgorithm
-verified_at keys bytes m = if is_digest bytes (keys (integrity_algorithm m.1)) m then Some (integrity_algorithm m.1) else None
+verified_at keys bytes m =
+    if is_digest bytes (keys (integrity_algorithm m.1)) m then Some (integrity_algorithm m.1)
+    else None
 
--- the algorithm whose digest verifies, if one does, where each algorithm has a key of its own (section 9.2.2)
+-- the algorithm whose digest verifies, if one does, with a key for each algorithm (section 9.2.2)
 abbrev pub verified_by : (IntegrityAlgorithm → List ℕ) → List ℕ → Option IntegrityAlgorithm
 verified_by keys bytes = option_and_then (verified_at keys bytes) (deciding bytes)
 
@@ -50,19 +59,27 @@ verified_by keys bytes = option_and_then (verified_at keys bytes) (deciding byte
 abbrev pub verified_algorithm : List ℕ → List ℕ → Option IntegrityAlgorithm
 verified_algorithm bytes key = verified_by (λ _. key) bytes
 
--- whether the value of an integrity attribute is well formed: a SHA-256 digest may be cut short to 16 bytes or more
+-- the fewest bytes of a SHA-256 digest that is cut short (section 14.6)
+abbrev pub LEAST_SHA256_LENGTH : ℕ
+LEAST_SHA256_LENGTH = 16
+
+-- whether the value of an integrity attribute is well formed: a whole digest, or a SHA-256 digest
+-- cut short to 16 bytes or more
 abbrev pub is_well_formed : TypedValue → Bool
 is_well_formed attribute =
     if attribute.kind == MESSAGE_INTEGRITY_SHA256 then
-    nat_le 16 (length attribute.value) && nat_le (length attribute.value) 32 && (length attribute.value % 4 == 0)
-    else length attribute.value == 20
+    nat_le LEAST_SHA256_LENGTH (length attribute.value)
+    && nat_le (length attribute.value) (digest_length Sha256)
+    && (length attribute.value % 4 == 0)
+    else length attribute.value == digest_length Sha1
 
 -- whether an attribute is a well-formed MESSAGE-INTEGRITY or MESSAGE-INTEGRITY-SHA256
 abbrev pub is_integrity : TypedValue → Bool
 is_integrity attribute =
-    ((attribute.kind == MESSAGE_INTEGRITY) || (attribute.kind == MESSAGE_INTEGRITY_SHA256)) && is_well_formed attribute
+    ((attribute.kind == MESSAGE_INTEGRITY) || (attribute.kind == MESSAGE_INTEGRITY_SHA256))
+    && is_well_formed attribute
 
--- why no digest verifies, of the deciding member
+-- why no digest verifies, by the deciding member
 abbrev pub refusal_of : Option Member → ValidateError
 refusal_of None = Parse (MissingAttribute (record { 0 = MESSAGE_INTEGRITY }))
 refusal_of (Some m) = if is_well_formed m.1 then IntegrityFailed else Parse InvalidAttributeData

@@ -1,6 +1,6 @@
 -- What the contracts of this crate say, in the order to read it.
 
--- the numbers that bound a message and its texts
+-- the limits of a message and its texts
 pub mod Limits
 -- which bytes are a message, and why others are none (RFC 8489, section 5)
 pub mod Message
@@ -14,9 +14,9 @@ pub mod Grammar
 pub mod Integrity
 -- what follows the attribute that decides (sections 14.5 to 14.7)
 pub mod Tail
--- an attribute as it is in a message: type, length, value, padding (section 14)
+-- an attribute of a message: type, length, value, padding (section 14)
 pub mod Attribute
--- what attributes read as
+-- the results of reading attributes
 pub mod Reading
 -- USERNAME, REALM and NONCE (sections 14.3, 14.9 and 14.10)
 pub mod Text
@@ -30,7 +30,7 @@ pub mod XorMappedAddress
 pub mod PasswordAlgorithms
 -- MESSAGE-INTEGRITY and MESSAGE-INTEGRITY-SHA256 (sections 14.5 and 14.6)
 pub mod IntegrityAttributes
--- what adding an attribute or a digest makes of a message, and why it is refused
+-- a message with one attribute or digest more, and why it is refused
 pub mod Writing
 -- a writer that grows
 pub mod WriteVec

@@ -1,11 +1,13 @@
--- The numbers that bound a message and its texts, in bytes.
+-- The limits of a message and its texts, in bytes.
 use Rattle.std.specs.Prelude.{ℕ}
 
--- the most bytes of a REALM, of a NONCE and of the reason of an ERROR-CODE (RFC 8489, sections 14.8 to 14.10)
+-- the most bytes of a REALM, of a NONCE and of the reason of an ERROR-CODE (RFC 8489, sections 14.8
+-- to 14.10)
 abbrev pub TEXT_LIMIT : ℕ
 TEXT_LIMIT = 763
 
--- the most bytes of a USERNAME here. Section 14.3 has fewer than 509 written, and up to 763 read: those past 513 are malformed here
+-- the most bytes of a USERNAME here. By section 14.3 a written one has fewer than 509, and a read
+-- one up to 763. Here one of more than 513 is malformed
 abbrev pub USERNAME_LIMIT : ℕ
 USERNAME_LIMIT = 513
 

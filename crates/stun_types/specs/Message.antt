@@ -1,8 +1,9 @@
 -- What is a STUN message (RFC 8489, section 5).
-use Rattle.std.specs.Prelude.{◌≡◌, ℕ, ◌+◌, List, ◌++◌, length, take, drop, Option, Some, None, nat_lt, ◌==◌, if◌then◌else◌}
+use Rattle.std.specs.Prelude.{◌≡◌, ℕ, ◌+◌, List, ◌++◌, length, take, drop}
+use Rattle.std.specs.Prelude.{Option, Some, None, nat_lt, ◌==◌, if◌then◌else◌}
 use Rattle.byteorder.specs.Endian.{big_bytes}
-use Rattle.stun_base.specs.declared.error.StunParseError.{StunParseError}
-use Rattle.stun_base.specs.declared.error.StunParseError.TheVariants.{Truncated, TooLarge}
+use Rattle.stun_base.specs.declared.wire.error.StunParseError.{StunParseError}
+use Rattle.stun_base.specs.declared.wire.error.StunParseError.TheVariants.{Truncated, TooLarge}
 use Rattle.stun_base.specs.Header.{HEADER_LENGTH, BeginsWithHeader, header_refusal, length_field}
 use Rattle.stun_types.specs.Walk.{walk, taken}
 pub use Rattle.stun_types.specs.Limits.{LENGTH_LIMIT}

@@ -1,9 +1,9 @@
--- What attributes read as.
+-- The results of reading attributes.
 use Rattle.std.specs.Prelude.{Option, Some, None, Result, Ok, Err}
-use Rattle.stun_base.specs.declared.error.StunParseError.{StunParseError}
-use Rattle.stun_base.specs.declared.error.StunParseError.TheVariants.{InvalidAttributeData}
+use Rattle.stun_base.specs.declared.wire.error.StunParseError.{StunParseError}
+use Rattle.stun_base.specs.declared.wire.error.StunParseError.TheVariants.{InvalidAttributeData}
 
--- the answer of a reader: what is read, or that the attribute is malformed
+-- the result of reading: the attribute, or that it is malformed
 abbrev pub attribute_answer : {A : Type 0} → Option A → Result A StunParseError
 attribute_answer (Some value) = Ok value
 attribute_answer None = Err InvalidAttributeData

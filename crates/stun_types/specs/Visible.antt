@@ -1,5 +1,6 @@
--- Which attributes of a message are visible (RFC 8489, sections 14.5 to 14.7): an integrity attribute covers what
--- is before it, so of what comes after it only the stronger integrity attribute and FINGERPRINT are visible.
+-- The visible attributes of a message (RFC 8489, sections 14.5 to 14.7). An integrity attribute
+-- covers what is before it. After it only the stronger integrity attribute and FINGERPRINT are
+-- visible.
 use Rattle.std.specs.Prelude.{ℕ, Bool, List, filter, nat_lt, ◌==◌, ◌&&◌, ◌||◌, not}
 use Rattle.std.specs.List.{list_any}
 use Rattle.stun_base.specs.Attributes.{MESSAGE_INTEGRITY, MESSAGE_INTEGRITY_SHA256, FINGERPRINT}
@@ -17,7 +18,7 @@ of_kind kind members = filter (λ m. m.1.kind == kind) members
 abbrev pub before : ℕ → List Member → List Member
 before place members = filter (λ m. nat_lt m.0 place) members
 
--- whether an attribute of a type is visible after attributes among which the three types are
+-- whether an attribute of a type is visible, by which of the three types come before it
 abbrev pub counts_behind : Bool → Bool → Bool → ℕ → Bool
 counts_behind integrity integrity_sha256 fingerprint kind =
     not fingerprint
@@ -27,7 +28,8 @@ counts_behind integrity integrity_sha256 fingerprint kind =
 -- whether a member is visible after the members before it
 abbrev pub counts : List Member → Member → Bool
 counts members m =
-    counts_behind (has_kind MESSAGE_INTEGRITY (before m.0 members)) (has_kind MESSAGE_INTEGRITY_SHA256 (before m.0 members))
+    counts_behind (has_kind MESSAGE_INTEGRITY (before m.0 members))
+    (has_kind MESSAGE_INTEGRITY_SHA256 (before m.0 members))
     (has_kind FINGERPRINT (before m.0 members)) m.1.kind
 
 -- the visible attributes of a message

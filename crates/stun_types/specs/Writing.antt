@@ -1,14 +1,19 @@
 -- What writing does to a message.
-use Rattle.std.specs.Prelude.{◌≡◌, ◌<◌, ◌≤◌, ◌^◌, ℕ, ◌+◌, ◌-◌, Bool, false, ◌||◌, ◌==◌, nat_lt, if◌then◌else◌, List, [], ◌∷◌, ◌++◌, length, Option, Some, None, MatchOption, Result, Err, IsOkUnless}
+use Rattle.std.specs.Prelude.{◌≡◌, ◌<◌, ◌≤◌, ◌^◌, ℕ, ◌+◌, ◌-◌, Bool, false, ◌||◌, ◌==◌}
+use Rattle.std.specs.Prelude.{nat_lt, if◌then◌else◌, List, [], ◌∷◌, ◌++◌, length}
+use Rattle.std.specs.Prelude.{Option, Some, None, MatchOption, Result, Err, IsOkUnless}
 use Rattle.stun_base.specs.Attributes.{MESSAGE_INTEGRITY, MESSAGE_INTEGRITY_SHA256, FINGERPRINT}
 use Rattle.stun_base.specs.Header.{HEADER_LENGTH, type_field, transaction_id_field}
 use Rattle.stun_base.specs.Algorithm.{digest_length, digest}
 use Rattle.stun_base.specs.MessageType.{method_of, type_number}
-use Rattle.stun_base.specs.declared.algorithm.IntegrityAlgorithm.{IntegrityAlgorithm}
-use Rattle.stun_base.specs.declared.algorithm.IntegrityAlgorithm.TheVariants.{Sha1, Sha256}
-use Rattle.stun_base.specs.declared.error.StunWriteError.{StunWriteError}
-use Rattle.stun_base.specs.declared.message_type.MessageClass.{MessageClass}
-use Rattle.stun_base.specs.declared.error.StunWriteError.TheVariants.{NotAllowed, MessageIntegrityExists, AttributeExists, OutOfMemory, TooLarge, TooSmall}
+use Rattle.stun_base.specs.declared.keys.algorithm.IntegrityAlgorithm.{IntegrityAlgorithm}
+use Rattle.stun_base.specs.declared.keys.algorithm.IntegrityAlgorithm.TheVariants.{Sha1, Sha256}
+use Rattle.stun_base.specs.declared.wire.error.StunWriteError.{StunWriteError}
+use Rattle.stun_base.specs.declared.wire.message_type.MessageClass.{MessageClass}
+use Rattle.stun_base.specs.declared.wire.error.StunWriteError.TheVariants.{NotAllowed}
+use Rattle.stun_base.specs.declared.wire.error.StunWriteError.TheVariants.{MessageIntegrityExists}
+use Rattle.stun_base.specs.declared.wire.error.StunWriteError.TheVariants.{AttributeExists, OutOfMemory}
+use Rattle.stun_base.specs.declared.wire.error.StunWriteError.TheVariants.{TooLarge, TooSmall}
 use Rattle.stun_types.specs.Attribute.{TypedValue, attribute_length}
 use Rattle.stun_types.specs.Grammar.{spelled, spelled_attribute}
 use Rattle.stun_types.specs.Integrity.{covered, verified_by}
@@ -17,13 +22,15 @@ use Rattle.stun_types.specs.Visible.{has_kind, visible}
 use Rattle.stun_types.specs.Walk.{walk}
 pub use Rattle.stun_types.specs.Limits.{max_length}
 
--- the message length that an attribute with a value of n bytes leaves (RFC 8489, section 5)
+-- the message length with one attribute more, whose value has n bytes (RFC 8489, section 5)
 abbrev pub length_with : List ℕ → ℕ → ℕ
 length_with message n = length message - HEADER_LENGTH + attribute_length n
 
--- the message with its length raised, then the attribute
+-- the message with the new length, then the attribute
 abbrev pub with_attribute : List ℕ → TypedValue → List ℕ
-with_attribute message attribute = with_length message (length_with message (length attribute.value)) ++ spelled_attribute attribute
+with_attribute message attribute =
+    with_length message (length_with message (length attribute.value))
+    ++ spelled_attribute attribute
 
 -- the type of the integrity attribute of an algorithm (section 18.3)
 abbrev pub integrity_kind : IntegrityAlgorithm → ℕ
@@ -34,26 +41,31 @@ integrity_kind Sha256 = MESSAGE_INTEGRITY_SHA256
 abbrev pub covered_at_end : List ℕ → IntegrityAlgorithm → List ℕ
 covered_at_end message algorithm = covered message (length message) (digest_length algorithm)
 
--- the integrity attribute at the end of a message: its value is the digest of what it covers (sections 14.5 and 14.6)
+-- the integrity attribute at the end of a message: its value is the digest of what it covers
+-- (sections 14.5 and 14.6)
 abbrev pub integrity_attribute : List ℕ → IntegrityAlgorithm → List ℕ → TypedValue
 integrity_attribute message algorithm key = record {
   kind = integrity_kind algorithm;
   value = digest algorithm key (covered_at_end message algorithm);
 }
 
--- the message with its length raised, then its integrity attribute
+-- the message with the new length, then its integrity attribute
 abbrev pub with_integrity : List ℕ → IntegrityAlgorithm → List ℕ → List ℕ
-with_integrity message algorithm key = with_attribute message (integrity_attribute message algorithm key)
+with_integrity message algorithm key =
+    with_attribute message (integrity_attribute message algorithm key)
 
--- the types that only the calls for integrity write, and FINGERPRINT (sections 14.5 to 14.7)
+-- the types that only the calls that sign write, and FINGERPRINT (sections 14.5 to 14.7)
 abbrev pub is_set_apart : ℕ → Bool
-is_set_apart kind = (kind == MESSAGE_INTEGRITY) || (kind == MESSAGE_INTEGRITY_SHA256) || (kind == FINGERPRINT)
+is_set_apart kind =
+    (kind == MESSAGE_INTEGRITY) || (kind == MESSAGE_INTEGRITY_SHA256) || (kind == FINGERPRINT)
 
 -- whether a message has an integrity attribute
 abbrev pub has_integrity : List ℕ → Bool
-has_integrity message = has_kind MESSAGE_INTEGRITY (walk message) || has_kind MESSAGE_INTEGRITY_SHA256 (walk message)
+has_integrity message =
+    has_kind MESSAGE_INTEGRITY (walk message) || has_kind MESSAGE_INTEGRITY_SHA256 (walk message)
 
--- a message that an attribute or an integrity attribute can be added to: none of its attributes hides those after it
+-- a message that an attribute or an integrity attribute can be added to: none of its attributes
+-- hides those after it
 pub record IsOpen (message : List ℕ) : Type 0 where
   pub is_message : IsMessage message
   pub no_integrity : has_integrity message ≡ false
@@ -67,12 +79,14 @@ pub record HasOneMore (before after : List ℕ) (attribute : TypedValue) : Type 
   pub walk_is : walk after ≡ walk before ++ (length before, attribute) ∷ []
   pub visible_is : visible after ≡ visible before ++ (length before, attribute) ∷ []
 
--- an attribute whose type has 16 bits, and whose value fits a message of the greatest length after what is there
+-- an attribute whose type has 16 bits, and whose value fits the message: its length is then at most
+-- the greatest
 pub record IsAddable (message : List ℕ) (attribute : TypedValue) : Type 0 where
   pub kind : attribute.kind < 2 ^ 16
   pub value : length_with message (length attribute.value) ≤ max_length
 
--- why a value of n bytes is refused in a writer with so much room, if it is: the length field, then the room
+-- why a value of n bytes is refused with so much room, if it is: first for the length field, then
+-- for the room
 abbrev pub size_refusal : List ℕ → ℕ → ℕ → Option StunWriteError
 size_refusal message room n =
     if nat_lt max_length (length_with message n) then Some TooLarge
@@ -92,32 +106,40 @@ signing_refusal message room algorithm =
     if has_integrity message then Some MessageIntegrityExists
     else size_refusal message room (digest_length algorithm)
 
--- the answer of a call that may be refused: the first reason that holds, and where there is none only an allocation can fail
+-- the result of a call that may fail: it is the first reason that holds, and without one only an
+-- allocation can fail
 abbrev pub RefusedBy : Option StunWriteError → Result (Unit {0}) StunWriteError → Type 0
-RefusedBy refusal result = MatchOption refusal (IsOkUnless result OutOfMemory) (λ reason. result ≡ Err reason)
+RefusedBy refusal result =
+    MatchOption refusal (IsOkUnless result OutOfMemory) (λ reason. result ≡ Err reason)
 
--- what an open message has been given is one attribute more
+-- an open message has one attribute more after the call
 abbrev pub GainsOne : List ℕ → List ℕ → TypedValue → Type 0
 GainsOne before after attribute = IsOpen before → HasOneMore before after attribute
 
--- what an open message has been given is the integrity attribute of an algorithm under a key
+-- an open message has the integrity attribute of an algorithm under a key after the call, and
+-- nothing else more
 abbrev pub GainsIntegrity : List ℕ → List ℕ → IntegrityAlgorithm → List ℕ → Type 0
-GainsIntegrity before after algorithm key = GainsOne before after (integrity_attribute before algorithm key)
+GainsIntegrity before after algorithm key =
+    GainsOne before after (integrity_attribute before algorithm key)
 
--- an open message that was signed verifies by this algorithm, under each choice of keys that has this key for it
+-- an open message verifies after the call by this algorithm, under all keys of which this is the
+-- one for it
 abbrev pub VerifiesAfter : List ℕ → List ℕ → IntegrityAlgorithm → List ℕ → Type 0
 VerifiesAfter before after algorithm key =
-    IsOpen before → (keys : IntegrityAlgorithm → List ℕ) → keys algorithm ≡ key → verified_by keys after ≡ Some algorithm
+    IsOpen before → (keys : IntegrityAlgorithm → List ℕ) → keys algorithm ≡ key
+    → verified_by keys after ≡ Some algorithm
 
--- a message that was written attribute by attribute is written with one more
+-- a spelled message is spelled with one attribute more after the call
 abbrev pub SpellsOneMore : List ℕ → List ℕ → TypedValue → Type 0
 SpellsOneMore before after attribute =
-    (kind id : ℕ) (list : List TypedValue) → before ≡ spelled kind id list → after ≡ spelled kind id (list ++ attribute ∷ [])
+    (kind id : ℕ) (list : List TypedValue) → before ≡ spelled kind id list
+    → after ≡ spelled kind id (list ++ attribute ∷ [])
 
 -- a message of a class and a method, without attributes
-abbrev pub begun : MessageClass → ℕ → ℕ → List ℕ
-begun class method id = spelled (type_number class method) id []
+abbrev pub empty_message : MessageClass → ℕ → ℕ → List ℕ
+empty_message class method id = spelled (type_number class method) id []
 
 -- a message of a class that answers another, with its method and id and without attributes
-abbrev pub begun_answer : MessageClass → List ℕ → List ℕ
-begun_answer class message = begun class (method_of (type_field message)) (transaction_id_field message)
+abbrev pub empty_answer : MessageClass → List ℕ → List ℕ
+empty_answer class message =
+    empty_message class (method_of (type_field message)) (transaction_id_field message)

@@ -1,19 +1,23 @@
-//! Attributes as a message has them: type, value and padding.
-ghost use Rattle.std.specs.Prelude.{◌≡◌, ◌+◌, ◌-◌, ◌^◌, ◌<◌, ◌≤◌, ◌++◌, ℕ, List, drop, length, min, true, false, OnSome, IfSome, IfNone, Some, refl, ⊤};
+//! Attributes of a message: type, value and padding.
+
+ghost use Rattle.std.specs.Prelude.{◌≡◌, ◌+◌, ◌-◌, ◌^◌, ◌<◌, ◌≤◌, ◌++◌, ℕ, List, drop, length};
+ghost use Rattle.std.specs.Prelude.{min, true, false, OnSome, IfSome, IfNone, Some, refl, ⊤};
 ghost use Rattle.std.specs.Cmp.{partial_equiv_from_equiv};
 ghost use Rattle.stun_types.specs.Equality.{same_attribute, same_attribute_equivalence};
-ghost use Rattle.stun_types.specs.Attribute.{attribute_length, padded_length, has_attribute, first_attribute};
+ghost use Rattle.stun_types.specs.Attribute.{attribute_length, padded_length};
+ghost use Rattle.stun_types.specs.Attribute.{has_attribute, first_attribute};
 ghost use Rattle.stun_types.specs.Grammar.{spelled_attribute};
 ghost use Rattle.stun_types.specs.Limits.{max_length};
 
-use crate::append::append_attribute;
 use crate::write::MessageWrite;
+use crate::write::append::append_attribute;
 use byteorder::{BigEndian, ByteOrder};
 use std::alloc::AllocError;
 use std::marker::Model;
 pub use stun_base::attribute_type::AttributeType;
 use stun_base::error::StunParseError;
 
+pub mod derives;
 mod error_code;
 pub mod laws;
 mod message_integrity;
@@ -36,18 +40,19 @@ pub use userhash::Userhash;
 pub use username::Username;
 pub use xor_mapped_address::XorMappedAddress;
 
-/// The number of bytes of an attribute's header: its type and the length of its value (RFC 8489, section 14).
+/// The number of bytes of an attribute's header: its type and the length of its value (RFC 8489,
+/// section 14).
 pub const ATTRIBUTE_HEADER_LENGTH: usize = 4;
 
-/// How many zeros pad a value of so many bytes to a multiple of 4.
+/// How many zeros pad a value of so many bytes up to a multiple of 4.
 pub(crate) fn padding_length(value_length: usize) -> usize
     ensures { result ≡ padded_length value_length - value_length }
 {
     (4 - value_length % 4) % 4
 }
 
-/// The number of bytes that an attribute takes whose value has so many, with its header and its padding; `usize::MAX` where
-/// there are more.
+/// The number of bytes of an attribute whose value has so many, with its header and its padding. It
+/// is at most `usize::MAX`.
 pub fn attribute_length(value_length: usize) -> usize
     ensures { result ≡ min (attribute_length value_length) (2 ^ 64 - 1) }
 {
@@ -56,7 +61,7 @@ pub fn attribute_length(value_length: usize) -> usize
         .saturating_add(ATTRIBUTE_HEADER_LENGTH)
 }
 
-/// An attribute of a message that is not read further: its type and its value, which it borrows.
+/// An attribute of a message whose value is not read: its type and its value, borrowed.
 #[derive(Debug, Drop)]
 pub struct RawAttribute<'a> {
     kind: AttributeType,
@@ -64,11 +69,14 @@ pub struct RawAttribute<'a> {
 }
 
 impl<'a> Model for RawAttribute<'a> {
+    ghost use Rattle.std.specs.Prelude.{◌<◌, ◌^◌};
     ghost use Rattle.stun_types.specs.Attribute.{TypedValue};
 
     ghost Value = { TypedValue };
 
     ghost view = { λ attribute. record { kind = attribute.kind.0; value = attribute.value.now } };
+
+    ghost invariant = { λ attribute. attribute.kind.0 < 2 ^ 16 };
 }
 
 /// It does not allocate and never fails.
@@ -85,7 +93,7 @@ impl<'a> Clone for RawAttribute<'a> {
     }
 }
 
-/// Equal are attributes of the same type and value.
+/// Attributes are equal if and only if type and value are.
 impl<'a> PartialEq for RawAttribute<'a> {
     ghost eq = { same_attribute };
 
@@ -108,19 +116,20 @@ pub trait Attribute {
     // The bytes of its value.
     ghost value: { Self → List ℕ };
 
-    // What holds of each attribute of this type that a program makes.
+    // What holds of each attribute of this Rust type.
     ghost is_well_formed: { Self → Type 0 };
 
     /// The type of the attribute.
     fn get_type(&self) -> AttributeType
         ensures { result.0 ≡ kind self.now };
 
-    /// The number of bytes of its value, without padding; `usize::MAX` where there are more.
+    /// The number of bytes of its value, without padding. It is at most `usize::MAX`.
     fn length(&self) -> usize
         ensures length { result ≡ min (length (value self.now)) (2 ^ 64 - 1) }
         ensures well_formed { is_well_formed self.now };
 
-    /// The number of bytes that it takes with its header and padding; `usize::MAX` where there are more.
+    /// The number of bytes of the attribute, with its header and padding. It is at most
+    /// `usize::MAX`.
     fn padded_len(&self) -> usize
         ensures { result ≡ min (attribute_length (length (value self.now))) (2 ^ 64 - 1) }
     {
@@ -147,8 +156,8 @@ pub trait AttributeStaticType {
     // The number of the type.
     ghost static_kind: { ℕ };
 
-    /// `TYPE` as a call: its clause gives contracts the number, which a constant cannot. An impl at a type with a lifetime
-    /// repeats the clause.
+    /// `TYPE` as a call: its clause gives contracts the number, which a constant cannot. An impl of
+    /// a type with a lifetime repeats the clause.
     fn static_type() -> AttributeType
         ensures { result.0 ≡ static_kind };
 }
@@ -159,10 +168,11 @@ pub trait AttributeFromRaw<'a>: Attribute + Sized {
     ghost use Rattle.stun_types.specs.Attribute.{TypedValue};
     ghost use Rattle.stun_types.specs.Reading.{attribute_answer};
 
-    // What a type and a value read as, where they are those of a well-formed attribute.
+    // The attribute that a type and a value are, if they are well formed.
     ghost reading: { TypedValue → Option Self };
 
-    /// Reads the attribute, or answers `InvalidAttributeData` where the type is another or the value is malformed.
+    /// Reads the attribute. Fails with `InvalidAttributeData` if the type is another or the value
+    /// is malformed.
     fn from_raw(raw: RawAttribute<'a>) -> Result<Self, StunParseError>
         ensures { result ≡ attribute_answer (reading raw.entry) };
 
@@ -180,7 +190,7 @@ impl<'a> RawAttribute<'a> {
         RawAttribute { kind, value }
     }
 
-    /// The attribute at this place of the bytes, where it and its padding are whole.
+    /// The attribute at this place of the bytes, or `None` if it or its padding is not whole.
     pub(crate) fn at(bytes: &'a [u8], place: usize) -> Option<RawAttribute<'a>>
         ensures none { IfNone result (has_attribute (drop place bytes.now) ≡ false) }
         ensures whole { OnSome result (has_attribute (drop place bytes.now) ≡ true) }
@@ -220,7 +230,7 @@ impl<'a> RawAttribute<'a> {
         self.value.len()
     }
 
-    /// The number of bytes that the attribute takes in a message, with its header and its padding.
+    /// The number of bytes of the attribute in a message, with its header and its padding.
     pub fn padded_len(&self) -> usize
         ensures { result ≡ attribute_length (length self.now.value) }
     {
@@ -240,8 +250,6 @@ impl<'a> Attribute for RawAttribute<'a> {
     }
 
     fn length(&self) -> usize {
-        // Read for the clause `well_formed`: a field's type bounds it.
-        let _number = self.kind.0;
         self.value.len()
     }
 

@@ -1,16 +1,24 @@
-//! The check of a message's integrity (RFC 8489, sections 14.5, 14.6 and 9.2.4).
+//! The check of message integrity (RFC 8489, sections 14.5, 14.6 and 9.2.4).
+
 ghost use Rattle.byteorder.specs.Endian.{big_bytes};
-ghost use Rattle.std.specs.Prelude.{◌≡◌, ◌++◌, take, ◌+◌, ◌-◌, ◌^◌, ◌<◌, ◌≤◌, List, ℕ, length, IfOk, OnOk, IfErr, OnErr, IfSome, Some, None, true, false, ◌==◌, if◌then◌else◌};
+ghost use Rattle.std.specs.Prelude.{◌≡◌, ◌++◌, take, ◌+◌, ◌-◌, ◌^◌, ◌<◌, ◌≤◌, List};
+ghost use Rattle.std.specs.Prelude.{ℕ, length, IfOk, OnOk, IfErr, OnErr, IfSome};
+ghost use Rattle.std.specs.Prelude.{Some, None, true, false, ◌==◌, if◌then◌else◌};
 ghost use Rattle.stun_base.specs.Algorithm.{digest_length};
 ghost use Rattle.stun_base.specs.Header.{HEADER_LENGTH as header_length};
 ghost use Rattle.stun_base.specs.Keys.OfCredentials.{keys_of};
+ghost use Rattle.stun_types.specs.Attribute.{ATTRIBUTE_HEADER_LENGTH as attribute_header_length};
 ghost use Rattle.stun_types.specs.Visible.{visible};
-ghost use Rattle.stun_types.specs.code.Walk.{IsWithin};
-ghost use Rattle.stun_types.specs.Integrity.{first_of as first_member_of, integrity_algorithm, deciding, is_digest, is_integrity, is_well_formed, verified_algorithm, verified_by, integrity_refusal};
+ghost use Rattle.stun_types.specs.code.Walk.{IsInside};
+ghost use Rattle.stun_types.specs.Integrity.{first_of as first_member_of, integrity_algorithm};
+ghost use Rattle.stun_types.specs.Integrity.{deciding, is_digest, is_integrity, is_well_formed};
+ghost use Rattle.stun_types.specs.Integrity.{verified_algorithm, verified_by, integrity_refusal};
+
+pub(crate) mod digest_key;
 
 use crate::attribute::{ATTRIBUTE_HEADER_LENGTH, AttributeType, RawAttribute};
+use crate::message::walk::{deciding_place, first_place};
 use crate::message::{Message, StunParseError, ValidateError};
-use crate::walk::{deciding_place, first_place};
 use std::alloc::Allocator;
 use stun_base::algorithm::IntegrityAlgorithm;
 use stun_base::compare::is_same_text;
@@ -20,7 +28,7 @@ use stun_base::hmac::{SHA1_LENGTH, SHA256_LENGTH, hmac_sha1, hmac_sha256};
 use stun_base::key::IntegrityKey;
 use stun_base::prepared_key::PreparedKey;
 
-/// The number of bytes of the shortest cut of an HMAC-SHA256 (RFC 8489, section 14.6).
+/// The fewest bytes of an HMAC-SHA256 that is cut short (RFC 8489, section 14.6).
 const MIN_SHA256_LENGTH: usize = 16;
 
 /// The first attribute of a type, with its place.
@@ -29,7 +37,7 @@ pub(crate) fn first_of<'a>(
     kind: AttributeType,
 ) -> Option<(usize, RawAttribute<'a>)>
     ensures first { result ≡ first_member_of kind.0 (visible message.now) }
-    ensures within { IfSome result (IsWithin message.now) }
+    ensures within { IfSome result (IsInside message.now) }
 {
     let bytes = message.as_bytes();
     let place = first_place(bytes, kind)?;
@@ -47,7 +55,8 @@ fn integrity_algorithm(attribute: &RawAttribute<'_>) -> IntegrityAlgorithm
     }
 }
 
-/// Whether the value of an integrity attribute has a length that its type may have: a SHA-256 digest may be cut short.
+/// Whether the value of an integrity attribute has a length of its type. A SHA-256 digest may be
+/// cut short.
 pub(crate) fn is_well_formed(attribute: &RawAttribute<'_>) -> bool
     ensures { result ≡ is_well_formed attribute.now }
 {
@@ -60,11 +69,11 @@ pub(crate) fn is_well_formed(attribute: &RawAttribute<'_>) -> bool
     }
 }
 
-/// The attribute whose digest is to be compared, with its place, or why no digest can verify.
+/// The attribute whose digest is compared, with its place. Fails if no digest can verify.
 fn claimed_digest<'a>(message: &Message<'a>) -> Result<(usize, RawAttribute<'a>), ValidateError>
     ensures deciding { IfOk result (λ m. deciding message.now ≡ Some m) }
     ensures whole { IfOk result (λ m. length m.1.value ≡ digest_length (integrity_algorithm m.1)) }
-    ensures within { IfOk result (IsWithin message.now) }
+    ensures within { IfOk result (IsInside message.now) }
     ensures compared { OnOk result (integrity_refusal message.now ≡ ValidateError.IntegrityFailed) }
     ensures refused { IfErr result (λ error. error ≡ integrity_refusal message.now) }
     ensures none { IfErr result (λ _.
@@ -79,13 +88,14 @@ fn claimed_digest<'a>(message: &Message<'a>) -> Result<(usize, RawAttribute<'a>)
     Ok((place, attribute))
 }
 
-/// Refuses the value of an integrity attribute that is no whole digest.
+/// Fails if the value of an integrity attribute is not a whole digest.
 fn check_whole(attribute: &RawAttribute<'_>) -> Result<(), ValidateError>
     ensures whole { OnOk result (length attribute.now.value
         ≡ digest_length (integrity_algorithm attribute.now)) }
     ensures well_formed { OnOk result (is_well_formed attribute.now ≡ true) }
     ensures not_whole { OnErr result
-        ((length attribute.now.value == digest_length (integrity_algorithm attribute.now)) ≡ false) }
+        ((length attribute.now.value == digest_length (integrity_algorithm attribute.now))
+        ≡ false) }
     ensures refused { IfErr result (λ error. error
         ≡ (if is_well_formed attribute.now then ValidateError.IntegrityFailed
         else ValidateError.Parse StunParseError.InvalidAttributeData)) }
@@ -99,33 +109,39 @@ fn check_whole(attribute: &RawAttribute<'_>) -> Result<(), ValidateError>
     Ok(())
 }
 
-/// What the length field is to hold for the digest of an attribute at this place: the message ends after it.
+/// The length field under the digest of an attribute at this place: that of a message that ends
+/// after the attribute.
 fn covered_length(place: usize, value_length: usize) -> u16
     requires behind_header { header_length ≤ place }
-    requires fits { place + 4 + value_length < header_length + 2 ^ 16 }
-    ensures { result ≡ place + 4 + value_length - header_length }
+    requires fits { place + attribute_header_length + value_length < header_length + 2 ^ 16 }
+    ensures { result ≡ place + attribute_header_length + value_length - header_length }
 {
     (place + ATTRIBUTE_HEADER_LENGTH + value_length - HEADER_LENGTH) as u16
 }
 
-/// The header's first four bytes as the digest of an attribute at this place covers them: type, and length as it is to be.
+/// The first four bytes of the header under the digest of an attribute at this place: the type, and
+/// that length.
 fn covered_start(message: &[u8], place: usize, value_length: usize) -> [u8; 4]
     requires behind_header { header_length ≤ place }
-    requires within { place + 4 + value_length ≤ length message.now }
+    requires within { place + attribute_header_length + value_length ≤ length message.now }
     requires limit { length message.now < header_length + 2 ^ 16 }
     ensures { result ≡
-        take 2 message.now ++ big_bytes 2 (place + 4 + value_length - header_length) }
+        take 2 message.now
+        ++ big_bytes 2 (place + attribute_header_length + value_length - header_length) }
 {
     let length = covered_length(place, value_length).to_be_bytes();
     [message[0], message[1], length[0], length[1]]
 }
 
-/// Whether the value of the integrity attribute at this place is the digest of what it covers, which is not copied.
+/// Whether the value of the integrity attribute at this place is the digest of what it covers. The
+/// message is not copied.
 fn is_digest(message: &[u8], key: &[u8], place: usize, attribute: &RawAttribute<'_>) -> bool
     requires behind_header { header_length ≤ place }
-    requires within { place + 4 + length attribute.now.value ≤ length message.now }
+    requires within { place + attribute_header_length + length attribute.now.value
+        ≤ length message.now }
     requires limit { length message.now < header_length + 2 ^ 16 }
-    requires whole { length attribute.now.value ≡ digest_length (integrity_algorithm attribute.now) }
+    requires whole { length attribute.now.value
+        ≡ digest_length (integrity_algorithm attribute.now) }
     ensures { result ≡ is_digest message.now key.now (place, attribute.now) }
 {
     let start = covered_start(message, place, attribute.length());
@@ -137,7 +153,7 @@ fn is_digest(message: &[u8], key: &[u8], place: usize, attribute: &RawAttribute<
     }
 }
 
-/// The same under a key that is prepared.
+/// The same under a prepared key.
 fn is_prepared_digest<A: Allocator>(
     message: &[u8],
     key: &PreparedKey<A>,
@@ -145,9 +161,11 @@ fn is_prepared_digest<A: Allocator>(
     attribute: &RawAttribute<'_>,
 ) -> bool
     requires behind_header { header_length ≤ place }
-    requires within { place + 4 + length attribute.now.value ≤ length message.now }
+    requires within { place + attribute_header_length + length attribute.now.value
+        ≤ length message.now }
     requires limit { length message.now < header_length + 2 ^ 16 }
-    requires whole { length attribute.now.value ≡ digest_length (integrity_algorithm attribute.now) }
+    requires whole { length attribute.now.value
+        ≡ digest_length (integrity_algorithm attribute.now) }
     ensures { result ≡ is_digest message.now key.now (place, attribute.now) }
 {
     let start = covered_start(message, place, attribute.length());
@@ -160,8 +178,8 @@ fn is_prepared_digest<A: Allocator>(
 }
 
 impl RawAttribute<'_> {
-    /// Whether it is a MESSAGE-INTEGRITY or MESSAGE-INTEGRITY-SHA256 whose value has a length that its type may have
-    /// (RFC 8489, sections 14.5 and 14.6).
+    /// Whether it is a MESSAGE-INTEGRITY or MESSAGE-INTEGRITY-SHA256 whose value has a length of
+    /// its type (RFC 8489, sections 14.5 and 14.6).
     pub fn is_integrity(&self) -> bool
         ensures { result ≡ is_integrity self.now }
     {
@@ -174,9 +192,9 @@ impl RawAttribute<'_> {
 
 impl<'a> Message<'a> {
     /// The attribute whose digest decides whether the message verifies, with the place of its first
-    /// byte in the message: the first visible MESSAGE-INTEGRITY-SHA256, and without one the first
-    /// visible MESSAGE-INTEGRITY (RFC 8489, sections 14.5 and 14.6). Its length is not looked at. It
-    /// does not allocate.
+    /// byte in the message. It is the first visible MESSAGE-INTEGRITY-SHA256, or without one the
+    /// first visible MESSAGE-INTEGRITY (RFC 8489, sections 14.5 and 14.6). Its value may have any
+    /// length. It does not allocate.
     ///
     /// `validate_integrity_at` and `validate_integrity_prepared` take what it returns.
     pub fn deciding_attribute(&self) -> Option<(usize, RawAttribute<'a>)>
@@ -187,9 +205,10 @@ impl<'a> Message<'a> {
         Some((place, RawAttribute::at(bytes, place)?))
     }
 
-    /// Verifies the digest of the message with these credentials, and answers its algorithm: under the password of a
-    /// short-term one, or under the long-term key of the deciding attribute's algorithm. It does not allocate, and makes no
-    /// key where no digest is to be compared. It refuses as `validate_integrity_with_key` does.
+    /// Verifies the digest of the message under the key of these credentials, and returns its
+    /// algorithm. The key is the password of a short-term credential, or the long-term key for the
+    /// algorithm of the deciding attribute. It is made only if a digest is compared. It does not
+    /// allocate, and fails as `validate_integrity_with_key` does.
     pub fn validate_integrity<A: Allocator>(
         &self,
         credentials: &MessageIntegrityCredentials<A>,
@@ -209,30 +228,33 @@ impl<'a> Message<'a> {
         Ok(algorithm)
     }
 
-    /// Verifies the digest of the message under a key, and answers its algorithm. It does not allocate, and compares
-    /// digests without an early exit (`stun_base::compare`).
+    /// Verifies the digest of the message under a key, and returns its algorithm. It does not
+    /// allocate, and compares digests without an early exit (`stun_base::compare`).
     ///
-    /// MESSAGE-INTEGRITY-SHA256 decides where it is visible, and MESSAGE-INTEGRITY where it is not. Without both it answers
-    /// `MissingAttribute` of MESSAGE-INTEGRITY, where the deciding one has a wrong length `InvalidAttributeData`, and where
-    /// its value is another or a cut digest `IntegrityFailed`. The algorithm is that of the digest, not of the key: a message
-    /// whose HMAC-SHA1 verifies is answered `Sha1`, however the key was made.
+    /// MESSAGE-INTEGRITY-SHA256 decides if it is visible, and else MESSAGE-INTEGRITY. If neither is
+    /// visible it fails with `MissingAttribute` of MESSAGE-INTEGRITY. If the deciding one has a
+    /// wrong length it fails with `InvalidAttributeData`. If its value is another digest, or one
+    /// that is cut short, it fails with `IntegrityFailed`. The algorithm is that of the digest, not
+    /// of the key: it is `Sha1` for a message whose HMAC-SHA1 verifies, however the key was made.
     pub fn validate_integrity_with_key<A: Allocator>(
         &self,
         key: &IntegrityKey<A>,
     ) -> Result<IntegrityAlgorithm, ValidateError>
-        ensures ok { IfOk result (λ algorithm. verified_algorithm self.now key.now ≡ Some algorithm) }
+        ensures ok { IfOk result (λ algorithm.
+            verified_algorithm self.now key.now ≡ Some algorithm) }
         ensures refused { IfErr result (λ error.
             (verified_algorithm self.now key.now ≡ None) × (error ≡ integrity_refusal self.now)) }
     {
         self.validate_integrity_with_key_bytes(key.as_bytes())
     }
 
-    /// The same under a key that is borrowed, of any length. It does not allocate.
+    /// The same under the bytes of a key, of any length. It does not allocate.
     pub fn validate_integrity_with_key_bytes(
         &self,
         key: &[u8],
     ) -> Result<IntegrityAlgorithm, ValidateError>
-        ensures ok { IfOk result (λ algorithm. verified_algorithm self.now key.now ≡ Some algorithm) }
+        ensures ok { IfOk result (λ algorithm.
+            verified_algorithm self.now key.now ≡ Some algorithm) }
         ensures refused { IfErr result (λ error.
             (verified_algorithm self.now key.now ≡ None) × (error ≡ integrity_refusal self.now)) }
     {
@@ -243,13 +265,14 @@ impl<'a> Message<'a> {
         Ok(integrity_algorithm(&attribute))
     }
 
-    /// The same under a key that is prepared: where it is for the algorithm of the digest, two blocks
+    /// The same under a prepared key. If it is prepared for the algorithm of the digest, two blocks
     /// fewer are hashed. It does not allocate.
     pub fn validate_integrity_with_prepared_key<A: Allocator>(
         &self,
         key: &PreparedKey<A>,
     ) -> Result<IntegrityAlgorithm, ValidateError>
-        ensures ok { IfOk result (λ algorithm. verified_algorithm self.now key.now ≡ Some algorithm) }
+        ensures ok { IfOk result (λ algorithm.
+            verified_algorithm self.now key.now ≡ Some algorithm) }
         ensures refused { IfErr result (λ error.
             (verified_algorithm self.now key.now ≡ None) × (error ≡ integrity_refusal self.now)) }
     {
@@ -260,9 +283,9 @@ impl<'a> Message<'a> {
         Ok(integrity_algorithm(&attribute))
     }
 
-    /// The same as `validate_integrity_with_key`, where the attribute that decides and its place are
-    /// known already: both are to be those that `deciding_attribute` returns for this message. No
-    /// attribute is walked, so that one walk does for many keys. It does not allocate.
+    /// The same as `validate_integrity_with_key`, for a deciding attribute that is already known.
+    /// Place and attribute are those that `deciding_attribute` returns for this message. It does
+    /// not walk the attributes, so one walk is enough for many keys. It does not allocate.
     pub fn validate_integrity_at<A: Allocator>(
         &self,
         place: usize,
@@ -270,7 +293,8 @@ impl<'a> Message<'a> {
         key: &IntegrityKey<A>,
     ) -> Result<IntegrityAlgorithm, ValidateError>
         requires { deciding self.now ≡ Some (place, attribute.now) }
-        ensures ok { IfOk result (λ algorithm. verified_algorithm self.now key.now ≡ Some algorithm) }
+        ensures ok { IfOk result (λ algorithm.
+            verified_algorithm self.now key.now ≡ Some algorithm) }
         ensures refused { IfErr result (λ error.
             (verified_algorithm self.now key.now ≡ None) × (error ≡ integrity_refusal self.now)) }
     {
@@ -281,8 +305,8 @@ impl<'a> Message<'a> {
         Ok(integrity_algorithm(attribute))
     }
 
-    /// The same as `validate_integrity_at`, under a key that is prepared: place and attribute are to
-    /// be those that `deciding_attribute` returns for this message.
+    /// The same as `validate_integrity_at`, under a prepared key. Place and attribute are those
+    /// that `deciding_attribute` returns for this message.
     pub fn validate_integrity_prepared<A: Allocator>(
         &self,
         place: usize,
@@ -290,7 +314,8 @@ impl<'a> Message<'a> {
         key: &PreparedKey<A>,
     ) -> Result<IntegrityAlgorithm, ValidateError>
         requires { deciding self.now ≡ Some (place, attribute.now) }
-        ensures ok { IfOk result (λ algorithm. verified_algorithm self.now key.now ≡ Some algorithm) }
+        ensures ok { IfOk result (λ algorithm.
+            verified_algorithm self.now key.now ≡ Some algorithm) }
         ensures refused { IfErr result (λ error.
             (verified_algorithm self.now key.now ≡ None) × (error ≡ integrity_refusal self.now)) }
     {

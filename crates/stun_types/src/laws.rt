@@ -1,25 +1,30 @@
-//! Laws of messages: those that the crates above build on first, then which messages are equal, then constants.
+//! Laws of messages: first those that the crates above use, then the equality of messages, then
+//! constants.
 //!
-//! A law is a function whose contract is the law; it does nothing, or in one line what its users do.
-ghost use Rattle.std.specs.Prelude.{◌≡◌, ◌↔◌, IsTrue, ℕ, false, Some, ◌≤◌, ◌<◌, ◌^◌, List, [], ◌∷◌, ◌++◌, length, take, slice_index};
+//! A law is a function whose contract is the law. It does nothing, or makes one call.
+ghost use Rattle.std.specs.Prelude.{◌≡◌, ℕ, false, Some, ◌≤◌, ◌<◌, ◌^◌};
+ghost use Rattle.std.specs.Prelude.{List, [], ◌∷◌, ◌++◌, length, take, slice_index};
 ghost use Rattle.stun_base.specs.Algorithm.{digest_length};
-ghost use Rattle.stun_base.specs.Attributes.{FINGERPRINT, MESSAGE_INTEGRITY, MESSAGE_INTEGRITY_SHA256};
+ghost use Rattle.stun_base.specs.Attributes.{FINGERPRINT, MESSAGE_INTEGRITY};
+ghost use Rattle.stun_base.specs.Attributes.{MESSAGE_INTEGRITY_SHA256};
 ghost use Rattle.stun_base.specs.Header.{transaction_id_field, type_field};
 ghost use Rattle.stun_types.specs.Attribute.{TypedValue};
-ghost use Rattle.stun_types.specs.Grammar.{spelled, SpellsWhatIsFound, FindsWhatIsSpelled, FindsWhatIsWritten};
+ghost use Rattle.stun_types.specs.Grammar.{spelled, SpellsWhatIsFound};
+ghost use Rattle.stun_types.specs.Grammar.{FindsWhatIsSpelled, FindsWhatIsWritten};
 ghost use Rattle.stun_types.specs.Integrity.{deciding, verified_algorithm, verified_by};
 ghost use Rattle.stun_types.specs.Limits.{max_length};
 ghost use Rattle.stun_types.specs.Message.{with_length};
 ghost use Rattle.stun_types.specs.Tail.{AgreeUpToIntegrity, IsContinuedAnew, besides_fingerprint};
 ghost use Rattle.stun_types.specs.Visible.{of_kind, visible};
 ghost use Rattle.stun_types.specs.Walk.{Member, walk};
-ghost use Rattle.stun_types.specs.Writing.{HasOneMore, IsAddable, IsOpen, integrity_attribute, is_set_apart, length_with, with_attribute, with_integrity};
+ghost use Rattle.stun_types.specs.Writing.{HasOneMore, IsAddable, IsOpen};
+ghost use Rattle.stun_types.specs.Writing.{integrity_attribute, is_set_apart};
+ghost use Rattle.stun_types.specs.Writing.{length_with, with_attribute, with_integrity};
 
-use crate::limits::{LENGTH_LIMIT, MAX_LENGTH, TEXT_LIMIT, USERNAME_LIMIT};
-use crate::message::Message;
 use stun_base::algorithm::IntegrityAlgorithm;
 
-/// A message is a header and spelled attributes: no others are found in it, and each list of attributes has a message.
+/// A message is a header and its attributes, spelled one after the other. No others are found in
+/// it, and each list of attributes has a message.
 pub fn message_is_spelled_attributes()
     ensures found { (bytes : List ℕ)
         → ((i : ℕ) → slice_index bytes i < 2 ^ 8) → SpellsWhatIsFound bytes }
@@ -29,8 +34,8 @@ pub fn message_is_spelled_attributes()
         → FindsWhatIsWritten message_type transaction_id attributes }
 {}
 
-/// Of the two integrity attributes and of FINGERPRINT at most one each is visible, so that the first and the last visible
-/// one are the same.
+/// At most one attribute of each of these types is visible: the two integrity attributes and
+/// FINGERPRINT. So the first visible one is the last.
 pub fn each_hiding_attribute_counts_once()
     ensures integrity { (bytes : List ℕ) → length (of_kind MESSAGE_INTEGRITY (visible bytes)) ≤ 1 }
     ensures integrity_sha256 { (bytes : List ℕ)
@@ -38,8 +43,9 @@ pub fn each_hiding_attribute_counts_once()
     ensures fingerprint { (bytes : List ℕ) → length (of_kind FINGERPRINT (visible bytes)) ≤ 1 }
 {}
 
-/// A builder's message is open and has no attributes; an attribute that is added to an open message is all that reading
-/// finds besides what it found before, and leaves it open where it is no integrity attribute.
+/// The message of a builder is open and has no attributes. In an open message with one attribute
+/// more, a reader finds the attributes from before, and that one after them. Such a message is open
+/// again unless that one is an integrity attribute.
 pub fn writing_adds_one_attribute()
     ensures begun { (message_type transaction_id : ℕ) → message_type < 2 ^ 14
         → IsOpen (spelled message_type transaction_id [])
@@ -57,8 +63,7 @@ pub fn writing_adds_one_attribute()
         ≡ spelled message_type transaction_id (attributes ++ attribute ∷ []) }
 {}
 
-/// What is signed verifies: a message with its integrity attribute is one whose digest the reader finds right, and it has
-/// that one attribute more.
+/// A signed message verifies. It has its integrity attribute, and no other attribute more.
 pub fn signed_message_stands()
     ensures stands { (message : List ℕ) (algorithm : IntegrityAlgorithm) (key : List ℕ)
         → IsOpen message → length_with message (digest_length algorithm) ≤ max_length
@@ -73,8 +78,9 @@ pub fn signed_message_stands()
         (integrity_attribute message algorithm key) }
 {}
 
-/// What follows the deciding attribute does not count, nor does the header's own length: two messages with the same
-/// deciding attribute at the same place, and the same bytes before it but for the length field, have the same verdict.
+/// The bytes after the deciding attribute do not change the verdict, nor does the length field.
+/// Messages with the same deciding attribute at the same place, and the same bytes before it but
+/// for the length, have the same verdict.
 pub fn tail_does_not_count()
     ensures { (keys : IntegrityAlgorithm → List ℕ) (bytes others : List ℕ) (m : Member)
         → deciding bytes ≡ Some m → deciding others ≡ Some m
@@ -82,8 +88,9 @@ pub fn tail_does_not_count()
         → verified_by keys bytes ≡ verified_by keys others }
 {}
 
-/// What follows the deciding attribute is hidden, but for FINGERPRINT: two messages that agree up to it have the same type, id
-/// and other visible attributes, and the same verdict. Whatever is put after it, they agree, unless it is a stronger one.
+/// What follows the deciding attribute is hidden, but for FINGERPRINT. Two messages that agree up
+/// to it have the same type, id, verdict, and visible attributes besides FINGERPRINT. They agree
+/// whatever follows it, unless a stronger one does.
 pub fn what_follows_integrity_is_hidden()
     ensures header { (bytes others : List ℕ) → AgreeUpToIntegrity bytes others
         → (type_field bytes ≡ type_field others)
@@ -95,17 +102,3 @@ pub fn what_follows_integrity_is_hidden()
     ensures appended { (bytes others : List ℕ) (m : Member)
         → IsContinuedAnew bytes others m → AgreeUpToIntegrity bytes others }
 {}
-
-/// Messages are equal where their bytes are.
-pub fn is_same_message(one: &Message<'_>, other: &Message<'_>) -> bool
-    ensures { IsTrue result ↔ (one.now ≡ other.now) }
-{
-    one == other
-}
-
-/// The limits in bytes: of texts, of a user name, of the message length, and of a message.
-pub fn limits() -> [usize; 4]
-    ensures { result ≡ 763 ∷ 513 ∷ 65532 ∷ 65552 ∷ [] }
-{
-    [TEXT_LIMIT, USERNAME_LIMIT, MAX_LENGTH, LENGTH_LIMIT]
-}

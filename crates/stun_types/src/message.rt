@@ -1,8 +1,11 @@
-//! Messages: read from bytes, and begun in a writer.
-ghost use Rattle.std.specs.Prelude.{◌≡◌, ◌+◌, ◌^◌, ◌<◌, ◌↔◌, ◌≤◌, length, [], IsTrue, IsOk, IfOk, OnOk, IfErr, IsErrOf, IsOkUnless, MatchOption, Some, None, ⊤};
+//! Messages: read from bytes, or begun in a writer.
+
+ghost use Rattle.std.specs.Prelude.{◌≡◌, ◌+◌, ◌^◌, ◌<◌, ◌↔◌, ◌≤◌, length, [], IsTrue, IsOk, IfOk};
+ghost use Rattle.std.specs.Prelude.{OnOk, IfErr, IsErrOf, IsOkUnless, MatchOption, Some, None, ⊤};
 ghost use Rattle.std.specs.Cmp.{partial_equiv_from_equiv};
 ghost use Rattle.stun_base.specs.Credentials.{same_text, same_text_equivalence};
-ghost use Rattle.stun_base.specs.Header.{HEADER_LENGTH as header_length, type_field, transaction_id_field};
+ghost use Rattle.stun_base.specs.Header.{HEADER_LENGTH as header_length};
+ghost use Rattle.stun_base.specs.Header.{type_field, transaction_id_field};
 ghost use Rattle.stun_base.specs.MessageType.{class_in, method_of, IsResponse};
 ghost use Rattle.stun_types.specs.Grammar.{spelled};
 ghost use Rattle.stun_types.specs.Integrity.{first_of as first_member_of};
@@ -11,12 +14,15 @@ ghost use Rattle.stun_types.specs.Message.{IsMessage, refusal};
 ghost use Rattle.stun_types.specs.Reading.{attribute_answer};
 ghost use Rattle.stun_types.specs.Visible.{visible};
 ghost use Rattle.stun_types.specs.Walk.{walk};
-ghost use Rattle.stun_types.specs.Writing.{IsOpen, begun, begun_answer};
+ghost use Rattle.stun_types.specs.Writing.{IsOpen, empty_message, empty_answer};
+
+pub(crate) mod attributes_iter;
+pub(crate) mod walk;
 
 use crate::attribute::{AttributeFromRaw, AttributeStaticType};
-pub use crate::attributes_iter::MessageAttributesIter;
 use crate::integrity::first_of;
-use crate::walk::kind_at;
+pub use crate::message::attributes_iter::MessageAttributesIter;
+use crate::message::walk::kind_at;
 use crate::write::MessageWrite;
 pub use crate::write::{MessageWriteMutSlice, MessageWriteVec};
 use std::alloc::AllocError;
@@ -34,7 +40,7 @@ pub use stun_base::message_type::{BINDING, MessageClass, MessageType, Method};
 pub use stun_base::prepared_key::PreparedKey;
 pub use stun_base::transaction_id::TransactionId;
 
-/// A message, seen as its bytes, which it borrows.
+/// A message. It borrows its bytes. Contracts see its bytes.
 #[derive(Debug, Drop)]
 pub struct Message<'a> {
     header: MessageHeader,
@@ -66,7 +72,7 @@ impl<'a> Clone for Message<'a> {
     }
 }
 
-/// Equal are messages of the same bytes.
+/// Messages are equal if and only if their bytes are.
 impl<'a> PartialEq for Message<'a> {
     ghost eq = { same_text };
 
@@ -84,9 +90,9 @@ impl<'a> Eq for Message<'a> {
 impl<'a> Message<'a> {
     /// The message that these bytes are (RFC 8489, sections 5 and 14). It does not allocate.
     ///
-    /// The errors, in the order in which they are looked for: those of `MessageHeader::from_bytes`; `Truncated` for fewer
-    /// bytes than the header states; `TooLarge` for more; `Truncated` where an attribute with its padding passes the end.
-    /// The values of attributes are not looked at.
+    /// It fails with the first of these that holds: the errors of `MessageHeader::from_bytes`;
+    /// `Truncated` for fewer bytes than the header states; `TooLarge` for more; `Truncated` if an
+    /// attribute or its padding goes past the end. The values of attributes are not read.
     pub fn from_bytes(bytes: &'a [u8]) -> Result<Message<'a>, StunParseError>
         ensures ok { IsOk result ↔ IsMessage bytes.now }
         ensures value { IfOk result (λ message. message ≡ bytes.now) }
@@ -111,8 +117,9 @@ impl<'a> Message<'a> {
         Ok(Message { header, bytes })
     }
 
-    /// A message without attributes, in an empty writer: `TooSmall` where it has no room for the 20 bytes of a header, else
-    /// `OutOfMemory` where an allocation fails. A refusal drops the writer.
+    /// A message without attributes, in an empty writer. It fails with `TooSmall` if the writer has
+    /// no room for the 20 bytes of a header, then with `OutOfMemory` if an allocation fails. If it
+    /// fails the writer is dropped.
     pub fn builder<W: MessageWrite>(
         message_type: MessageType,
         id: TransactionId,
@@ -137,7 +144,7 @@ impl<'a> Message<'a> {
         Ok(writer)
     }
 
-    /// A request without attributes, in an empty writer. It refuses as `builder` does.
+    /// A request without attributes, in an empty writer. It fails as `builder` does.
     pub fn builder_request<W: MessageWrite>(
         method: Method,
         id: TransactionId,
@@ -145,7 +152,7 @@ impl<'a> Message<'a> {
     ) -> Result<W, StunWriteError>
         requires { W.bytes writer ≡ [] }
         ensures bytes { IfOk result (λ built. W.bytes built
-            ≡ begun MessageClass.Request method id) }
+            ≡ empty_message MessageClass.Request method id) }
         ensures open { IfOk result (λ built. IsOpen (W.bytes built)) }
         ensures empty { IfOk result (λ built. walk (W.bytes built) ≡ []) }
         ensures room { IfOk result (λ built. W.room built + header_length ≡ W.room writer) }
@@ -162,7 +169,7 @@ impl<'a> Message<'a> {
         )
     }
 
-    /// An indication without attributes, in an empty writer. It refuses as `builder` does.
+    /// An indication without attributes, in an empty writer. It fails as `builder` does.
     pub fn builder_indication<W: MessageWrite>(
         method: Method,
         id: TransactionId,
@@ -170,7 +177,7 @@ impl<'a> Message<'a> {
     ) -> Result<W, StunWriteError>
         requires { W.bytes writer ≡ [] }
         ensures bytes { IfOk result (λ built. W.bytes built
-            ≡ begun MessageClass.Indication method id) }
+            ≡ empty_message MessageClass.Indication method id) }
         ensures open { IfOk result (λ built. IsOpen (W.bytes built)) }
         ensures empty { IfOk result (λ built. walk (W.bytes built) ≡ []) }
         ensures room { IfOk result (λ built. W.room built + header_length ≡ W.room writer) }
@@ -187,15 +194,15 @@ impl<'a> Message<'a> {
         )
     }
 
-    /// A success response to a message, with its method and id and without attributes, in an empty writer. It refuses as
-    /// `builder` does.
+    /// A success response to a message, with its method and id and without attributes, in an empty
+    /// writer. It fails as `builder` does.
     pub fn builder_success<W: MessageWrite>(
         message: &Message<'_>,
         writer: W,
     ) -> Result<W, StunWriteError>
         requires { W.bytes writer ≡ [] }
         ensures bytes { IfOk result (λ built. W.bytes built
-            ≡ begun_answer MessageClass.Success message.now) }
+            ≡ empty_answer MessageClass.Success message.now) }
         ensures open { IfOk result (λ built. IsOpen (W.bytes built)) }
         ensures empty { IfOk result (λ built. walk (W.bytes built) ≡ []) }
         ensures room { IfOk result (λ built. W.room built + header_length ≡ W.room writer) }
@@ -212,15 +219,15 @@ impl<'a> Message<'a> {
         )
     }
 
-    /// An error response to a message, with its method and id and without attributes, in an empty writer. It refuses as
-    /// `builder` does.
+    /// An error response to a message, with its method and id and without attributes, in an empty
+    /// writer. It fails as `builder` does.
     pub fn builder_error<W: MessageWrite>(
         message: &Message<'_>,
         writer: W,
     ) -> Result<W, StunWriteError>
         requires { W.bytes writer ≡ [] }
         ensures bytes { IfOk result (λ built. W.bytes built
-            ≡ begun_answer MessageClass.Error message.now) }
+            ≡ empty_answer MessageClass.Error message.now) }
         ensures open { IfOk result (λ built. IsOpen (W.bytes built)) }
         ensures empty { IfOk result (λ built. walk (W.bytes built) ≡ []) }
         ensures room { IfOk result (λ built. W.room built + header_length ≡ W.room writer) }
@@ -290,8 +297,9 @@ impl<'a> Message<'a> {
 
     /// The visible attributes in their order, each with the place of its first byte in the message.
     ///
-    /// After MESSAGE-INTEGRITY only MESSAGE-INTEGRITY-SHA256 and FINGERPRINT are visible, after MESSAGE-INTEGRITY-SHA256
-    /// only FINGERPRINT, after FINGERPRINT nothing (RFC 8489, sections 14.5 to 14.7).
+    /// After MESSAGE-INTEGRITY only MESSAGE-INTEGRITY-SHA256 and FINGERPRINT are visible, after
+    /// MESSAGE-INTEGRITY-SHA256 only FINGERPRINT, after FINGERPRINT nothing (RFC 8489, sections
+    /// 14.5 to 14.7).
     pub fn iter_attributes(&self) -> MessageAttributesIter<'a>
         ensures visible { result ≡ visible self.now }
         ensures few { length result < 2 ^ 14 }
@@ -299,12 +307,13 @@ impl<'a> Message<'a> {
         MessageAttributesIter::new(self.as_bytes())
     }
 
-    /// The first visible attribute of its type, read: `MissingAttribute` where there is none, `InvalidAttributeData` where
-    /// it is malformed.
+    /// Reads the first visible attribute of its type. It fails with `MissingAttribute` if there is
+    /// none, and with `InvalidAttributeData` if it is malformed.
     ///
-    /// It is not for asking who signed a message. A type may occur more than once, and those who validate a message read
-    /// the last of a type, this call the first: a request with two USERNAMEs is validated as the user that the last one
-    /// names, and read here as the first. Ask the call that validated the message.
+    /// Do not ask by it who signed a message: ask the call that validated the message. A type may
+    /// occur more than once. This call reads the first of a type, and the calls that validate a
+    /// message read the last. A request with two USERNAMEs is validated as the user of the last
+    /// one, and this call returns the first.
     pub fn attribute<A: AttributeFromRaw<'a> + AttributeStaticType>(
         &self,
     ) -> Result<A, StunParseError>

@@ -1,45 +1,49 @@
-//! Where messages are written to.
+//! Writers of messages.
 
-ghost use Rattle.std.specs.Prelude.{◌≡◌, ◌≤◌, ◌<◌, ◌+◌, ◌-◌, ◌↔◌, ℕ, List, ◌++◌, length, IsErrOf, IsOk, OnOk, IsOkUnless};
+ghost use Rattle.std.specs.Prelude.{◌≡◌, ◌≤◌, ◌<◌, ◌+◌, ◌-◌, ◌↔◌, ℕ, List, ◌++◌};
+ghost use Rattle.std.specs.Prelude.{length, IsErrOf, IsOk, OnOk, IsOkUnless};
+ghost use Rattle.stun_base.specs.Header.{HEADER_LENGTH as header_length};
 ghost use Rattle.stun_types.specs.Message.{with_length};
 
 use stun_base::data::OwnedBytes;
 use stun_base::error::StunWriteError;
 
+pub(crate) mod append;
+pub(crate) mod ext;
 mod mut_slice;
 mod vec;
 
 pub use mut_slice::MessageWriteMutSlice;
 pub use vec::MessageWriteVec;
 
-/// Something that a message is written to.
+/// A writer of a message.
 ///
-/// Bytes are appended where they were reserved before, so that only `reserve` can fail.
+/// Only bytes that were reserved are appended, so only `reserve` can fail.
 pub trait MessageWrite: Drop {
-    /// What is left when writing is over. It holds the bytes.
+    /// What the writer becomes at the end. It holds the bytes.
     type Output: OwnedBytes;
 
     // The bytes written so far.
     ghost bytes: { Self → List ℕ };
 
-    // How many bytes more there is room for.
+    // How many more bytes fit.
     ghost room: { Self → ℕ };
 
-    // How many bytes more can be appended at once.
+    // How many more bytes can be appended without a reservation.
     ghost reserved: { Self → ℕ };
 
     /// The bytes written so far.
     fn data(&self) -> &[u8]
         ensures { result.now ≡ bytes self.now };
 
-    /// How many bytes more there is room for.
+    /// How many more bytes fit.
     fn room(&self) -> usize
         ensures value { result ≡ room self.now }
         ensures reserved { reserved self.now ≤ room self.now };
 
-    /// Makes sure that so many bytes can be appended: `TooSmall` where the room is less, else `OutOfMemory` where an
-    /// allocation fails. Bytes and room stay as they were, what was reserved before is never refused, and it stays reserved
-    /// whatever the answer is.
+    /// Reserves so many bytes. It fails with `TooSmall` if they do not fit, then with `OutOfMemory`
+    /// if an allocation fails. It never fails for bytes that are reserved already, and these stay
+    /// reserved. Bytes and room stay as they were.
     fn reserve(&mut self, additional: usize) -> Result<(), StunWriteError>
         ensures bytes { bytes self.new ≡ bytes self.old }
         ensures room { room self.new ≡ room self.old }
@@ -48,7 +52,7 @@ pub trait MessageWrite: Drop {
         ensures otherwise_memory { additional ≤ room self.old
             → IsOkUnless result StunWriteError.OutOfMemory }
 
-        // What is reserved already is not refused.
+        // It succeeds if so many are reserved already.
         ensures reserved { additional ≤ reserved self.old → IsOk result }
         ensures kept { reserved self.old ≤ reserved self.new };
 
@@ -61,7 +65,7 @@ pub trait MessageWrite: Drop {
 
     /// Sets the length field of the header.
     fn set_length(&mut self, message_length: u16)
-        requires { 20 ≤ length (bytes self.old) }
+        requires { header_length ≤ length (bytes self.old) }
         ensures bytes { bytes self.new ≡ with_length (bytes self.old) message_length }
         ensures room { room self.new ≡ room self.old }
         ensures reserved { reserved self.new ≡ reserved self.old };

@@ -1,10 +1,10 @@
 -- Deadlines in a tree: which it holds, in which order, and the least id of those that have come.
 use Rattle.std.specs.Prelude.{ℕ, ◌≡◌, ◌+◌, ◌-◌, ◌*◌, ◌/◌, ◌^◌, ◌<◌, ◌≤◌, ◌⊎◌, max, Bool, true, false, not, ◌&&◌, ◌==◌, nat_le, if◌then◌else◌, List, [], ◌∷◌, ◌++◌, Option, Some, None, MatchOption, map, filter, fold, IsPermutation}
 use Rattle.std.specs.List.{AllByRecursion, IsDistinct}
-use Rattle.stun_agent.specs.declared.deadlines.Deadline.{Deadline}
-use Rattle.stun_agent.specs.declared.deadline_tree.Link.{Link}
-use Rattle.stun_agent.specs.declared.deadline_tree.Link.TheVariants.{Empty, Held'}
-use Rattle.stun_agent.specs.declared.deadline_tree.Node.{Node}
+use Rattle.stun_agent.specs.declared.state.deadlines.Deadline.{Deadline}
+use Rattle.stun_agent.specs.declared.state.deadline_tree.Link.{Link}
+use Rattle.stun_agent.specs.declared.state.deadline_tree.Link.TheVariants.{Empty, Held'}
+use Rattle.stun_agent.specs.declared.state.deadline_tree.Node.{Node}
 use Rattle.stun_agent.specs.Transactions.{sooner}
 use Rattle.stun_agent.specs.code.Deadlines.{entries_at, is_passed}
 
@@ -81,8 +81,8 @@ is_no_later (d ∷ ds) [] = true
 is_no_later (d ∷ ds) (e ∷ es) = nat_le d.moment e.moment
 
 -- the deadline of an id is taken out, if there is one
-abbrev pub Takes : ℕ → List Deadline → Option Deadline → List Deadline → Type 0
-Takes id old taken new =
+abbrev pub TakesOut : ℕ → List Deadline → Option Deadline → List Deadline → Type 0
+TakesOut id old taken new =
     MatchOption taken ((entries_at id old ≡ []) × (new ≡ old)) (λ d. (d.id ≡ id) × IsPermutation old (d ∷ new))
 
 -- the first one is taken out, if there is any
@@ -124,9 +124,9 @@ abbrev pub least_come : ℕ → Option ℕ → List Deadline → Option ℕ
 least_come now last ds = fold sooner None (map (λ d. d.id) (filter (λ d. nat_le d.moment now && not (is_passed last d.id)) ds))
 
 -- the first of these has come, and there is one
-abbrev pub first_come : ℕ → List Deadline → Bool
-first_come now [] = false
-first_come now (d ∷ ds) = nat_le d.moment now
+abbrev pub first_has_come : ℕ → List Deadline → Bool
+first_has_come now [] = false
+first_has_come now (d ∷ ds) = nat_le d.moment now
 
 -- how many nodes may be read to find an id from `low` on, where paths have so many: those of two paths, and those of one
 -- where there is no such id, or where none is passed

@@ -1,10 +1,10 @@
 -- What the map of outstanding requests holds, and how one of them is changed.
 use Rattle.std.specs.Prelude.{ℕ, Bool, List, Option, Some, None, if◌then◌else◌, length}
 use Rattle.std.specs.declared.net.socket_addr.SocketAddr.{SocketAddr}
-use Rattle.stun_base.specs.declared.transport.TransportType.{TransportType}
-use Rattle.stun_agent.specs.declared.deadlines.Deadline.{Deadline}
-use Rattle.stun_agent.specs.declared.transaction.Change.{Change}
-use Rattle.stun_agent.specs.declared.transaction.Change.TheVariants.{Silence, Cancel, Configure}
+use Rattle.stun_base.specs.declared.wire.transport.TransportType.{TransportType}
+use Rattle.stun_agent.specs.declared.state.deadlines.Deadline.{Deadline}
+use Rattle.stun_agent.specs.declared.state.transaction.Change.{Change}
+use Rattle.stun_agent.specs.declared.state.transaction.Change.TheVariants.{Silence, Cancel, Configure}
 use Rattle.stun_agent.specs.Timing.{settings_of}
 use Rattle.stun_agent.specs.Transactions.{Transaction, Transactions, repeats, silenced, cancelled, configured}
 use Rattle.stun_agent.specs.code.Deadlines.{deadline_of}
@@ -23,8 +23,8 @@ abbrev pub length_sent : Transaction → Option ℕ
 length_sent t = if repeats t.sending then Some (length t.bytes) else None
 
 -- what is told of one that ends: its id, and whether it was still sent again
-abbrev pub told_of_end : ℕ × Transaction → ℕ × Bool
-told_of_end e = (e.0, repeats e.1.sending)
+abbrev pub id_and_repeats : ℕ × Transaction → ℕ × Bool
+id_and_repeats e = (e.0, repeats e.1.sending)
 
 -- what a change of its user makes of a transaction
 abbrev pub after_change : Change → Transaction → Transaction
@@ -33,5 +33,5 @@ after_change Cancel t = cancelled t
 after_change (Configure settings) t = configured (settings_of settings) t
 
 -- what a transaction awaits before a change and after it
-abbrev pub awaited_around : TransportType → (Transaction → Transaction) → ℕ → Transaction → Deadline × Deadline
-awaited_around transport f id t = (deadline_of transport (id, t), deadline_of transport (id, f t))
+abbrev pub deadlines_around : TransportType → (Transaction → Transaction) → ℕ → Transaction → Deadline × Deadline
+deadlines_around transport f id t = (deadline_of transport (id, t), deadline_of transport (id, f t))

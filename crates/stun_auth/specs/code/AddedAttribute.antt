@@ -2,8 +2,8 @@
 use Rattle.std.specs.Prelude.{map}
 use Rattle.stun_types.specs.Attribute.{TypedValue}
 use Rattle.stun_types.specs.PasswordAlgorithms.{integrity_of}
-use Rattle.stun_auth.specs.declared.addition.AddedAttribute.{AddedAttribute}
-use Rattle.stun_auth.specs.declared.addition.AddedAttribute.TheVariants.{Nonce, Realm, Username, Userhash, PasswordAlgorithms, PasswordAlgorithm}
+use Rattle.stun_auth.specs.declared.message.addition.AddedAttribute.{AddedAttribute}
+use Rattle.stun_auth.specs.declared.message.addition.AddedAttribute.TheVariants.{Nonce, Realm, Username, Userhash, PasswordAlgorithms, PasswordAlgorithm}
 use Rattle.stun_auth.specs.AddedAttribute.{nonce, password_algorithm, password_algorithms, realm, userhash, username}
 
 -- the attribute that is added

@@ -1,6 +1,6 @@
 -- What adding one attribute after another comes to, as the code tells it.
 use Rattle.std.specs.Prelude.{◌≡◌, ℕ, ◌+◌, ◌≤◌, List, Result, Ok, Err, OnOk}
-use Rattle.stun_base.specs.declared.error.StunWriteError.{StunWriteError}
+use Rattle.stun_base.specs.declared.wire.error.StunWriteError.{StunWriteError}
 use Rattle.stun_auth.specs.Additions.{Addition, Page, UnlessMemory, WantsMemory, added_all, growth}
 
 -- an answer, with the page that success leaves

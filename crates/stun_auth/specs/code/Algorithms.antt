@@ -1,8 +1,8 @@
 -- Algorithms and sets of them as data, for Models.
 use Rattle.std.specs.Prelude.{◌≡◌, ℕ, zero, suc, Bool, true, false, refl}
 use Rattle.std.specs.Coded.{Coded, code_by, coded_ℕ, coded_bool}
-use Rattle.stun_base.specs.declared.algorithm.IntegrityAlgorithm.{IntegrityAlgorithm}
-use Rattle.stun_base.specs.declared.algorithm.IntegrityAlgorithm.TheVariants.{Sha1, Sha256}
+use Rattle.stun_base.specs.declared.keys.algorithm.IntegrityAlgorithm.{IntegrityAlgorithm}
+use Rattle.stun_base.specs.declared.keys.algorithm.IntegrityAlgorithm.TheVariants.{Sha1, Sha256}
 use Rattle.stun_auth.specs.declared.algorithm_set.AlgorithmSet.{AlgorithmSet}
 use Rattle.stun_auth.specs.declared.algorithm_set.AlgorithmSet.TheVariants.{OnlySha1, OnlySha256, Both}
 use Rattle.stun_auth.specs.Algorithms.{is_sha256}

@@ -6,11 +6,11 @@ use Rattle.stun_types.specs.PasswordAlgorithms.{integrity_of}
 use Rattle.stun_auth.specs.Client.{Naming, plain, hashed, Challenge, ClientState, initial, authenticating, authenticated}
 use Rattle.stun_auth.specs.ClientSigning.{kept_challenge}
 use Rattle.stun_auth.specs.ClientStep.{kept}
-use Rattle.stun_auth.specs.declared.challenge.Refusal.{Refusal}
-use Rattle.stun_auth.specs.declared.challenge.UserNaming.{UserNaming}
-use Rattle.stun_auth.specs.declared.challenge.UserNaming.TheVariants.{Plain, Hashed}
-use Rattle.stun_auth.specs.declared.challenge.KeptChallenge.{KeptChallenge}
-use Rattle.stun_auth.specs.declared.challenge.Offer.{Offer}
+use Rattle.stun_auth.specs.declared.client.challenge.Refusal.{Refusal}
+use Rattle.stun_auth.specs.declared.client.challenge.UserNaming.{UserNaming}
+use Rattle.stun_auth.specs.declared.client.challenge.UserNaming.TheVariants.{Plain, Hashed}
+use Rattle.stun_auth.specs.declared.client.challenge.KeptChallenge.{KeptChallenge}
+use Rattle.stun_auth.specs.declared.client.challenge.Offer.{Offer}
 use Rattle.stun_auth.specs.declared.client.State.{State}
 use Rattle.stun_auth.specs.declared.feature.Feature.{Feature}
 

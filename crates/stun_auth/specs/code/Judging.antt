@@ -6,12 +6,12 @@ use Rattle.std.specs.declared.net.socket_addr.SocketAddr.{SocketAddr}
 use Rattle.std.specs.declared.result.Result.{Result}
 use Rattle.std.specs.declared.result.Result.TheVariants.{Ok, Err}
 use Rattle.stun_auth.specs.declared.feature.Feature.{Feature}
-use Rattle.stun_auth.specs.declared.server_reason.Refusal.{Refusal}
-use Rattle.stun_auth.specs.declared.server_reason.LongTermServerValidation.TheVariants.{Validated}
+use Rattle.stun_auth.specs.declared.server.reason.Refusal.{Refusal}
+use Rattle.stun_auth.specs.declared.server.reason.LongTermServerValidation.TheVariants.{Validated}
 use Rattle.stun_auth.specs.declared.server.validation.Judgement.{Judgement}
 use Rattle.stun_auth.specs.declared.server.validation.Judgement.TheVariants.{Refused, Known, New}
 use Rattle.stun_auth.specs.declared.server.validation.Renewal.{Renewal}
-use Rattle.stun_auth.specs.declared.verdict.Accepted.{Accepted}
+use Rattle.stun_auth.specs.declared.server.verdict.Accepted.{Accepted}
 use Rattle.stun_auth.specs.code.Places.{client_seen}
 use Rattle.stun_auth.specs.Feature.{is_possible}
 use Rattle.stun_auth.specs.Places.{PlacesSeen, with_change}

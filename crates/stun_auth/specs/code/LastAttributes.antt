@@ -3,14 +3,14 @@ use Rattle.std.specs.Prelude.{ℕ, ◌==◌, ◌||◌, if◌then◌else◌, List
 use Rattle.std.specs.List.{find}
 use Rattle.std.specs.Option.{is_some, option_and_then, option_map, option_or}
 use Rattle.stun_base.specs.Attributes.{ERROR_CODE, MESSAGE_INTEGRITY, MESSAGE_INTEGRITY_SHA256, NONCE, PASSWORD_ALGORITHM, PASSWORD_ALGORITHMS, REALM, USERHASH, USERNAME}
-use Rattle.stun_base.specs.declared.message_type.MessageClass.{MessageClass}
+use Rattle.stun_base.specs.declared.wire.message_type.MessageClass.{MessageClass}
 use Rattle.stun_types.specs.Attribute.{TypedValue}
 use Rattle.stun_types.specs.ErrorCode.{CodeAndReason, error_of}
 use Rattle.stun_types.specs.Integrity.{first_of, is_integrity}
 use Rattle.stun_types.specs.Walk.{Member}
 use Rattle.stun_base.specs.MessageType.{is_error}
 use Rattle.stun_auth.specs.Reading.{last_of}
-use Rattle.stun_auth.specs.declared.reading.LastAttributes.{LastAttributes}
+use Rattle.stun_auth.specs.declared.message.reading.LastAttributes.{LastAttributes}
 
 -- those of the members of a message
 abbrev pub last_attributes : List Member → LastAttributes

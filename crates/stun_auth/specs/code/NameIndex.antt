@@ -8,7 +8,7 @@ use Rattle.std.specs.FinSet as set
 use Rattle.std.specs.Str.{bytes_eq}
 use Rattle.std.specs.String.{string_bytes}
 use Rattle.stun_base.specs.Keys.{userhash}
-use Rattle.stun_auth.specs.Registered.{name_cmp}
+use Rattle.stun_auth.specs.Registered.{UserSecret, name_cmp}
 
 -- pairs of a hash and a name are ordered by the hash and then by the name
 abbrev pub hashed_cmp : List ℕ × List ℕ → List ℕ × List ℕ → Ordering
@@ -34,6 +34,6 @@ IsLeastNamed names hash (Some least) =
     (set.contains names (hash, least) ≡ true) × ((name : List ℕ) → set.contains names (hash, name) ≡ true → is_gt (name_cmp least name) ≡ false)
 
 -- the names are those of the present users, each with its hash at the realm
-abbrev pub IsIndexOf : List ℕ → fin.FinMap name_cmp (List ℕ) → HashedNames → Type 0
-IsIndexOf realm passwords names =
-    (hash name : List ℕ) → set.contains names (hash, name) ≡ (bytes_eq hash (userhash name realm) && fin.contains_key passwords name)
+abbrev pub IsIndexOf : List ℕ → fin.FinMap name_cmp UserSecret → HashedNames → Type 0
+IsIndexOf realm secrets names =
+    (hash name : List ℕ) → set.contains names (hash, name) ≡ (bytes_eq hash (userhash name realm) && fin.contains_key secrets name)

@@ -8,8 +8,8 @@ use Rattle.std.specs.FinMap as fin
 use Rattle.std.specs.String.{string_bytes}
 use Rattle.std.specs.declared.net.socket_addr.SocketAddr.{SocketAddr}
 use Rattle.stun_base.specs.Address.{address_cmp}
-use Rattle.stun_auth.specs.declared.places.Client.{Client}
-use Rattle.stun_auth.specs.declared.places.Place.{Place}
+use Rattle.stun_auth.specs.declared.server.places.Client.{Client}
+use Rattle.stun_auth.specs.declared.server.places.Place.{Place}
 use Rattle.stun_auth.specs.Seen.{ClientSeen, PlaceSeen, renewed}
 use Rattle.stun_auth.specs.Places.{PlacesSeen, with_client}
 

@@ -1,7 +1,7 @@
 -- The list of supported algorithms as the struct of the code keeps it.
 use Rattle.std.specs.Prelude.{List, [], ◌∷◌}
-use Rattle.stun_base.specs.declared.algorithm.IntegrityAlgorithm.{IntegrityAlgorithm}
-use Rattle.stun_base.specs.declared.algorithm.IntegrityAlgorithm.TheVariants.{Sha1, Sha256}
+use Rattle.stun_base.specs.declared.keys.algorithm.IntegrityAlgorithm.{IntegrityAlgorithm}
+use Rattle.stun_base.specs.declared.keys.algorithm.IntegrityAlgorithm.TheVariants.{Sha1, Sha256}
 use Rattle.stun_auth.specs.declared.supported.Supported.{Supported}
 use Rattle.stun_auth.specs.declared.supported.Supported.TheVariants.{Only, Both}
 

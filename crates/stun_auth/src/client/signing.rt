@@ -11,10 +11,12 @@ ghost use Rattle.stun_auth.specs.code.ClientKept.{KeepsShortTexts, challenge_see
 ghost use Rattle.stun_auth.specs.ClientSigning.{algorithm_choice, challenge_additions, client_additions, identity, kept_challenge, name_attribute, signing_algorithm};
 ghost use Rattle.stun_auth.specs.Signed.{ClientMaySign, added_by_client};
 
-use crate::addition::{AddedAttribute, add, add_integrity, attribute_bytes, integrity_bytes};
-use crate::challenge::{KeptChallenge, UserNaming};
+use crate::client::challenge::{KeptChallenge, UserNaming};
 use crate::client::{LongTermClientAuth, State};
 use crate::laws::sides_sign_what_is_signable;
+use crate::message::addition::{
+    AddedAttribute, add, add_integrity, attribute_bytes, integrity_bytes,
+};
 use std::alloc::{AllocError, Allocator};
 use stun_types::message::{IntegrityAlgorithm, MessageClass, StunWriteError};
 use stun_types::prelude::*;

@@ -3,13 +3,14 @@
 //!
 //! ```text
 //! let Some(named) = server.named_user(&message, from) else { .. validate_incoming_message .. };
-//! let mut user = server.prepare_user(look_up(named)?)?;
+//! let mut user = server.prepare_user(look_up(named)?)?; // or prepare_user_with_keys
 //! let verdict = server.validate_incoming_message_of(&message, from, now, &mut rng, &mut user);
 //! let answer = server.sign_outgoing_message_of(answer, from, &mut user)?;
 //! ```
 
 ghost use Rattle.std.specs.Prelude.{◌≡◌, ◌≤◌, ◌+◌, ⊤, Some, IfOk, IsOk, OnOk, OnErr, if◌then◌else◌, length};
 ghost use Rattle.std.specs.Option.{option_map};
+ghost use Rattle.std.specs.String.{string_bytes};
 ghost use Rattle.stun_base.specs.Header.{BeginsWithHeader};
 ghost use Rattle.stun_base.specs.MessageType.{class_in, is_response as is_response_class};
 ghost use Rattle.stun_base.specs.Words.{next_words, after_words};
@@ -17,17 +18,20 @@ ghost use Rattle.stun_auth.specs.Additions.{UnlessMemory, WantsMemory, page_in, 
 ghost use Rattle.stun_auth.specs.Handed.{judged_by, just, named_in, named_seen, with_users};
 ghost use Rattle.stun_auth.specs.Reading.{reading_of};
 ghost use Rattle.stun_auth.specs.Reasons.{OrMemory};
+ghost use Rattle.stun_auth.specs.Registered.{user_by_keys, user_by_password};
 ghost use Rattle.stun_auth.specs.ServerSigning.{after_signing, server_additions, server_growth, server_signed};
 ghost use Rattle.stun_auth.specs.Signed.{ServerMaySign};
 ghost use Rattle.stun_auth.specs.Validation.{ChangesNothing, ValidatesAccepted, after_message, answer, draws, sight};
 ghost use Rattle.stun_auth.specs.code.ReadingSeen.{reading_seen};
 
 use crate::feature::Feature;
-use crate::named_user::NamedUser;
-use crate::reading::Reading;
+use crate::message::reading::Reading;
 use crate::server::LongTermServerAuth;
-use crate::server_reason::{LongTermServerAuthError, LongTermServerValidation};
-use crate::server_user::LongTermServerUser;
+use crate::server::named_user::NamedUser;
+use crate::server::reason::{LongTermServerAuthError, LongTermServerValidation};
+use crate::server::stored_keys::StoredKeys;
+use crate::server::user::LongTermServerUser;
+use crate::server::user_secret::UserSecret;
 use rand_core::Rng;
 use std::alloc::{AllocError, Allocator};
 use std::mem;
@@ -92,9 +96,34 @@ impl<A: Allocator + Copy> LongTermServerAuth<A> {
         &self,
         credentials: LongTermCredentials<A>,
     ) -> Result<LongTermServerUser<A>, AllocError>
-        ensures { IfOk result (λ user. user ≡ just self.now.registered (Some credentials)) }
+        ensures { IfOk result (λ user. user
+            ≡ just self.now.registered (Some (user_by_password credentials))) }
     {
-        let registry = self.registry.with_just(credentials)?;
+        let (name, password) = credentials.into_parts();
+        let registry = self
+            .registry
+            .with_just(name, UserSecret::Password(password))?;
+        Ok(LongTermServerUser { registry })
+    }
+
+    /// A user with the keys that are stored for a name at the server's realm: to be handed in with
+    /// a message, as `prepare_user` makes one of a password. The user has those of the keys whose
+    /// algorithms the server supports now. The server stays as it is. Prepare the user anew where
+    /// the supported algorithms changed.
+    ///
+    /// With the keys that a password makes at the server's realm, the user is judged and signed for
+    /// as the user of that password (law `stored_keys_are_as_their_password`).
+    ///
+    /// The one error is that an allocation fails.
+    pub fn prepare_user_with_keys(
+        &self,
+        name: String<A>,
+        keys: StoredKeys,
+    ) -> Result<LongTermServerUser<A>, AllocError>
+        ensures { IfOk result (λ user. user
+            ≡ just self.now.registered (Some (user_by_keys (string_bytes name) keys))) }
+    {
+        let registry = self.registry.with_just(name, UserSecret::Keys(keys))?;
         Ok(LongTermServerUser { registry })
     }
 

@@ -13,11 +13,13 @@ ghost use Rattle.stun_auth.specs.Seen.{PlaceSeen};
 ghost use Rattle.stun_auth.specs.Signed.{ServerMaySign};
 ghost use Rattle.stun_auth.specs.Validation.{sight};
 
-use crate::addition::{AddedAttribute, add, add_integrity, attribute_bytes, integrity_bytes};
 use crate::algorithm_set::AlgorithmSet;
 use crate::laws::sides_sign_what_is_signable;
-use crate::places::{Client, Place};
+use crate::message::addition::{
+    AddedAttribute, add, add_integrity, attribute_bytes, integrity_bytes,
+};
 use crate::server::LongTermServerAuth;
+use crate::server::places::{Client, Place};
 use std::alloc::{AllocError, Allocator};
 use std::net::SocketAddr;
 use stun_types::message::{IntegrityAlgorithm, StunWriteError};

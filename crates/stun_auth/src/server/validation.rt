@@ -4,7 +4,8 @@ ghost use Rattle.std.specs.Prelude.{◌≡◌, ◌↔◌, ⊤, true, IsTrue, Opt
 ghost use Rattle.std.specs.FinMap as map;
 ghost use Rattle.std.specs.Option.{option_copied, option_map};
 ghost use Rattle.stun_base.specs.Words.{next_words, after_words};
-ghost use Rattle.stun_auth.specs.Reading.{reading_of};
+ghost use Rattle.stun_auth.specs.Reading.{reading_of, verified_under};
+ghost use Rattle.stun_auth.specs.Registered.{key_at};
 ghost use Rattle.stun_auth.specs.Seen.{PlaceSeen};
 ghost use Rattle.stun_auth.specs.code.Places.{client_seen, place_seen};
 ghost use Rattle.stun_auth.specs.Reasons.{OrMemory};
@@ -14,16 +15,16 @@ ghost use Rattle.stun_auth.specs.code.Judging.{ChangesNoPlace, IsJudged, answere
 ghost use Rattle.stun_auth.specs.code.ReadingSeen.{reading_seen};
 
 use crate::algorithm_set::AlgorithmSet;
-use crate::nonce::make_nonce;
-use crate::places::{Client, Place};
-use crate::reading::Reading;
+use crate::message::nonce::make_nonce;
+use crate::message::reading::Reading;
 use crate::server::LongTermServerAuth;
-use crate::server_reason::{
+use crate::server::places::{Client, Place};
+use crate::server::reason::{
     LongTermServerAuthError, LongTermServerAuthErrorReason, LongTermServerValidation, Refusal,
     refused,
 };
+use crate::server::verdict::{Accepted, verdict};
 use crate::short_text::ShortText;
-use crate::verdict::{Accepted, verdict};
 use rand_core::Rng;
 use std::alloc::{AllocError, Allocator};
 use std::net::SocketAddr;
@@ -125,6 +126,30 @@ fn is_known<A: Allocator>(place: Option<&Place<A>>, accepted: Accepted<'_>) -> b
 }
 
 impl<A: Allocator + Copy> LongTermServerAuth<A> {
+    /// The algorithm of a message's digest, where it verifies under the key that the registered
+    /// user of a name has for a supported algorithm. `None` where it does not verify, and where
+    /// there is no such user or key. The digest is the one that `validate_incoming_message` looks
+    /// at, whichever algorithm the key is for.
+    ///
+    /// It is for a check of a user's key, and for a tool that must know who could have signed a
+    /// message. It is no verdict: it reads no nonce, realm, name or choice of the message, so a
+    /// message that is sent again verifies again. It shows no key, changes nothing and does not
+    /// allocate.
+    pub fn user_verifies(
+        &self,
+        name: &str,
+        algorithm: IntegrityAlgorithm,
+        message: &Message<'_>,
+    ) -> Option<IntegrityAlgorithm>
+        ensures { result ≡ option_and_then (verified_under (reading_of message.now))
+            (key_at self.now.registered name.now algorithm) }
+    {
+        match self.registry.key(name, algorithm) {
+            Some(key) => Reading::of(message).verified_under(key),
+            None => None,
+        }
+    }
+
     /// Judges a message that came from an address.
     ///
     /// A response is `Validated` where its digest verifies under the key of the address's client, else refused by

@@ -1,7 +1,7 @@
 -- How a key keeps its bytes.
 use Rattle.std.specs.Prelude.{ℕ, List, ◌≤◌, ◌<◌, length}
-use Rattle.stun_base.specs.declared.key.KeyBytes.{KeyBytes}
-use Rattle.stun_base.specs.declared.key.KeyBytes.TheVariants.{Inline, Heap}
+use Rattle.stun_base.specs.declared.keys.key.KeyBytes.{KeyBytes}
+use Rattle.stun_base.specs.declared.keys.key.KeyBytes.TheVariants.{Inline, Heap}
 
 -- the bytes, wherever they are kept
 abbrev pub key_bytes : {A : Type 0} → KeyBytes A → List ℕ

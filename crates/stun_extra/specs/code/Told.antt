@@ -1,7 +1,7 @@
 -- Which types were told, and which are left to be told.
 use Rattle.std.specs.Prelude.{ℕ, ◌/◌, ◌%◌, Bool, List, filter, not, slice_index, ◌==◌, ◌&&◌}
 use Rattle.std.specs.Int.{bit_at}
-use Rattle.stun_base.specs.declared.attribute_type.AttributeType.{AttributeType}
+use Rattle.stun_base.specs.declared.wire.attribute_type.AttributeType.{AttributeType}
 use Rattle.stun_types.specs.Walk.{Member}
 use Rattle.stun_extra.specs.Unknown.{is_unknown, kinds_of, once, types_of}
 

@@ -1,6 +1,6 @@
 -- Where the types of an UNKNOWN-ATTRIBUTES are: in a message that has attributes of them, or in a message that has the attribute.
 use Rattle.std.specs.Prelude.{◌≡◌, ◌%◌, List, length}
-use Rattle.stun_base.specs.declared.attribute_type.AttributeType.{AttributeType}
+use Rattle.stun_base.specs.declared.wire.attribute_type.AttributeType.{AttributeType}
 use Rattle.stun_extra.specs.Unknown.{types_in, unknown_types}
 use Rattle.stun_extra.specs.declared.unknown.attribute.Source.{Source}
 use Rattle.stun_extra.specs.declared.unknown.attribute.Source.TheVariants.{OfMessage, Received}

@@ -1,7 +1,7 @@
 //! XOR-PEER-ADDRESS (RFC 8656, section 18.3).
 ghost use Rattle.std.specs.Prelude.{◌≡◌};
 ghost use Rattle.std.specs.Net.Socket.{IsPlainSocket, socket_ip, socket_port};
-ghost use Rattle.stun_types.specs.XorMappedAddress.{IsHidden, IsXored, xor_port, xored, xored_value};
+ghost use Rattle.stun_types.specs.XorMappedAddress.{IsHidden, IsXored, xor_port, xored_address, xored_value};
 ghost use Rattle.stun_extra.specs.Turn.{xored_address_of, xored_address_of-written};
 ghost use Rattle.stun_extra.specs.AttributeTypes.{XOR_PEER_ADDRESS};
 
@@ -34,7 +34,7 @@ impl XorPeerAddress {
     /// The attribute of this address in a message of this transaction. Flow information and scope
     /// of an IPv6 address are not kept.
     pub fn new(addr: SocketAddr, id: TransactionId) -> Self
-        ensures { result ≡ xored (socket_ip addr) (socket_port addr) id }
+        ensures { result ≡ xored_address (socket_ip addr) (socket_port addr) id }
     {
         XorPeerAddress {
             hidden: XorMappedAddress::new(addr, id),

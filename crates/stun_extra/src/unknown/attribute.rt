@@ -35,7 +35,7 @@ pub struct UnknownAttributes<'a> {
 
 impl<'a> Model for UnknownAttributes<'a> {
     ghost use Rattle.std.specs.Prelude.{List};
-    ghost use Rattle.stun_base.specs.declared.attribute_type.AttributeType.{AttributeType};
+    ghost use Rattle.stun_base.specs.declared.wire.attribute_type.AttributeType.{AttributeType};
 
     ghost Value = { List AttributeType };
 

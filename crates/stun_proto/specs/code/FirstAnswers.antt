@@ -2,14 +2,14 @@
 use Rattle.std.specs.Prelude.{Option, Some, None}
 use Rattle.std.specs.declared.result.Result.{Result}
 use Rattle.std.specs.declared.result.Result.TheVariants.{Ok, Err}
-use Rattle.stun_base.specs.declared.algorithm.IntegrityAlgorithm.{IntegrityAlgorithm}
+use Rattle.stun_base.specs.declared.keys.algorithm.IntegrityAlgorithm.{IntegrityAlgorithm}
 use Rattle.stun_auth.specs.ClientStep.{ClientAnswer}
 use Rattle.stun_auth.specs.Validation.{Answer}
-use Rattle.stun_auth.specs.declared.client_answer.LongTermClientAuthErrorReason.TheVariants as Client
-use Rattle.stun_auth.specs.declared.client_answer.LongTermClientValidation.TheVariants as Read
-use Rattle.stun_auth.specs.declared.server_reason.LongTermServerValidation.TheVariants.{Validated}
-use Rattle.stun_auth.specs.declared.server_reason.LongTermServerAuthErrorReason.{LongTermServerAuthErrorReason}
-use Rattle.stun_auth.specs.declared.server_reason.LongTermServerAuthErrorReason.TheVariants.{Unauthorized}
+use Rattle.stun_auth.specs.declared.client.answer.LongTermClientAuthErrorReason.TheVariants as Client
+use Rattle.stun_auth.specs.declared.client.answer.LongTermClientValidation.TheVariants as Read
+use Rattle.stun_auth.specs.declared.server.reason.LongTermServerValidation.TheVariants.{Validated}
+use Rattle.stun_auth.specs.declared.server.reason.LongTermServerAuthErrorReason.{LongTermServerAuthErrorReason}
+use Rattle.stun_auth.specs.declared.server.reason.LongTermServerAuthErrorReason.TheVariants.{Unauthorized}
 use Rattle.stun_proto.specs.declared.replay.negotiation.Outcome.{Outcome}
 use Rattle.stun_proto.specs.declared.replay.negotiation.Outcome.TheVariants.{AlreadyValidated, ServerRefused, ClientRefused}
 

@@ -1,6 +1,6 @@
 -- What a writer holds that grows, as contracts of signing see it.
 use Rattle.std.specs.Prelude.{ℕ, List, Result, Ok, Err}
-use Rattle.stun_base.specs.declared.error.StunWriteError.{StunWriteError}
+use Rattle.stun_base.specs.declared.wire.error.StunWriteError.{StunWriteError}
 use Rattle.stun_types.specs.WriteVec.{Written}
 use Rattle.stun_auth.specs.Additions.{Page}
 use Rattle.stun_auth.specs.Additions.{page_of}

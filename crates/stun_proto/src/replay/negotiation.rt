@@ -1,6 +1,6 @@
 //! A client and a server that meet.
 
-ghost use Rattle.std.specs.Prelude.{◌≡◌, ◌≢◌, ◌<◌, Contains, IfSome, IsUtf8, Err, length};
+ghost use Rattle.std.specs.Prelude.{◌≡◌, ◌≢◌, ◌<◌, IfSome, IsUtf8, Err, length};
 ghost use Rattle.stun_base.specs.Credentials.{NameAndPassword};
 ghost use Rattle.stun_auth.specs.Client.{initial};
 ghost use Rattle.stun_proto.specs.Headline.{EndsAtStrongest, IsReadyClient};
@@ -8,7 +8,7 @@ ghost use Rattle.stun_proto.specs.Honest.{ComesTo, IsHonest, strongest};
 ghost use Rattle.stun_proto.specs.code.Meetings.{turn_of};
 ghost use Rattle.stun_proto.specs.Negotiating.{lists, meeting, met_by, turn_at};
 ghost use Rattle.stun_proto.specs.Negotiation.{negotiated};
-ghost use Rattle.stun_proto.specs.Sides.{sides, sides_of};
+ghost use Rattle.stun_proto.specs.Sides.{Passes, sides};
 
 mod meeting;
 mod messages;
@@ -134,8 +134,8 @@ pub fn negotiate<A: Allocator + Copy>(
         → EndsAtStrongest m who server.old result client.new.state server.new }
     ensures memory { let m = meeting client.old.settings from ids moments words
         (lists between.entry) in
-        result ≡ Err NegotiateError.Memory → Contains (sides_of m client.old.state server.old)
-        (sides client.new.state server.new) }
+        result ≡ Err NegotiateError.Memory
+        → Passes m client.old.state server.old (sides client.new.state server.new) }
     ensures write { result ≢ Err (NegotiateError.Write StunWriteError.OutOfMemory) }
 {
     laws::strongest_is_agreed();

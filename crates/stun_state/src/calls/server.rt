@@ -6,7 +6,7 @@ ghost use Rattle.stun_auth.specs.Forgetting.{after_forgetting, without_place};
 ghost use Rattle.stun_auth.specs.ForgettingSteps.{after_step, next_address};
 ghost use Rattle.stun_state.specs.Addresses.{socket_address, start_for, start_told};
 ghost use Rattle.stun_state.specs.Answers.{after_address, after_start, at_address, at_start, done_if_given, text_refusal, texts_refusal, unless_refused};
-ghost use Rattle.stun_state.specs.Handed.{kept_after_signing_of, kept_after_validating_of, named_by, naming_answer, naming_length, naming_written, signed_of, validation_number_of};
+ghost use Rattle.stun_state.specs.Handed.{kept_after_signing_of, kept_after_validating_of, named_by, naming_answer, naming_length, naming_written, signed_of, user_of_keys, user_of_password, validation_number_of};
 ghost use Rattle.stun_auth.specs.Registered.{with_user};
 ghost use Rattle.stun_auth.specs.Validation.{new_server};
 ghost use Rattle.stun_state.specs.Codes.{algorithms_numbered, code_of, feature_numbered};
@@ -18,6 +18,7 @@ ghost use Rattle.stun_state.specs.Signing.{buffer_after, kept_after_signing, len
 
 use crate::address::Address;
 use crate::codes::Refusal;
+use crate::handed::Given;
 use crate::handle::server::{Server, ServerHandle};
 use crate::{answers, handed, server};
 use std::alloc::Global;
@@ -351,16 +352,18 @@ pub extern "C" fn stunp_server_validate_of(
         × (handle.new.server ≡ None)) }
     ensures answer { IfSome handle.old.server (λ kept. OrOutOfMemory result
         handle.old.server handle.new.server
-        (validation_number_of kept message.now from.now now words.now name.now password.now)
+        (validation_number_of kept message.now from.now now words.now
+        (user_of_password name.now password.now))
         (Some (record kept {
           server = kept_after_validating_of kept message.now from.now now words.now
-              name.now password.now;
+              (user_of_password name.now password.now);
         }))) }
 {
     let Some(mut kept) = handle.take(alloc) else {
         return Refusal::EmptyHandle.code();
     };
-    let verdict = handed::validate(alloc, &mut kept, message, from, now, words, name, password);
+    let given = Given::Password(password);
+    let verdict = handed::validate(alloc, &mut kept, message, from, now, words, name, given);
     let answer = answers::algorithm(verdict);
     handle.put(alloc, kept);
     answer
@@ -382,19 +385,95 @@ pub extern "C" fn stunp_server_sign_of(
         × (handle.new.server ≡ None)
         × (buffer.new ≡ buffer.old)) }
     ensures answer { IfSome handle.old.server (λ kept. IsOrOutOfMemory result (length_answer
-        (length_of (signed_of kept.server buffer.old length to.now name.now password.now)))) }
+        (length_of (signed_of kept.server buffer.old length to.now
+        (user_of_password name.now password.now))))) }
     ensures written { IfSome handle.old.server (λ kept. buffer.new ≡ left_by result buffer.old
-        (buffer_after (signed_of kept.server buffer.old length to.now name.now password.now)
-        buffer.old)) }
+        (buffer_after (signed_of kept.server buffer.old length to.now
+        (user_of_password name.now password.now)) buffer.old)) }
     ensures state { IfSome handle.old.server (λ kept. handle.new.server ≡ Some (record kept {
       server = left_by result kept.server
-          (kept_after_signing_of kept.server buffer.old length to.now name.now password.now);
+          (kept_after_signing_of kept.server buffer.old length to.now
+          (user_of_password name.now password.now));
     })) }
 {
     let Some(mut kept) = handle.take(alloc) else {
         return Refusal::EmptyHandle.code();
     };
-    let signed = handed::sign(alloc, &mut kept.server, buffer, length, to, name, password);
+    let given = Given::Password(password);
+    let signed = handed::sign(alloc, &mut kept.server, buffer, length, to, name, given);
+    let answer = answers::length(signed);
+    handle.put(alloc, kept);
+    answer
+}
+
+/// Who signed a message that came from an address, where the server has just the user of a name and
+/// stored keys.
+#[unsafe(no_mangle)]
+pub extern "C" fn stunp_server_validate_of_keys(
+    alloc: Global,
+    handle: &mut ServerHandle,
+    message: &[u8],
+    from: &Address,
+    now: u64,
+    words: &[u32; 16],
+    name: &[u8],
+    sha1: &[u8],
+    sha256: &[u8],
+) -> i64
+    ensures empty { IfNone handle.old.server ((result ≡ code_of Refusal.EmptyHandle)
+        × (handle.new.server ≡ None)) }
+    ensures answer { IfSome handle.old.server (λ kept. OrOutOfMemory result
+        handle.old.server handle.new.server
+        (validation_number_of kept message.now from.now now words.now
+        (user_of_keys name.now sha1.now sha256.now))
+        (Some (record kept {
+          server = kept_after_validating_of kept message.now from.now now words.now
+              (user_of_keys name.now sha1.now sha256.now);
+        }))) }
+{
+    let Some(mut kept) = handle.take(alloc) else {
+        return Refusal::EmptyHandle.code();
+    };
+    let given = Given::Keys(sha1, sha256);
+    let verdict = handed::validate(alloc, &mut kept, message, from, now, words, name, given);
+    let answer = answers::algorithm(verdict);
+    handle.put(alloc, kept);
+    answer
+}
+
+/// Signs the message at the front of a buffer, which goes to an address, where the server has just
+/// the user of a name and stored keys.
+#[unsafe(no_mangle)]
+pub extern "C" fn stunp_server_sign_of_keys(
+    alloc: Global,
+    handle: &mut ServerHandle,
+    buffer: &mut [u8],
+    length: usize,
+    to: &Address,
+    name: &[u8],
+    sha1: &[u8],
+    sha256: &[u8],
+) -> i64
+    ensures empty { IfNone handle.old.server ((result ≡ code_of Refusal.EmptyHandle)
+        × (handle.new.server ≡ None)
+        × (buffer.new ≡ buffer.old)) }
+    ensures answer { IfSome handle.old.server (λ kept. IsOrOutOfMemory result (length_answer
+        (length_of (signed_of kept.server buffer.old length to.now
+        (user_of_keys name.now sha1.now sha256.now))))) }
+    ensures written { IfSome handle.old.server (λ kept. buffer.new ≡ left_by result buffer.old
+        (buffer_after (signed_of kept.server buffer.old length to.now
+        (user_of_keys name.now sha1.now sha256.now)) buffer.old)) }
+    ensures state { IfSome handle.old.server (λ kept. handle.new.server ≡ Some (record kept {
+      server = left_by result kept.server
+          (kept_after_signing_of kept.server buffer.old length to.now
+          (user_of_keys name.now sha1.now sha256.now));
+    })) }
+{
+    let Some(mut kept) = handle.take(alloc) else {
+        return Refusal::EmptyHandle.code();
+    };
+    let given = Given::Keys(sha1, sha256);
+    let signed = handed::sign(alloc, &mut kept.server, buffer, length, to, name, given);
     let answer = answers::length(signed);
     handle.put(alloc, kept);
     answer

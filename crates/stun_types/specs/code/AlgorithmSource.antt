@@ -1,9 +1,13 @@
--- Where the algorithms of a PASSWORD-ALGORITHMS are: in a program's own list, or as entries in a message.
+-- Where the algorithms of a PASSWORD-ALGORITHMS are: in a program's own list, or as entries in a
+-- message.
 use Rattle.std.specs.Prelude.{List, IsTrue}
 use Rattle.stun_types.specs.code.PasswordAlgorithms.{are_entries, entry_list}
-use Rattle.stun_types.specs.declared.attribute.password_algorithm.PasswordAlgorithmValue.{PasswordAlgorithmValue}
+use Rattle.stun_types.specs.declared.attribute.password_algorithm.PasswordAlgorithmValue.{
+  PasswordAlgorithmValue,
+}
 use Rattle.stun_types.specs.declared.attribute.password_algorithms.Source.{Source}
-use Rattle.stun_types.specs.declared.attribute.password_algorithms.Source.TheVariants.{Listed, Received}
+use Rattle.stun_types.specs.declared.attribute.password_algorithms.Source.TheVariants.{Listed}
+use Rattle.stun_types.specs.declared.attribute.password_algorithms.Source.TheVariants.{Received}
 
 -- the list
 abbrev pub list_of : Source → List PasswordAlgorithmValue

@@ -5,4 +5,5 @@ use Rattle.std.specs.declared.net.ip_addr.IpAddr.{IpAddr}
 
 -- an address has as many octets as its family
 abbrev pub HasOctets : IpAddr → Type 0
-HasOctets ip = MatchIp ip (λ ipv4. length (ipv4_octets ipv4) ≡ 4) (λ ipv6. length (ipv6_octets ipv6) ≡ 16)
+HasOctets ip =
+    MatchIp ip (λ ipv4. length (ipv4_octets ipv4) ≡ 4) (λ ipv6. length (ipv6_octets ipv6) ≡ 16)

@@ -1,7 +1,9 @@
 -- The entries of a list as its struct keeps them.
 use Rattle.std.specs.Prelude.{ℕ, Bool, List, []}
 use Rattle.std.specs.Option.{is_some, unwrap_or}
-use Rattle.stun_types.specs.declared.attribute.password_algorithm.PasswordAlgorithmValue.{PasswordAlgorithmValue}
+use Rattle.stun_types.specs.declared.attribute.password_algorithm.PasswordAlgorithmValue.{
+  PasswordAlgorithmValue,
+}
 use Rattle.stun_types.specs.PasswordAlgorithms.{entries}
 
 -- whether bytes are entries of known algorithms

@@ -1,8 +1,8 @@
--- How much of its room a writer that grows has taken.
+-- The room of a writer that grows.
 use Rattle.std.specs.Prelude.{ℕ, ◌+◌, ◌≤◌}
 use Rattle.stun_types.specs.Limits.{LENGTH_LIMIT}
 
--- so many reserved bytes after so many written ones are within the capacity and the longest message
+-- so many reserved bytes after so many written ones fit the capacity and the longest message
 pub record FitsCapacity (len reserved capacity : ℕ) : Type 0 where
   pub in_capacity : len + reserved ≤ capacity
   pub in_message : len + reserved ≤ LENGTH_LIMIT

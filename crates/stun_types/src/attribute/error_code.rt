@@ -1,20 +1,22 @@
 //! ERROR-CODE (RFC 8489, section 14.8).
 
-ghost use Rattle.std.specs.Prelude.{◌≡◌, ◌≤◌, ◌<◌, ◌/◌, ◌%◌, Some, None, IfOk, IfErr, IfSome, OnOk, length, ⊤};
+ghost use Rattle.std.specs.Prelude.{◌≡◌, ◌≤◌, ◌<◌, ◌/◌, ◌%◌, Some, None};
+ghost use Rattle.std.specs.Prelude.{IfOk, IfErr, IfSome, OnOk, length, ⊤};
 ghost use Rattle.std.specs.Cmp.{partial_equiv_from_equiv};
 ghost use Rattle.stun_types.specs.Equality.{same_error, same_error_equivalence};
 ghost use Rattle.stun_base.specs.Attributes.{ERROR_CODE};
-ghost use Rattle.stun_types.specs.ErrorCode.{IsError, code_in, default_reason, error_of, error_refusal, error_value};
+ghost use Rattle.stun_types.specs.ErrorCode.{CODE_LENGTH, IsError, code_in, default_reason};
+ghost use Rattle.stun_types.specs.ErrorCode.{error_of, error_refusal, error_value};
 ghost use Rattle.stun_types.specs.Limits.{TEXT_LIMIT};
 ghost use Rattle.stun_types.specs.ErrorCodeLaws.{error_of-written};
 
-use crate::append::{append_header, append_padding};
 use crate::attribute::text::read_short_text;
 use crate::attribute::{
     Attribute, AttributeFromRaw, AttributeStaticType, AttributeType, RawAttribute,
 };
 use crate::limits::TEXT_LIMIT;
 use crate::write::MessageWrite;
+use crate::write::append::{append_header, append_padding};
 use std::alloc::AllocError;
 use std::marker::Model;
 use stun_base::error::{StunParseError, StunWriteError};
@@ -22,8 +24,8 @@ use stun_base::error::{StunParseError, StunWriteError};
 /// The number of bytes before the reason: reserved bits, class and number.
 const CODE_LENGTH: usize = 4;
 
-/// ERROR-CODE (RFC 8489, section 14.8): why a request was refused, by a code from 300 to 699 and a reason phrase of at most 763
-/// bytes. Contracts see the two.
+/// ERROR-CODE (RFC 8489, section 14.8): why a request was refused. It has a code from 300 to 699,
+/// and a reason phrase of at most 763 bytes. Contracts see the two.
 #[derive(Debug, Drop)]
 pub struct ErrorCode<'a> {
     code: u16,
@@ -57,7 +59,7 @@ impl<'a> Clone for ErrorCode<'a> {
     }
 }
 
-/// Equal are errors of the same code and reason.
+/// Errors are equal if and only if code and reason are.
 impl<'a> PartialEq for ErrorCode<'a> {
     ghost eq = { same_error };
 
@@ -73,7 +75,7 @@ impl<'a> Eq for ErrorCode<'a> {
 }
 
 impl ErrorCode<'_> {
-    /// 400: the request was malformed.
+    /// 400: the request is malformed.
     pub const BAD_REQUEST: u16 = 400;
     /// 401: the request lacks the right credentials.
     pub const UNAUTHORIZED: u16 = 401;
@@ -82,8 +84,8 @@ impl ErrorCode<'_> {
 }
 
 impl<'a> ErrorCode<'a> {
-    /// Begins an attribute of this code. Its reason is `Bad Request` for 400, `Unauthorized` for 401, `Stale Nonce` for 438,
-    /// and else empty, until it is set.
+    /// Begins an attribute of this code. Until a reason is set, it is `Bad Request` for 400,
+    /// `Unauthorized` for 401, `Stale Nonce` for 438, and empty for any other code.
     pub fn builder(code: u16) -> ErrorCodeBuilder<'a>
         ensures { result ≡ record { code = code; reason = default_reason code } }
     {
@@ -123,7 +125,7 @@ fn default_reason(code: u16) -> &'static str
     }
 }
 
-/// A code and a reason that are not yet known to be within their limits. Contracts see the two.
+/// A code and a reason, which may be outside their limits. Contracts see the two.
 #[derive(Debug, Drop)]
 pub struct ErrorCodeBuilder<'a> {
     code: u16,
@@ -149,8 +151,8 @@ impl<'a> ErrorCodeBuilder<'a> {
         }
     }
 
-    /// The attribute, or `NotAllowed` where the code is not one of 300 to 699, then `TooLarge` where the reason has more
-    /// than 763 bytes. It does not allocate.
+    /// The attribute. Fails with `NotAllowed` if the code is not from 300 to 699, then with
+    /// `TooLarge` if the reason has more than 763 bytes. It does not allocate.
     pub fn build(self) -> Result<ErrorCode<'a>, StunWriteError>
         ensures value { IfOk result (λ error. error ≡ self.entry) }
         ensures ok { OnOk result (error_refusal self.entry ≡ None) }
@@ -169,9 +171,10 @@ impl<'a> ErrorCodeBuilder<'a> {
     }
 }
 
-/// The code in a value, where its class is one of 3 to 6 and its number below 100. The reserved bits are not looked at.
+/// The code in a value, or `None` if its class is not from 3 to 6 or its number is 100 or more. The
+/// reserved bits are ignored.
 fn read_code(value: &[u8]) -> Option<u16>
-    requires { 4 ≤ length value.now }
+    requires { CODE_LENGTH ≤ length value.now }
     ensures code { result ≡ code_in value.now }
     ensures limits { IfSome result (λ code. (300 ≤ code) × (code < 700)) }
 {

@@ -1,25 +1,29 @@
-//! MESSAGE-INTEGRITY and MESSAGE-INTEGRITY-SHA256 (RFC 8489, sections 14.5 and 14.6), as they are read.
+//! MESSAGE-INTEGRITY and MESSAGE-INTEGRITY-SHA256 (RFC 8489, sections 14.5 and 14.6), for reading.
 //!
-//! A program makes neither: the calls of a writer for integrity append them.
+//! A program makes neither. The calls of a writer that sign a message append them.
 
 ghost use Rattle.std.specs.Prelude.{◌≡◌, length, ⊤};
 ghost use Rattle.std.specs.Cmp.{partial_equiv_from_equiv};
 ghost use Rattle.stun_base.specs.Credentials.{same_text, same_text_equivalence};
+ghost use Rattle.stun_base.specs.Algorithm.{digest_length};
+ghost use Rattle.stun_base.specs.declared.keys.algorithm.IntegrityAlgorithm.TheVariants.{Sha1};
 ghost use Rattle.stun_base.specs.Attributes.{MESSAGE_INTEGRITY, MESSAGE_INTEGRITY_SHA256};
-ghost use Rattle.stun_types.specs.IntegrityAttributes.{IsSha256Digest, digest_of, digest_of-written, digest_of-written_sha256};
+ghost use Rattle.stun_types.specs.IntegrityAttributes.{IsSha256Digest, digest_of};
+ghost use Rattle.stun_types.specs.IntegrityAttributes.{digest_of-written, digest_of-written_sha256};
 
-use crate::append::append_attribute;
 use crate::attribute::{
     Attribute, AttributeFromRaw, AttributeStaticType, AttributeType, RawAttribute,
 };
 use crate::integrity::is_well_formed;
 use crate::write::MessageWrite;
+use crate::write::append::append_attribute;
 use std::alloc::AllocError;
 use std::marker::Model;
 use stun_base::error::StunParseError;
 use stun_base::hmac::SHA1_LENGTH;
 
-/// MESSAGE-INTEGRITY (RFC 8489, section 14.5): the HMAC-SHA1 of a message, 20 bytes. Contracts see its bytes.
+/// MESSAGE-INTEGRITY (RFC 8489, section 14.5): the HMAC-SHA1 of a message, 20 bytes. Contracts see
+/// its bytes.
 #[derive(Clone, Copy, Debug, PartialEq, Eq)]
 pub struct MessageIntegrity {
     hmac: [u8; SHA1_LENGTH],
@@ -61,7 +65,7 @@ impl Attribute for MessageIntegrity {
 
     ghost value = { λ hmac. hmac };
 
-    ghost is_well_formed = { λ hmac. length hmac ≡ 20 };
+    ghost is_well_formed = { λ hmac. length hmac ≡ digest_length Sha1 };
 
     fn get_type(&self) -> AttributeType {
         Self::TYPE
@@ -91,8 +95,9 @@ impl<'a> AttributeFromRaw<'a> for MessageIntegrity {
     }
 }
 
-/// MESSAGE-INTEGRITY-SHA256 (RFC 8489, section 14.6): the HMAC-SHA256 of a message, which may be cut short: 16 to 32 bytes, a
-/// multiple of 4. A cut one is read, and never verifies. Contracts see its bytes.
+/// MESSAGE-INTEGRITY-SHA256 (RFC 8489, section 14.6): the HMAC-SHA256 of a message. It may be cut
+/// short, and has 16 to 32 bytes, a multiple of 4. One that is cut short is read, and never
+/// verifies. Contracts see its bytes.
 #[derive(Debug, Drop)]
 pub struct MessageIntegritySha256<'a> {
     hmac: &'a [u8],
@@ -120,7 +125,7 @@ impl<'a> Clone for MessageIntegritySha256<'a> {
     }
 }
 
-/// Equal are digests of the same bytes.
+/// Digests are equal if and only if their bytes are.
 impl<'a> PartialEq for MessageIntegritySha256<'a> {
     ghost eq = { same_text };
 
@@ -136,7 +141,7 @@ impl<'a> Eq for MessageIntegritySha256<'a> {
 }
 
 impl<'a> MessageIntegritySha256<'a> {
-    /// The digest, or so much of it as the message has.
+    /// The digest, or the part of it that the message has.
     pub fn hmac(&self) -> &'a [u8]
         ensures bytes { result.now ≡ self.now }
         ensures lengths { IsSha256Digest result.now }

@@ -1,24 +1,26 @@
 //! NONCE (RFC 8489, section 14.10).
 
-ghost use Rattle.std.specs.Prelude.{◌≡◌, ◌≤◌, ◌<◌, ◌↔◌, IfOk, IsOkUnless, IsErrOf, IsUtf8, length, ⊤};
+ghost use Rattle.std.specs.Prelude.{◌≡◌, ◌≤◌, ◌<◌, ◌↔◌, IfOk, IsOkUnless};
+ghost use Rattle.std.specs.Prelude.{IsErrOf, IsUtf8, length, ⊤};
 ghost use Rattle.std.specs.Cmp.{partial_equiv_from_equiv};
 ghost use Rattle.stun_base.specs.Credentials.{same_text, same_text_equivalence};
 ghost use Rattle.stun_base.specs.Attributes.{NONCE};
 ghost use Rattle.stun_types.specs.Limits.{TEXT_LIMIT};
 ghost use Rattle.stun_types.specs.Text.{text_of, text_of-written};
 
-use crate::append::append_attribute;
 use crate::attribute::text::{read_text, within_limit};
 use crate::attribute::{
     Attribute, AttributeFromRaw, AttributeStaticType, AttributeType, RawAttribute,
 };
 use crate::limits::TEXT_LIMIT;
 use crate::write::MessageWrite;
+use crate::write::append::append_attribute;
 use std::alloc::AllocError;
 use std::marker::Model;
 use stun_base::error::{StunParseError, StunWriteError};
 
-/// NONCE (RFC 8489, section 14.10): the nonce that a server gave out, UTF-8 of at most 763 bytes. Contracts see its bytes.
+/// NONCE (RFC 8489, section 14.10): the nonce of a server, UTF-8 of at most 763 bytes. Contracts
+/// see its bytes.
 #[derive(Debug, Drop)]
 pub struct Nonce<'a> {
     text: &'a str,
@@ -46,7 +48,7 @@ impl<'a> Clone for Nonce<'a> {
     }
 }
 
-/// Equal are nonces of the same bytes.
+/// Nonces are equal if and only if their bytes are.
 impl<'a> PartialEq for Nonce<'a> {
     ghost eq = { same_text };
 
@@ -62,7 +64,8 @@ impl<'a> Eq for Nonce<'a> {
 }
 
 impl<'a> Nonce<'a> {
-    /// The attribute of this nonce, or `TooLarge` where it has more than 763 bytes. It does not allocate.
+    /// The attribute of this nonce. Fails with `TooLarge` if it has more than 763 bytes. It does
+    /// not allocate.
     pub fn new(text: &'a str) -> Result<Self, StunWriteError>
         ensures ok { IfOk result (λ nonce. nonce ≡ text.now) }
         ensures only_too_large { IsOkUnless result StunWriteError.TooLarge }

@@ -1,23 +1,27 @@
-//! PASSWORD-ALGORITHM (RFC 8489, section 14.12), and the algorithms that keys are made by (section 18.5).
+//! PASSWORD-ALGORITHM (RFC 8489, section 14.12), and the algorithms of keys (section 18.5).
 
 ghost use Rattle.std.specs.Prelude.{◌≡◌, ◌≤◌, length};
 ghost use Rattle.stun_base.specs.Attributes.{PASSWORD_ALGORITHM};
-ghost use Rattle.stun_types.specs.PasswordAlgorithms.{password_algorithm_in, password_algorithm_in-written, entry_at_front, integrity_of, password_algorithm_of, spelled_entry};
+ghost use Rattle.stun_types.specs.PasswordAlgorithms.{ENTRY_LENGTH, password_algorithm_in};
+ghost use Rattle.stun_types.specs.PasswordAlgorithms.{password_algorithm_in-written};
+ghost use Rattle.stun_types.specs.PasswordAlgorithms.{entry_at_front, integrity_of};
+ghost use Rattle.stun_types.specs.PasswordAlgorithms.{password_algorithm_of, spelled_entry};
 
-use crate::append::append_attribute;
 use crate::attribute::{
     Attribute, AttributeFromRaw, AttributeStaticType, AttributeType, RawAttribute,
 };
 use crate::write::MessageWrite;
+use crate::write::append::append_attribute;
 use byteorder::{BigEndian, ByteOrder};
 use std::marker::Model;
 use stun_base::algorithm::IntegrityAlgorithm;
 use stun_base::error::StunParseError;
 
-/// The number of bytes of an algorithm without parameters: its number and the length of its parameters.
+/// The number of bytes of an entry without parameters: the number of an algorithm, and the length
+/// of its parameters.
 pub(super) const ENTRY_LENGTH: usize = 4;
 
-/// A hash function that makes the key of a password.
+/// A hash function that makes a key of a password.
 #[derive(Clone, Copy, Debug, PartialEq, Eq, Hash)]
 pub enum PasswordAlgorithmValue {
     /// MD5 (RFC 8489, section 18.5.1.1), whose key goes with HMAC-SHA1.
@@ -27,7 +31,7 @@ pub enum PasswordAlgorithmValue {
 }
 
 impl PasswordAlgorithmValue {
-    /// The digest of message integrity that a key of this algorithm goes with.
+    /// The digest of message integrity under a key of this algorithm.
     pub fn as_integrity(self) -> IntegrityAlgorithm
         ensures { result ≡ integrity_of self }
     {
@@ -37,7 +41,7 @@ impl PasswordAlgorithmValue {
         }
     }
 
-    /// The algorithm whose key goes with this digest of message integrity.
+    /// The algorithm of the key of this digest of message integrity.
     pub fn from_integrity(integrity: IntegrityAlgorithm) -> Self
         ensures { result ≡ password_algorithm_of integrity }
     {
@@ -58,9 +62,10 @@ impl PasswordAlgorithmValue {
     }
 }
 
-/// The algorithm of the entry at the front, where its number is known and it has no parameters.
+/// The algorithm of the entry at the front, or `None` if its number is unknown or it has
+/// parameters.
 pub(super) fn read_entry(bytes: &[u8]) -> Option<PasswordAlgorithmValue>
-    requires { 4 ≤ length bytes.now }
+    requires { ENTRY_LENGTH ≤ length bytes.now }
     ensures { result ≡ entry_at_front bytes.now }
 {
     if BigEndian::read_u16(&bytes[2..]) != 0 {
@@ -73,14 +78,17 @@ pub(super) fn read_entry(bytes: &[u8]) -> Option<PasswordAlgorithmValue>
     }
 }
 
-/// PASSWORD-ALGORITHM (RFC 8489, section 14.12): the algorithm that a client chose. Contracts see the algorithm.
+/// PASSWORD-ALGORITHM (RFC 8489, section 14.12): the algorithm that a client chose. Contracts see
+/// the algorithm.
 #[derive(Clone, Copy, Debug, PartialEq, Eq)]
 pub struct PasswordAlgorithm {
     algorithm: PasswordAlgorithmValue,
 }
 
 impl Model for PasswordAlgorithm {
-    ghost use Rattle.stun_types.specs.declared.attribute.password_algorithm.PasswordAlgorithmValue.{PasswordAlgorithmValue};
+    ghost use Rattle.stun_types.specs.declared.attribute.password_algorithm.PasswordAlgorithmValue.{
+      PasswordAlgorithmValue,
+    };
 
     ghost Value = { PasswordAlgorithmValue };
 

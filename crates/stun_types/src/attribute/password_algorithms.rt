@@ -3,16 +3,18 @@
 ghost use Rattle.std.specs.Prelude.{◌≡◌, ◌≤◌, ◌<◌, ◌+◌, ◌*◌, ◌/◌, ◌++◌, ◌↔◌, [], IsTrue, length, ⊤};
 ghost use Rattle.std.specs.List.{Contains, slice_get};
 ghost use Rattle.stun_base.specs.Attributes.{PASSWORD_ALGORITHMS};
-ghost use Rattle.stun_types.specs.PasswordAlgorithms.{password_algorithms_in, password_algorithms_in-written, spelled_entries};
+ghost use Rattle.stun_types.specs.PasswordAlgorithms.{ENTRY_LENGTH, password_algorithms_in};
+ghost use Rattle.stun_types.specs.PasswordAlgorithms.{password_algorithms_in-written};
+ghost use Rattle.stun_types.specs.PasswordAlgorithms.{spelled_entries};
 ghost use Rattle.stun_types.specs.code.PasswordAlgorithms.{are_entries, entry_list};
 
-use crate::append::{append_header, append_padding};
 use crate::attribute::password_algorithm::{ENTRY_LENGTH, read_entry};
 use crate::attribute::{
     Attribute, AttributeFromRaw, AttributeStaticType, AttributeType, PasswordAlgorithmValue,
     RawAttribute,
 };
 use crate::write::MessageWrite;
+use crate::write::append::{append_header, append_padding};
 use std::alloc::AllocError;
 use std::marker::Model;
 use stun_base::error::StunParseError;
@@ -26,9 +28,9 @@ enum Source<'a> {
     Received(&'a [u8]),
 }
 
-/// PASSWORD-ALGORITHMS (RFC 8489, section 14.11): the algorithms that a server offers, the most preferred first, in a list or in
-/// a message, which it borrows. A value that names another algorithm than MD5 and SHA-256, or gives parameters, is malformed as a
-/// whole. Contracts see the list.
+/// PASSWORD-ALGORITHMS (RFC 8489, section 14.11): the algorithms that a server offers, the most
+/// preferred first. It borrows a list or the bytes of a message. The whole value is malformed if it
+/// names another algorithm than MD5 and SHA-256, or has parameters. Contracts see the list.
 #[derive(Debug, Drop)]
 pub struct PasswordAlgorithms<'a> {
     source: Source<'a>,
@@ -36,7 +38,9 @@ pub struct PasswordAlgorithms<'a> {
 
 impl<'a> Model for PasswordAlgorithms<'a> {
     ghost use Rattle.std.specs.Prelude.{List};
-    ghost use Rattle.stun_types.specs.declared.attribute.password_algorithm.PasswordAlgorithmValue.{PasswordAlgorithmValue};
+    ghost use Rattle.stun_types.specs.declared.attribute.password_algorithm.PasswordAlgorithmValue.{
+      PasswordAlgorithmValue,
+    };
 
     ghost Value = { List PasswordAlgorithmValue };
 
@@ -74,7 +78,7 @@ fn are_known(bytes: &[u8]) -> bool
     true
 }
 
-/// The algorithm of the entry of this index, where there are so many.
+/// The algorithm of the entry of this index, or `None` if there are fewer.
 fn entry_at(bytes: &[u8], i: usize) -> Option<PasswordAlgorithmValue>
     requires { IsTrue (are_entries bytes.now) }
     ensures { result ≡ slice_get (entry_list bytes.now) i }
@@ -142,7 +146,7 @@ impl<'a> PasswordAlgorithms<'a> {
         false
     }
 
-    /// Whether these are the algorithms of the list, in the same order.
+    /// Whether the list has these algorithms in this order.
     pub fn equals(&self, algorithms: &[PasswordAlgorithmValue]) -> bool
         ensures { IsTrue result ↔ (self.now ≡ algorithms.now) }
     {
@@ -159,10 +163,11 @@ impl<'a> PasswordAlgorithms<'a> {
 
     /// Appends the entries of the algorithms.
     fn append_entries<W: MessageWrite>(&self, writer: &mut W)
-        requires { 4 * length self.now ≤ W.reserved writer.old }
+        requires { ENTRY_LENGTH * length self.now ≤ W.reserved writer.old }
         ensures bytes { W.bytes writer.new ≡ W.bytes writer.old ++ spelled_entries self.now }
-        ensures room { W.room writer.new + 4 * length self.now ≡ W.room writer.old }
-        ensures reserved { W.reserved writer.new + 4 * length self.now ≡ W.reserved writer.old }
+        ensures room { W.room writer.new + ENTRY_LENGTH * length self.now ≡ W.room writer.old }
+        ensures reserved { W.reserved writer.new + ENTRY_LENGTH * length self.now
+            ≡ W.reserved writer.old }
     {
         for i in 0..self.len() {
             if let Some(algorithm) = self.get(i) {

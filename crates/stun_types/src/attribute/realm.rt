@@ -1,24 +1,26 @@
 //! REALM (RFC 8489, section 14.9).
 
-ghost use Rattle.std.specs.Prelude.{◌≡◌, ◌≤◌, ◌<◌, ◌↔◌, IfOk, IsOkUnless, IsErrOf, IsUtf8, length, ⊤};
+ghost use Rattle.std.specs.Prelude.{◌≡◌, ◌≤◌, ◌<◌, ◌↔◌, IfOk, IsOkUnless};
+ghost use Rattle.std.specs.Prelude.{IsErrOf, IsUtf8, length, ⊤};
 ghost use Rattle.std.specs.Cmp.{partial_equiv_from_equiv};
 ghost use Rattle.stun_base.specs.Credentials.{same_text, same_text_equivalence};
 ghost use Rattle.stun_base.specs.Attributes.{REALM};
 ghost use Rattle.stun_types.specs.Limits.{TEXT_LIMIT};
 ghost use Rattle.stun_types.specs.Text.{text_of, text_of-written};
 
-use crate::append::append_attribute;
 use crate::attribute::text::{read_text, within_limit};
 use crate::attribute::{
     Attribute, AttributeFromRaw, AttributeStaticType, AttributeType, RawAttribute,
 };
 use crate::limits::TEXT_LIMIT;
 use crate::write::MessageWrite;
+use crate::write::append::append_attribute;
 use std::alloc::AllocError;
 use std::marker::Model;
 use stun_base::error::{StunParseError, StunWriteError};
 
-/// REALM (RFC 8489, section 14.9): the realm that credentials belong to, UTF-8 of at most 763 bytes. Contracts see its bytes.
+/// REALM (RFC 8489, section 14.9): the realm of credentials, UTF-8 of at most 763 bytes. Contracts
+/// see its bytes.
 #[derive(Debug, Drop)]
 pub struct Realm<'a> {
     text: &'a str,
@@ -46,7 +48,7 @@ impl<'a> Clone for Realm<'a> {
     }
 }
 
-/// Equal are realms of the same bytes.
+/// Realms are equal if and only if their bytes are.
 impl<'a> PartialEq for Realm<'a> {
     ghost eq = { same_text };
 
@@ -62,7 +64,8 @@ impl<'a> Eq for Realm<'a> {
 }
 
 impl<'a> Realm<'a> {
-    /// The attribute of this realm, or `TooLarge` where it has more than 763 bytes. It does not allocate.
+    /// The attribute of this realm. Fails with `TooLarge` if it has more than 763 bytes. It does
+    /// not allocate.
     pub fn new(text: &'a str) -> Result<Self, StunWriteError>
         ensures ok { IfOk result (λ realm. realm ≡ text.now) }
         ensures only_too_large { IsOkUnless result StunWriteError.TooLarge }

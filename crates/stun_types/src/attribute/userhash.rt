@@ -3,13 +3,13 @@
 ghost use Rattle.std.specs.Prelude.{◌≡◌, length};
 ghost use Rattle.stun_base.specs.Attributes.{USERHASH};
 ghost use Rattle.stun_base.specs.Keys as keys;
-ghost use Rattle.stun_types.specs.Userhash.{hash_of, hash_of-written};
+ghost use Rattle.stun_types.specs.Userhash.{USERHASH_LENGTH, hash_of, hash_of-written};
 
-use crate::append::append_attribute;
 use crate::attribute::{
     Attribute, AttributeFromRaw, AttributeStaticType, AttributeType, RawAttribute,
 };
 use crate::write::MessageWrite;
+use crate::write::append::append_attribute;
 use std::marker::Model;
 use stun_base::error::StunParseError;
 use stun_base::key::userhash;
@@ -17,7 +17,8 @@ use stun_base::key::userhash;
 /// The number of bytes of a hash.
 const LENGTH: usize = 32;
 
-/// USERHASH (RFC 8489, section 14.4): the hash that names a user at a realm, 32 bytes. Contracts see its bytes.
+/// USERHASH (RFC 8489, section 14.4): the hash that names a user at a realm, 32 bytes. Contracts
+/// see its bytes.
 #[derive(Clone, Copy, Debug, PartialEq, Eq)]
 pub struct Userhash {
     hash: [u8; LENGTH],
@@ -41,8 +42,8 @@ impl Userhash {
         Userhash { hash }
     }
 
-    /// The hash of a user name at a realm: SHA-256 of the two, taken as they are, with a colon between them (RFC 8489, section
-    /// 14.4). It does not allocate.
+    /// The hash of a user name at a realm: SHA-256 of the two with a colon between them (RFC 8489,
+    /// section 14.4). Both are used as they are. It does not allocate.
     pub fn compute(user: &str, realm: &str) -> [u8; 32]
         ensures { result ≡ keys.userhash user.now realm.now }
     {
@@ -74,7 +75,7 @@ impl Attribute for Userhash {
 
     ghost value = { λ userhash. userhash };
 
-    ghost is_well_formed = { λ userhash. length userhash ≡ 32 };
+    ghost is_well_formed = { λ userhash. length userhash ≡ USERHASH_LENGTH };
 
     fn get_type(&self) -> AttributeType {
         Self::TYPE

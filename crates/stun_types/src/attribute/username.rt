@@ -1,24 +1,26 @@
 //! USERNAME (RFC 8489, section 14.3).
 
-ghost use Rattle.std.specs.Prelude.{◌≡◌, ◌≤◌, ◌<◌, ◌↔◌, IfOk, IsOkUnless, IsErrOf, IsUtf8, length, ⊤};
+ghost use Rattle.std.specs.Prelude.{◌≡◌, ◌≤◌, ◌<◌, ◌↔◌, IfOk, IsOkUnless};
+ghost use Rattle.std.specs.Prelude.{IsErrOf, IsUtf8, length, ⊤};
 ghost use Rattle.std.specs.Cmp.{partial_equiv_from_equiv};
 ghost use Rattle.stun_base.specs.Credentials.{same_text, same_text_equivalence};
 ghost use Rattle.stun_base.specs.Attributes.{USERNAME};
 ghost use Rattle.stun_types.specs.Limits.{USERNAME_LIMIT};
 ghost use Rattle.stun_types.specs.Text.{text_of, text_of-written};
 
-use crate::append::append_attribute;
 use crate::attribute::text::{read_text, within_limit};
 use crate::attribute::{
     Attribute, AttributeFromRaw, AttributeStaticType, AttributeType, RawAttribute,
 };
 use crate::limits::USERNAME_LIMIT;
 use crate::write::MessageWrite;
+use crate::write::append::append_attribute;
 use std::alloc::AllocError;
 use std::marker::Model;
 use stun_base::error::{StunParseError, StunWriteError};
 
-/// USERNAME (RFC 8489, section 14.3): the name of a user, UTF-8 of at most 513 bytes. Contracts see its bytes.
+/// USERNAME (RFC 8489, section 14.3): the name of a user, UTF-8 of at most 513 bytes. Contracts see
+/// its bytes.
 #[derive(Debug, Drop)]
 pub struct Username<'a> {
     text: &'a str,
@@ -46,7 +48,7 @@ impl<'a> Clone for Username<'a> {
     }
 }
 
-/// Equal are user names of the same bytes.
+/// User names are equal if and only if their bytes are.
 impl<'a> PartialEq for Username<'a> {
     ghost eq = { same_text };
 
@@ -62,7 +64,8 @@ impl<'a> Eq for Username<'a> {
 }
 
 impl<'a> Username<'a> {
-    /// The attribute of this user name, or `TooLarge` where it has more than 513 bytes. It does not allocate.
+    /// The attribute of this user name. Fails with `TooLarge` if it has more than 513 bytes. It
+    /// does not allocate.
     pub fn new(text: &'a str) -> Result<Self, StunWriteError>
         ensures ok { IfOk result (λ username. username ≡ text.now) }
         ensures only_too_large { IsOkUnless result StunWriteError.TooLarge }

@@ -3,16 +3,19 @@
 ghost use Rattle.std.specs.Prelude.{◌≡◌, ◌≤◌, ◌+◌, ◌%◌, ◌++◌, false, true, MatchOption, length};
 ghost use Rattle.std.specs.Net.Socket.{IsPlainSocket, socket_ip, socket_port};
 ghost use Rattle.stun_base.specs.Attributes.{XOR_MAPPED_ADDRESS};
+ghost use Rattle.stun_types.specs.Attribute.{attribute_length};
 ghost use Rattle.stun_types.specs.Grammar.{spelled_attribute};
-ghost use Rattle.stun_types.specs.XorMappedAddress.{IsHidden, IsXored, has_octets, xor_bytes, xor_key, xor_port, xored, xored_of, xored_value};
+ghost use Rattle.stun_types.specs.XorMappedAddress.{FAMILY_AND_PORT_LENGTH, IsHidden, IsXored};
+ghost use Rattle.stun_types.specs.XorMappedAddress.{has_octets, xor_bytes, xor_key, xor_port};
+ghost use Rattle.stun_types.specs.XorMappedAddress.{xored_address, xored_of, xored_value};
 ghost use Rattle.stun_types.specs.XorMappedAddressLaws.{xored_of-written};
-ghost use Rattle.stun_types.specs.code.XoredOctets.{IsWhole, family_of, octets_of};
+ghost use Rattle.stun_types.specs.code.XoredOctets.{HasOctetsOfFamily, family_of_octets, octets_of};
 
-use crate::append::append_header;
 use crate::attribute::{
     Attribute, AttributeFromRaw, AttributeStaticType, AttributeType, RawAttribute,
 };
 use crate::write::MessageWrite;
+use crate::write::append::append_header;
 use byteorder::{BigEndian, ByteOrder};
 use std::marker::Model;
 use std::net::{IpAddr, Ipv4Addr, Ipv6Addr, SocketAddr};
@@ -20,7 +23,7 @@ use stun_base::error::StunParseError;
 use stun_base::header::MAGIC_COOKIE;
 use stun_base::transaction_id::TransactionId;
 
-/// The first half of the magic cookie, which the port is hidden by.
+/// The first half of the magic cookie, which the port is xored with.
 const PORT_KEY: u16 = (MAGIC_COOKIE >> 16) as u16;
 
 /// The number of bytes of the value before the octets.
@@ -32,15 +35,15 @@ const IPV4: u8 = 1;
 /// The family of IPv6.
 const IPV6: u8 = 2;
 
-/// The octets of an address, each hidden by the key.
+/// The octets of an address, each xored with a byte of the key.
 #[derive(Clone, Copy, Debug, PartialEq, Eq)]
 enum XoredOctets {
     V4([u8; 4]),
     V6([u8; 16]),
 }
 
-/// XOR-MAPPED-ADDRESS (RFC 8489, section 14.2): the address that a request came from, as a message has it. Port and octets are
-/// hidden by the magic cookie and the transaction id. Contracts see its hidden parts.
+/// XOR-MAPPED-ADDRESS (RFC 8489, section 14.2): the address that a request came from. Port and
+/// octets are xored with the magic cookie and the transaction id. Contracts see them xored.
 #[derive(Clone, Copy, Debug, PartialEq, Eq)]
 pub struct XorMappedAddress {
     port: u16,
@@ -48,23 +51,27 @@ pub struct XorMappedAddress {
 }
 
 impl Model for XorMappedAddress {
+    ghost use Rattle.std.specs.Prelude.{◌<◌, ◌^◌};
     ghost use Rattle.stun_types.specs.XorMappedAddress.{XoredAddress};
 
     ghost Value = { XoredAddress };
 
-    ghost use Rattle.stun_types.specs.code.XoredOctets.{family_of, octets_of, with_family, with_family-of, IsWhole};
+    ghost use Rattle.stun_types.specs.code.XoredOctets.{family_of_octets, octets_of, with_family};
+    ghost use Rattle.stun_types.specs.code.XoredOctets.{with_family-of, HasOctetsOfFamily};
 
     ghost view = { λ address. record {
-      family = family_of address.octets;
+      family = family_of_octets address.octets;
       port = address.port;
       octets = octets_of address.octets;
     } };
 
-    ghost invariant = { λ address. IsWhole address.octets };
+    ghost invariant = { λ address. (address.port < 2 ^ 16) × HasOctetsOfFamily address.octets };
 
-    ghost inverse = { λ parts. record { port = parts.port; octets = with_family parts.family parts.octets } };
+    ghost inverse = { λ parts.
+        record { port = parts.port; octets = with_family parts.family parts.octets } };
 
-    ghost inverse_ok = { λ address whole i. record { port = address.port; octets = with_family-of address.octets i } };
+    ghost inverse_ok = { λ address whole i.
+        record { port = address.port; octets = with_family-of address.octets i } };
 }
 
 /// Each octet xor the byte of the key at its place.
@@ -86,11 +93,12 @@ fn xor_key(id: TransactionId) -> [u8; 16]
     key
 }
 
-/// The octets of an address of this family, where there are as many as it has.
+/// The octets of an address of this family, or `None` if it has another number of them.
 fn read_octets(family: u8, octets: &[u8]) -> Option<XoredOctets>
     ensures { MatchOption result (has_octets family (length octets.now) ≡ false)
         (λ read. (has_octets family (length octets.now) ≡ true)
-        × (family_of read ≡ family) × (octets_of read ≡ octets.now) × IsWhole read) }
+        × (family_of_octets read ≡ family)
+        × (octets_of read ≡ octets.now) × HasOctetsOfFamily read) }
 {
     if family == IPV4 && octets.len() == 4 {
         let mut ipv4 = [0; 4];
@@ -106,10 +114,10 @@ fn read_octets(family: u8, octets: &[u8]) -> Option<XoredOctets>
 }
 
 impl XorMappedAddress {
-    /// The attribute of this address in a message of this transaction. Flow information and scope of an IPv6 address are
-    /// not kept.
+    /// The attribute of this address in a message of this transaction. Flow information and scope
+    /// of an IPv6 address are dropped.
     pub fn new(addr: SocketAddr, id: TransactionId) -> Self
-        ensures { result ≡ xored (socket_ip addr) (socket_port addr) id }
+        ensures { result ≡ xored_address (socket_ip addr) (socket_port addr) id }
     {
         let key = xor_key(id);
         let octets = match addr.ip() {
@@ -130,8 +138,8 @@ impl XorMappedAddress {
         }
     }
 
-    /// The address, where the attribute is of a message of this transaction. Flow information and scope of an IPv6
-    /// address are 0.
+    /// The address, if the attribute is of a message of this transaction. Flow information and
+    /// scope of an IPv6 address are 0.
     pub fn addr(&self, id: TransactionId) -> SocketAddr
         ensures ip { IsHidden id self.now (socket_ip result) }
         ensures port { IsPlainSocket result (xor_port self.now.port) }
@@ -177,8 +185,6 @@ impl Attribute for XorMappedAddress {
     }
 
     fn length(&self) -> usize {
-        // Read for the clause `well_formed`: a field's type bounds it.
-        let _port = self.port;
         match &self.octets {
             XoredOctets::V4(octets) => FAMILY_AND_PORT_LENGTH + octets.as_slice().len(),
             XoredOctets::V6(octets) => FAMILY_AND_PORT_LENGTH + octets.as_slice().len(),
@@ -197,14 +203,17 @@ impl Attribute for XorMappedAddress {
 fn append_address<W: MessageWrite>(writer: &mut W, family: u8, port: u16, octets: &[u8])
     requires whole { length octets.now % 4 ≡ 0 }
     requires short { length octets.now ≤ 16 }
-    requires reserved { 8 + length octets.now ≤ W.reserved writer.old }
+    requires reserved { attribute_length (FAMILY_AND_PORT_LENGTH + length octets.now)
+        ≤ W.reserved writer.old }
     ensures bytes { W.bytes writer.new ≡ W.bytes writer.old
         ++ spelled_attribute (record {
           kind = XOR_MAPPED_ADDRESS;
           value = xored_value (record { family = family; port = port; octets = octets.now });
         }) }
-    ensures room { W.room writer.new + (8 + length octets.now) ≡ W.room writer.old }
-    ensures reserved { W.reserved writer.new + (8 + length octets.now) ≡ W.reserved writer.old }
+    ensures room { W.room writer.new + attribute_length (FAMILY_AND_PORT_LENGTH + length octets.now)
+        ≡ W.room writer.old }
+    ensures reserved { W.reserved writer.new
+        + attribute_length (FAMILY_AND_PORT_LENGTH + length octets.now) ≡ W.reserved writer.old }
 {
     append_header(
         writer,

@@ -1,4 +1,4 @@
-//! Messages in a slice that is lent.
+//! Messages in a borrowed slice.
 
 ghost use Rattle.std.specs.Prelude.{◌≡◌, [], length};
 
@@ -9,8 +9,8 @@ use stun_base::error::StunWriteError;
 
 /// Writes a message to a slice. It does not allocate.
 ///
-/// Contracts see the bytes written so far and how many more there is room for. Of what the slice holds after the bytes
-/// written nothing is promised.
+/// Contracts see the bytes written so far, and how many more fit. Nothing is promised of the bytes
+/// of the slice after those written.
 #[derive(Debug, Drop)]
 pub struct MessageWriteMutSlice<'a> {
     buffer: &'a mut [u8],
@@ -47,7 +47,7 @@ impl<'a> MessageWrite for MessageWriteMutSlice<'a> {
 
     ghost room = { λ writer. writer.room };
 
-    // All the room there is is reserved.
+    // All of the room is reserved.
     ghost reserved = { λ writer. writer.room };
 
     fn data(&self) -> &[u8] {

@@ -1,4 +1,4 @@
-//! Messages written to a `Vec`, which grows.
+//! Messages in a `Vec`, which grows.
 
 ghost use Rattle.std.specs.Prelude.{◌≡◌, []};
 ghost use Rattle.stun_types.specs.WriteVec.{Written};
@@ -15,7 +15,7 @@ use stun_base::error::StunWriteError;
 #[derive_where(Debug)]
 pub struct MessageWriteVec<A: Allocator = Global> {
     bytes: Vec<u8, A>,
-    // How many bytes more are promised to fit the capacity.
+    // How many more bytes are reserved.
     reserved: usize,
 }
 

@@ -1,7 +1,7 @@
 use Rattle.std.proofs.Common.{◌≡◌, None, Some, Option, Ok, Err, refl, subst}
 use Rattle.std.specs.Prelude.{IsOk, Result}
 use Rattle.std.specs.Option.{IsSome, IsSomeAnd}
-use Rattle.stun_base.specs.declared.error.StunWriteError.{StunWriteError}
+use Rattle.stun_base.specs.declared.wire.error.StunWriteError.{StunWriteError}
 use Rattle.stun_auth.specs.Additions.{Page, added_all}
 use Rattle.stun_auth.specs.Signed.{IsSignableByServer, added_by_client, added_by_server, additions_of}
 use Rattle.stun_auth.proofs.JoinedLemmas.{WritingLaws}

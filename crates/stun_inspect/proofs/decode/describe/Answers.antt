@@ -10,6 +10,7 @@ returns g c =
     let lines = string_bytes c.in_ok-lines.lines in (
       string_bytes c.in_ok-text.text,
       lines,
+      c.in_ok-text.ensures,
       subst (λ message. AreLinesOn message (told_of c.args.message.now) lines) c.as_bytes-bytes.ensures.bytes
           (subst (λ told. AreLinesOn c.as_bytes-bytes.result.now told lines) (c.as_slice.ensures.value ∙ c.in_ok-told.ensures.told)
           c.in_ok-lines.ensures),

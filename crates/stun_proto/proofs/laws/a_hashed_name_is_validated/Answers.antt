@@ -1,6 +1,6 @@
 -- The premises are looked at one by one; no digest is computed.
-use Rattle.stun_proto.proofs.ExampleLemmas.{agrees, is_ready_client}
-use Rattle.stun_proto.proofs.ServedExample.{MessageLaws, is_served}
+use Rattle.stun_proto.proofs.meetings.ExampleLemmas.{agrees, is_ready_client}
+use Rattle.stun_proto.proofs.server_runs.ServedExample.{MessageLaws, is_served}
 use Rattle.stun_proto.proofs.laws.a_hashed_name_is_validated.Goals as goal
 
 pub returns-clause-ready : goal.returns-clause-ready

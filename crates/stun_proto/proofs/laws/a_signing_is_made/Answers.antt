@@ -1,5 +1,5 @@
 -- The clauses of the call, in one.
-use Rattle.stun_proto.proofs.MadeLemmas.{is_signed}
+use Rattle.stun_proto.proofs.server_runs.MadeLemmas.{is_signed}
 use Rattle.stun_proto.proofs.laws.a_signing_is_made.Goals as goal
 
 pub returns : goal.returns

@@ -2,7 +2,7 @@
 use Rattle.std.proofs.Common.{subst}
 use Rattle.stun_base.specs.Words.{next_words}
 use Rattle.stun_types.specs.Message.{IsMessage}
-use Rattle.stun_proto.proofs.MadeLemmas.{is_validated}
+use Rattle.stun_proto.proofs.server_runs.MadeLemmas.{is_validated}
 use Rattle.stun_proto.proofs.laws.a_validation_is_made.Goals as goal
 
 pub returns : goal.returns

@@ -1,5 +1,5 @@
 -- What is put behind the deciding attribute is not read, so it changes no reply.
-use Rattle.stun_proto.proofs.AppendedLemmas.{answered_alike}
+use Rattle.stun_proto.proofs.server_runs.AppendedLemmas.{answered_alike}
 use Rattle.stun_proto.proofs.laws.appending_changes_no_reply.Goals as goal
 
 pub returns-clause-agreeing : goal.returns-clause-agreeing

@@ -1,4 +1,4 @@
-use Rattle.stun_proto.proofs.Existence.{events_have_runs}
+use Rattle.stun_proto.proofs.agent_runs.Existence.{events_have_runs}
 use Rattle.stun_proto.proofs.laws.events_have_runs.Goals as goal
 
 pub returns : goal.returns

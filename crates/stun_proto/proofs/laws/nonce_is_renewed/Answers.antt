@@ -1,6 +1,6 @@
-use Rattle.stun_proto.proofs.Renewed.{is_renewed}
-use Rattle.stun_proto.proofs.Signed.{NoncesAsk}
-use Rattle.stun_proto.proofs.SignedRuns.{SigningLaws, signed_is_read}
+use Rattle.stun_proto.proofs.meetings.Renewed.{is_renewed}
+use Rattle.stun_proto.proofs.meetings.Signed.{NoncesAsk}
+use Rattle.stun_proto.proofs.meetings.SignedRuns.{SigningLaws, signed_is_read}
 use Rattle.stun_proto.proofs.laws.nonce_is_renewed.Goals as goal
 
 nonces : (c : goal.After-sides_add_by_attribute) → NoncesAsk

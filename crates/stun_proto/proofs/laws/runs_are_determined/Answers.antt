@@ -1,4 +1,4 @@
-use Rattle.stun_proto.proofs.RunLemmas.{driven_same, run_determined}
+use Rattle.stun_proto.proofs.agent_runs.RunLemmas.{driven_same, run_determined}
 use Rattle.stun_proto.proofs.laws.runs_are_determined.Goals as goal
 
 pub returns-clause-driven : goal.returns-clause-driven

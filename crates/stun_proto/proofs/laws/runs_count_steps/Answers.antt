@@ -1,4 +1,4 @@
-use Rattle.stun_proto.proofs.Counting.{runs_count_steps}
+use Rattle.stun_proto.proofs.agent_runs.Counting.{runs_count_steps}
 use Rattle.stun_proto.proofs.laws.runs_count_steps.Goals as goal
 
 pub returns : goal.returns

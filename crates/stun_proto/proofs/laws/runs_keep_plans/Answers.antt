@@ -1,4 +1,4 @@
-use Rattle.stun_proto.proofs.Driven.{driven_keeps_plans}
+use Rattle.stun_proto.proofs.agent_runs.Driven.{driven_keeps_plans}
 use Rattle.stun_proto.proofs.laws.runs_keep_plans.Goals as goal
 
 pub returns : goal.returns

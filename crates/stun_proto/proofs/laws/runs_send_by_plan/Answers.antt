@@ -1,4 +1,4 @@
-use Rattle.stun_proto.proofs.Once.{driven_by_plan}
+use Rattle.stun_proto.proofs.agent_runs.Once.{driven_by_plan}
 use Rattle.stun_proto.proofs.laws.runs_send_by_plan.Goals as goal
 
 pub returns : goal.returns

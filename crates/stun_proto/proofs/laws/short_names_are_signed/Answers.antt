@@ -1,6 +1,6 @@
-use Rattle.stun_proto.proofs.Meeting.{all_signed}
-use Rattle.stun_proto.proofs.Signed.{NoncesAsk}
-use Rattle.stun_proto.proofs.SignedRuns.{RoomLaws, SigningLaws, signed_is_read, signing_succeeds}
+use Rattle.stun_proto.proofs.meetings.Meeting.{all_signed}
+use Rattle.stun_proto.proofs.meetings.Signed.{NoncesAsk}
+use Rattle.stun_proto.proofs.meetings.SignedRuns.{RoomLaws, SigningLaws, signed_is_read, signing_succeeds}
 use Rattle.stun_proto.proofs.laws.short_names_are_signed.Goals as goal
 
 nonces : (c : goal.After-sides_sign_with_room) → NoncesAsk

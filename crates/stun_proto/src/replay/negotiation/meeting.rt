@@ -1,9 +1,13 @@
 //! The steps of a meeting: a request, its challenge, the request with credentials, its success.
 #![tactic(none)]
 
-ghost use Rattle.std.specs.Prelude.{◌≡◌};
-ghost use Rattle.stun_proto.specs.Negotiation.{negotiated, outcome_of_success};
-ghost use Rattle.stun_proto.specs.Sides.{sides_of};
+ghost use Rattle.std.specs.Prelude.{◌≡◌, Ok, Err};
+ghost use Rattle.stun_base.specs.Header.{transaction_id_field, type_field};
+ghost use Rattle.stun_base.specs.MessageType.{method_of};
+ghost use Rattle.stun_auth.specs.declared.server.reason.LongTermServerAuthErrorReason.TheVariants.{Unauthorized};
+ghost use Rattle.stun_auth.specs.declared.server.reason.LongTermServerValidation.TheVariants.{Validated};
+ghost use Rattle.stun_proto.specs.Negotiation.{BINDING as BINDING_METHOD, asked, first_answered, negotiated, outcome_of_success, second_answered, second_asked};
+ghost use Rattle.stun_proto.specs.Sides.{Passes, PassesAccepted, PassesResend, PassesUnauthorized};
 ghost use Rattle.stun_proto.specs.code.FirstAnswers.{end_of_challenge, end_of_first};
 ghost use Rattle.stun_proto.specs.code.Meetings.{meeting_of};
 ghost use Rattle.stun_proto.specs.code.Sides.{IsRun};
@@ -22,6 +26,7 @@ use stun_auth::auth::{
 use stun_base::algorithm::IntegrityAlgorithm;
 use stun_base::instant::Instant;
 use stun_base::transaction_id::TransactionId;
+use stun_types::message::Message;
 use stun_types::prelude::*;
 
 /// A request: its id, the moment at which the server reads it, the random words of a nonce, and the server's calls just before
@@ -45,44 +50,97 @@ pub(crate) struct Meeting<'a> {
 /// The two sides meet: a request, its challenge, the request with credentials and its success, each read by the other side. The
 /// server makes its first calls just before the challenge is read, and its second just before the second request is. The first
 /// answer that is no step of this is the outcome.
+#[tactic(auto)]
 pub(crate) fn meet<A: Allocator + Copy>(
     alloc: A,
     client: &mut LongTermClientAuth<A>,
     server: &mut LongTermServerAuth<A>,
     meeting: &Meeting<'_>,
 ) -> Result<Outcome, NegotiateError>
-    ensures { let m = meeting_of client.old.settings meeting.now in
-        IsRun result client.old client.new server.new (negotiated m client.old.state server.old)
-        (sides_of m client.old.state server.old) }
+    ensures settings { client.new.settings ≡ client.old.settings }
+    ensures run { let m = meeting_of client.old.settings meeting.now in
+        IsRun result client.new.state server.new (negotiated m client.old.state server.old)
+        (Passes m client.old.state server.old) }
 {
-    let from = meeting.from;
     let first = &meeting.first;
-    let second = &meeting.second;
-
     let unproven = request(alloc, client, first.id)?;
     let asked = message_in(unproven.data());
-    let answer = judged(server, &asked, from, first.moment, first.words)?;
-    if let Some(outcome) = end_of_first(answer) {
-        return Ok(outcome);
+    let answer = judged(server, &asked, meeting.from, first.moment, first.words)?;
+    match end_of_first(answer) {
+        Some(outcome) => Ok(outcome),
+        None => after_unauthorized(alloc, client, server, &asked, meeting),
     }
-    let failure = challenge(alloc, server, &asked, from)?;
-    serve(alloc, server, first.before)?;
-    let taken = read(client, failure.data())?;
-    if let Some(outcome) = end_of_challenge(taken) {
-        return Ok(outcome);
-    }
+}
 
+/// The first request is to be challenged: the server signs a 401, makes its first calls, and the client reads the 401.
+#[tactic(auto)]
+fn after_unauthorized<A: Allocator + Copy>(
+    alloc: A,
+    client: &mut LongTermClientAuth<A>,
+    server: &mut LongTermServerAuth<A>,
+    asked: &Message<'_>,
+    meeting: &Meeting<'_>,
+) -> Result<Outcome, NegotiateError>
+    requires method { method_of (type_field asked.now) ≡ BINDING_METHOD }
+    requires id { transaction_id_field asked.now ≡ meeting.now.first.id }
+    ensures settings { client.new.settings ≡ client.old.settings }
+    ensures run { let m = meeting_of client.old.settings meeting.now in
+        IsRun result client.new.state server.new (first_answered m client.old.state server.old
+        (Err Unauthorized)) (PassesUnauthorized m client.old.state server.old) }
+{
+    let failure = challenge(alloc, server, asked, meeting.from)?;
+    serve(alloc, server, meeting.first.before)?;
+    let answer = read(client, failure.data())?;
+    match end_of_challenge(answer) {
+        Some(outcome) => Ok(outcome),
+        None => after_resend(alloc, client, server, meeting),
+    }
+}
+
+/// The client is to ask again: it signs a request, the server makes its second calls and reads the request.
+#[tactic(auto)]
+fn after_resend<A: Allocator + Copy>(
+    alloc: A,
+    client: &mut LongTermClientAuth<A>,
+    server: &mut LongTermServerAuth<A>,
+    meeting: &Meeting<'_>,
+) -> Result<Outcome, NegotiateError>
+    ensures settings { client.new.settings ≡ client.old.settings }
+    ensures run { let m = meeting_of client.old.settings meeting.now in
+        IsRun result client.new.state server.new (second_asked m client.old.state server.old
+        (asked m.second.id client.old.state)) (PassesResend m client.old.state server.old) }
+{
+    let second = &meeting.second;
     let proven = request(alloc, client, second.id)?;
     let again = message_in(proven.data());
     serve(alloc, server, second.before)?;
-    let verdict = judged(server, &again, from, second.moment, second.words)?;
-    let algorithm = match verdict {
-        Ok(algorithm) => algorithm,
-        Err(reason) => return Ok(Outcome::ServerRefused(reason)),
-    };
-    let granted = success(alloc, server, &again, from)?;
-    let told = read(client, granted.data())?;
-    Ok(outcome(algorithm, told))
+    let verdict = judged(server, &again, meeting.from, second.moment, second.words)?;
+    match verdict {
+        Ok(algorithm) => after_accepted(alloc, client, server, &again, algorithm, meeting),
+        Err(reason) => Ok(Outcome::ServerRefused(reason)),
+    }
+}
+
+/// The second request is accepted with an algorithm: the server signs a success, and the client reads it.
+#[tactic(auto)]
+fn after_accepted<A: Allocator + Copy>(
+    alloc: A,
+    client: &mut LongTermClientAuth<A>,
+    server: &mut LongTermServerAuth<A>,
+    again: &Message<'_>,
+    algorithm: IntegrityAlgorithm,
+    meeting: &Meeting<'_>,
+) -> Result<Outcome, NegotiateError>
+    requires method { method_of (type_field again.now) ≡ BINDING_METHOD }
+    requires id { transaction_id_field again.now ≡ meeting.now.second.id }
+    ensures settings { client.new.settings ≡ client.old.settings }
+    ensures run { let m = meeting_of client.old.settings meeting.now in
+        IsRun result client.new.state server.new (second_answered m client.old.state server.old
+        (Ok (Validated algorithm))) (PassesAccepted m client.old.state server.old) }
+{
+    let granted = success(alloc, server, again, meeting.from)?;
+    let answer = read(client, granted.data())?;
+    Ok(outcome(algorithm, answer))
 }
 
 /// The outcome where the first request is not to be challenged.

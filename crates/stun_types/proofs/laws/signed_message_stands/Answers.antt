@@ -2,10 +2,14 @@ use Rattle.stun_types.proofs.SigningLemmas.{HasOneMore-signed, verified_by-signe
 use Rattle.stun_types.proofs.laws.signed_message_stands.Goals as goal
 
 pub returns-clause-stands : goal.returns-clause-stands
-returns-clause-stands c = λ message algorithm key is_open short. verified_by-signed message algorithm (λ _. key) is_open short
+returns-clause-stands c =
+    λ message algorithm key is_open short.
+    verified_by-signed message algorithm (λ _. key) is_open short
 
 pub returns-clause-stands_by : goal.returns-clause-stands_by
-returns-clause-stands_by c = λ message algorithm keys is_open short. verified_by-signed message algorithm keys is_open short
+returns-clause-stands_by c =
+    λ message algorithm keys is_open short. verified_by-signed message algorithm keys is_open short
 
 pub returns-clause-added : goal.returns-clause-added
-returns-clause-added c = λ message algorithm key is_open short. HasOneMore-signed message algorithm key is_open short
+returns-clause-added c =
+    λ message algorithm key is_open short. HasOneMore-signed message algorithm key is_open short

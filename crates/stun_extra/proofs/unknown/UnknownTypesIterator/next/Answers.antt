@@ -2,7 +2,7 @@
 use Rattle.std.proofs.Common.{◌≡◌, ℕ, ◌∷◌, true, false, sym, ◌∙◌, ap, arith}
 use Rattle.std.specs.Prelude.{◌==◌, ◌||◌}
 use Rattle.std.proofs.lemmas.Grind.{common_steps}
-use Rattle.stun_base.specs.declared.attribute_type.AttributeType.{AttributeType}
+use Rattle.stun_base.specs.declared.wire.attribute_type.AttributeType.{AttributeType}
 use Rattle.stun_extra.specs.code.Told.{is_new, is_told, left_to_tell}
 use Rattle.stun_extra.proofs.UnknownLemmas.{left_to_tell-end, left_to_tell-skipped, left_to_tell-told}
 use Rattle.stun_extra.proofs.unknown.UnknownTypesIterator.next.Goals as goal

@@ -4,7 +4,7 @@ use Rattle.std.specs.Prelude.{codes}
 use Rattle.stun_base.specs.Attributes.{ERROR_CODE}
 use Rattle.stun_base.specs.Header.{transaction_id_field, type_field}
 use Rattle.stun_base.specs.MessageType.{method_of, type_number}
-use Rattle.stun_base.specs.declared.message_type.MessageClass.TheVariants.{Error}
+use Rattle.stun_base.specs.declared.wire.message_type.MessageClass.TheVariants.{Error}
 use Rattle.stun_types.specs.Attribute.{TypedValue}
 use Rattle.stun_types.specs.ErrorCode.{CodeAndReason, error_value}
 use Rattle.stun_extra.proofs.AnswerLemmas.{refusing_answer-spelled}

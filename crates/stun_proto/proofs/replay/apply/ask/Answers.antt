@@ -7,7 +7,7 @@ use Rattle.stun_agent.specs.Agent.{request_refusal, after_send_request}
 use Rattle.stun_agent.specs.declared.error.StunError.{StunError}
 use Rattle.stun_base.specs.Header.{transaction_id_field}
 use Rattle.stun_proto.specs.Steps.{Step, Refused, Transmitted}
-use Rattle.stun_proto.proofs.Sending.{request_refused, request_accepted, memory_alone}
+use Rattle.stun_proto.proofs.agent_runs.Sending.{request_refused, request_accepted, memory_alone}
 use Rattle.stun_proto.proofs.replay.apply.ask.Goals as goal
 
 pub returns-in-Err : goal.returns-in-Err

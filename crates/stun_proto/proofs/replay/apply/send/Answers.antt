@@ -1,13 +1,13 @@
 use Rattle.std.proofs.Common.{ap, subst, sym, ℕ, List, Bor, ◌∷◌, [], ◌∙◌}
 use Rattle.std.specs.declared.net.socket_addr.SocketAddr.{SocketAddr}
-use Rattle.stun_base.specs.declared.transport.TransportType.{TransportType}
+use Rattle.stun_base.specs.declared.wire.transport.TransportType.{TransportType}
 use Rattle.stun_proto.specs.code.Calls.{Keeps, kept}
 use Rattle.std.specs.Option.{option_map_or}
 use Rattle.std.specs.Prelude.{Option}
 use Rattle.stun_agent.specs.Agent.{after_send}
 use Rattle.stun_agent.specs.declared.error.StunError.{StunError}
 use Rattle.stun_proto.specs.Steps.{Step, Refused, Sent}
-use Rattle.stun_proto.proofs.Sending.{one_refused, one_accepted}
+use Rattle.stun_proto.proofs.agent_runs.Sending.{one_refused, one_accepted}
 use Rattle.stun_proto.proofs.replay.apply.send.Goals as goal
 
 pub returns-in-Err-clause-after : goal.returns-in-Err-clause-after

@@ -2,9 +2,9 @@ use Rattle.std.proofs.Common.{◌≡◌, [], drop, sym, arith, refl, ◌∙◌}
 use Rattle.std.proofs.lemmas.Bool.{eqb-false, eqb-true}
 use Rattle.std.proofs.lemmas.List.{drop_all}
 use Rattle.stun_proto.specs.Steps.{steps_of}
-use Rattle.stun_proto.proofs.DriveLemmas.{drop_next, nothing_is_driven, run_start, run_more, run_stops, run_kept, is_driven}
-use Rattle.stun_proto.proofs.Driven.{keep_plans}
-use Rattle.stun_proto.proofs.Once.{nothing_is_asked, sends_by_plan}
+use Rattle.stun_proto.proofs.agent_runs.DriveLemmas.{drop_next, nothing_is_driven, run_start, run_more, run_stops, run_kept, is_driven}
+use Rattle.stun_proto.proofs.agent_runs.Driven.{keep_plans}
+use Rattle.stun_proto.proofs.agent_runs.Once.{nothing_is_asked, sends_by_plan}
 use Rattle.stun_proto.proofs.replay.driven.drive.Goals as goal
 
 pub loop-moment-init : goal.loop-moment-init

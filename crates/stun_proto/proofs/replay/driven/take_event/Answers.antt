@@ -1,4 +1,4 @@
-use Rattle.stun_proto.proofs.DriveLemmas.{takes_whole, takes_turn_passes}
+use Rattle.stun_proto.proofs.agent_runs.DriveLemmas.{takes_whole, takes_turn_passes}
 use Rattle.stun_proto.proofs.replay.driven.take_event.Goals as goal
 
 pub returns-clause-whole : goal.returns-clause-whole

@@ -1,5 +1,5 @@
 use Rattle.std.proofs.Common.{arith}
-use Rattle.stun_proto.proofs.DriveLemmas.{turns_start, turns_none, turns_early, turns_late, turns_more}
+use Rattle.stun_proto.proofs.agent_runs.DriveLemmas.{turns_start, turns_none, turns_early, turns_late, turns_more}
 use Rattle.stun_proto.proofs.replay.driven.turns.Goals as goal
 
 pub loop-moment-init : goal.loop-moment-init

@@ -3,11 +3,11 @@ use Rattle.std.specs.Prelude.{IsErr}
 use Rattle.stun_auth.specs.Reading.{reading_of}
 use Rattle.stun_auth.specs.Reasons.{ForReason}
 use Rattle.stun_auth.specs.Validation.{Answer, after_message, answer, sight}
-use Rattle.stun_auth.specs.declared.server_reason.LongTermServerAuthErrorReason.{LongTermServerAuthErrorReason}
+use Rattle.stun_auth.specs.declared.server.reason.LongTermServerAuthErrorReason.{LongTermServerAuthErrorReason}
 use Rattle.stun_proto.specs.code.FirstAnswers.{answer_of}
 use Rattle.stun_base.proofs.DrawnWords.{next_words-source}
-use Rattle.stun_proto.proofs.Heard.{off_told, off_untold, on_told, on_untold, told_as, untold_as}
-use Rattle.stun_proto.proofs.ValidateLemmas.{either}
+use Rattle.stun_proto.proofs.meetings.Heard.{off_told, off_untold, on_told, on_untold, told_as, untold_as}
+use Rattle.stun_proto.proofs.server_runs.ValidateLemmas.{either}
 use Rattle.stun_proto.proofs.replay.judging.judged.Goals as goal
 
 pub returns-in-Ok-clause-answer : goal.returns-in-Ok-clause-answer

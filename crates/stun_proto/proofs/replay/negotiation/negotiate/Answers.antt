@@ -1,15 +1,14 @@
-use Rattle.std.proofs.Common.{◌≡◌, ◌≤◌, length, arith, Option, Some, None, sym, ◌∙◌, ap, subst, IfSome}
+use Rattle.std.proofs.Common.{◌≡◌, ◌≤◌, length, arith, Option, Some, None, sym, subst, IfSome}
 use Rattle.std.specs.Prelude.{IsUtf8}
 use Rattle.stun_base.specs.Credentials.{NameAndPassword}
 use Rattle.stun_auth.specs.Client.{ClientState}
 use Rattle.stun_proto.specs.Honest.{AreShort, ComesTo, strongest}
 use Rattle.stun_proto.specs.Matching.{AreTexts}
-use Rattle.stun_proto.specs.code.Meetings.{turn_of}
-use Rattle.stun_proto.specs.Negotiating.{lists, meeting, met_by, turn_at}
+use Rattle.stun_proto.specs.Negotiating.{lists, meeting, met_by}
 use Rattle.stun_proto.specs.Negotiation.{Meeting, Round, negotiated}
-use Rattle.stun_proto.specs.Sides.{sides_of}
+use Rattle.stun_proto.specs.Sides.{Passes}
 use Rattle.stun_proto.specs.code.Sides.{IsRun}
-use Rattle.stun_proto.proofs.Outcomes.{ends_at_strongest}
+use Rattle.stun_proto.proofs.meetings.Outcomes.{ends_at_strongest}
 use Rattle.stun_proto.proofs.replay.negotiation.negotiate.Goals as goal
 
 if_some_map : {A : Type 0} {P Q : A → Type 0} (o : Option A) → ((a : A) → P a → Q a) → IfSome o P → IfSome o Q
@@ -17,16 +16,14 @@ if_some_map (Some a) f h = f a h
 if_some_map None f h = tt
 
 -- the run of the meeting that the contract speaks of
-whole : (g : _) (c : goal.After-meet g) → IsRun c.meet.result c.args.client.now c.meet.new.client c.meet.new.server
-    (negotiated (meeting c.args.client.now.settings c.args.from c.args.ids c.args.moments c.args.words (lists c.args.between)) c.args.client.now.state c.args.server.now)
-    (sides_of (meeting c.args.client.now.settings c.args.from c.args.ids c.args.moments c.args.words (lists c.args.between)) c.args.client.now.state c.args.server.now)
+whole : (g : _) (c : goal.After-meet g) →
+    let m = meeting c.args.client.now.settings c.args.from c.args.ids c.args.moments c.args.words (lists c.args.between) in
+    IsRun c.meet.result c.meet.new.client.state c.meet.new.server (negotiated m c.args.client.now.state c.args.server.now) (Passes m c.args.client.now.state c.args.server.now)
 whole g c =
     let k = c.args.client.now in
     let s = c.args.server.now in
-    let same =
-    ap (λ (t : Round). let m : Meeting = record { settings = k.settings; from = c.args.from; first = t; second = turn_of c.turn_at-second.result } in m) c.turn_at-first.ensures.turn
-    ∙ ap (λ (t : Round). let m : Meeting = record { settings = k.settings; from = c.args.from; first = turn_at 0 c.args.ids c.args.moments c.args.words (lists c.args.between); second = t } in m) c.turn_at-second.ensures.turn in
-    subst (λ (m : Meeting). IsRun c.meet.result k c.meet.new.client c.meet.new.server (negotiated m k.state s) (sides_of m k.state s)) same c.meet.ensures
+    subst (λ (m : Meeting). IsRun c.meet.result c.meet.new.client.state c.meet.new.server (negotiated m k.state s) (Passes m k.state s))
+    (λ i. record { settings = k.settings; from = c.args.from; first = c.turn_at-first.ensures.turn i; second = c.turn_at-second.ensures.turn i }) c.meet.ensures.run
 
 pub turn_at-first-requires : goal.turn_at-first-requires
 turn_at-first-requires g c = omega arith
@@ -35,7 +32,7 @@ pub turn_at-second-requires : goal.turn_at-second-requires
 turn_at-second-requires g c = omega arith
 
 pub returns-clause-settings : goal.returns-clause-settings
-returns-clause-settings g c = (whole g c).settings
+returns-clause-settings g c = c.meet.ensures.settings
 
 pub returns-clause-steps : goal.returns-clause-steps
 returns-clause-steps g c = (whole g c).steps

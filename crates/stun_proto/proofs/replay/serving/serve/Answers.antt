@@ -5,11 +5,11 @@ use Rattle.stun_proto.specs.Accepting.{ValidatesAccepted}
 use Rattle.stun_proto.specs.Isolation.{IsIsolated}
 use Rattle.stun_proto.specs.Replies.{message_read}
 use Rattle.stun_proto.specs.Serving.{replies_of, reply_of}
-use Rattle.stun_proto.proofs.AcceptingLemmas.{validates_accepted}
-use Rattle.stun_proto.proofs.Digests.{digest_held}
-use Rattle.stun_proto.proofs.IsolationLemmas.{is_isolated, sight-after_calls}
-use Rattle.stun_proto.proofs.RepliesLemmas.{ValidatesByReplies, validates_by_replies}
-use Rattle.stun_proto.proofs.ServedCalls.{call_at, told_all, served_all, served_more, told_more}
+use Rattle.stun_proto.proofs.server_runs.AcceptingLemmas.{validates_accepted}
+use Rattle.stun_proto.proofs.server_runs.Digests.{digest_held}
+use Rattle.stun_proto.proofs.server_runs.IsolationLemmas.{is_isolated, sight-after_calls}
+use Rattle.stun_proto.proofs.server_runs.RepliesLemmas.{ValidatesByReplies, validates_by_replies}
+use Rattle.stun_proto.proofs.server_runs.ServedCalls.{call_at, told_all, served_all, served_more, told_more}
 use Rattle.stun_proto.proofs.replay.serving.serve.Goals as goal
 
 pub returns-clause-isolated : goal.returns-clause-isolated

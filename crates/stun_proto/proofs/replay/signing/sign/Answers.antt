@@ -5,8 +5,8 @@ use Rattle.stun_auth.specs.ServerSigning.{after_signing}
 use Rattle.stun_auth.specs.Validation.{sight}
 use Rattle.stun_proto.specs.code.Signed.{signed_page}
 use Rattle.stun_proto.specs.Signing.{signing}
-use Rattle.stun_proto.proofs.SigningLemmas.{either_signed, left_by_bytes, told_signing}
-use Rattle.stun_proto.proofs.ValidateLemmas.{no_reply, on_given, on_none_given, reply_given}
+use Rattle.stun_proto.proofs.meetings.SigningLemmas.{either_signed, left_by_bytes, told_signing}
+use Rattle.stun_proto.proofs.server_runs.ValidateLemmas.{no_reply, on_given, on_none_given, reply_given}
 use Rattle.stun_proto.proofs.replay.signing.sign.Goals as goal
 
 pub returns-clause-reply : goal.returns-clause-reply

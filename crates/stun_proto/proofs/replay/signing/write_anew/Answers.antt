@@ -6,8 +6,8 @@ use Rattle.stun_types.specs.WriteVec.{Written}
 use Rattle.stun_auth.specs.Additions.{UnlessMemory}
 use Rattle.stun_proto.specs.Signing.{written_anew}
 use Rattle.stun_proto.specs.code.Signed.{written_message}
-use Rattle.stun_proto.proofs.SigningLemmas.{IsWritingAnew, begins_anew, ends_anew, goes_on_anew, not_refused, refused_anew}
-use Rattle.stun_proto.proofs.Typed.{by_reason}
+use Rattle.stun_proto.proofs.meetings.SigningLemmas.{IsWritingAnew, begins_anew, ends_anew, goes_on_anew, not_refused, refused_anew}
+use Rattle.stun_proto.proofs.meetings.Typed.{by_reason}
 use Rattle.stun_proto.proofs.replay.signing.write_anew.Goals as goal
 
 pub loop-attribute-preserved : goal.loop-attribute-preserved

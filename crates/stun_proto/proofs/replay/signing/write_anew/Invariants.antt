@@ -2,7 +2,7 @@
 use Rattle.std.proofs.Common.{◌≡◌}
 use Rattle.stun_base.specs.Header.{type_field}
 use Rattle.stun_types.specs.Writing.{IsOpen}
-use Rattle.stun_proto.proofs.SigningLemmas.{IsWritingAnew}
+use Rattle.stun_proto.proofs.meetings.SigningLemmas.{IsWritingAnew}
 use Rattle.stun_proto.proofs.replay.signing.write_anew.Given as goal
 
 abbrev pub invariant-loop-attribute : goal.invariant-loop-attribute

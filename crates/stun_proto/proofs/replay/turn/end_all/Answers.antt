@@ -1,7 +1,7 @@
 use Rattle.std.proofs.Common.{subst}
 use Rattle.std.specs.Prelude.{None}
 use Rattle.stun_proto.specs.code.Calls.{EndsOne, kept}
-use Rattle.stun_proto.proofs.TurnLemmas.{leads_ended, moved_ended, less_ended}
+use Rattle.stun_proto.proofs.agent_runs.TurnLemmas.{leads_ended, moved_ended, less_ended}
 use Rattle.stun_proto.proofs.replay.turn.end_all.Goals as goal
 
 pub loop-moment-smaller : goal.loop-moment-smaller

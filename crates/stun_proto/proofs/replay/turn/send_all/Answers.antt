@@ -1,7 +1,7 @@
 use Rattle.std.proofs.Common.{subst, refl, inr, true, false}
 use Rattle.stun_proto.specs.code.Calls.{SendsOne, kept}
 use Rattle.stun_proto.specs.Run.{sending}
-use Rattle.stun_proto.proofs.TurnLemmas.{leads_start, leads_sent, moved_sent, sends_all, less_sent}
+use Rattle.stun_proto.proofs.agent_runs.TurnLemmas.{leads_start, leads_sent, moved_sent, sends_all, less_sent}
 use Rattle.stun_proto.proofs.replay.turn.send_all.Goals as goal
 
 pub loop-alloc-init : goal.loop-alloc-init

@@ -1,7 +1,7 @@
 use Rattle.stun_proto.specs.code.Calls.{Leads, kept}
 use Rattle.stun_proto.specs.Run.{sending}
 use Rattle.stun_proto.specs.code.Work.{work}
-use Rattle.stun_proto.proofs.TurnLemmas.{HasMoved}
+use Rattle.stun_proto.proofs.agent_runs.TurnLemmas.{HasMoved}
 use Rattle.stun_proto.proofs.replay.turn.send_all.Given as goal
 
 -- the turn goes on in its first phase

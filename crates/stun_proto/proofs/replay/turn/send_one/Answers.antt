@@ -1,6 +1,6 @@
 use Rattle.std.proofs.Common.{rules, ◌≡◌}
 use Rattle.stun_agent.specs.Agent.{after_poll_transmit}
-use Rattle.stun_proto.proofs.TurnLemmas.{sends_one}
+use Rattle.stun_proto.proofs.agent_runs.TurnLemmas.{sends_one}
 use Rattle.stun_proto.proofs.replay.turn.send_one.Goals as goal
 
 pub returns : goal.returns

@@ -1,7 +1,7 @@
 use Rattle.std.proofs.Common.{◌<◌, ◌≤◌, inl, inr, arith}
 use Rattle.stun_base.specs.Moments.{last_moment}
 use Rattle.stun_agent.specs.Transactions.{wake_up}
-use Rattle.stun_proto.proofs.TurnLemmas.{leads_both, leads_again, takes_turn, less_again}
+use Rattle.stun_proto.proofs.agent_runs.TurnLemmas.{leads_both, leads_again, takes_turn, less_again}
 use Rattle.stun_proto.proofs.replay.turn.turn.Goals as goal
 
 pub returns-then-as_nanos : goal.returns-then-as_nanos

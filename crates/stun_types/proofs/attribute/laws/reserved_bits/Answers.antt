@@ -3,7 +3,8 @@ use Rattle.std.proofs.Common.{◌≡◌, ◌%◌, refl, arith}
 use Rattle.stun_types.proofs.attribute.laws.reserved_bits.Goals as goal
 
 pub returns-clause-error_read : goal.returns-clause-error_read
-returns-clause-error_read c = λ a b class rest. let same : class % 8 % 8 ≡ class % 8 = omega arith in rw same
+returns-clause-error_read c = λ a b class rest. let same : class % 8 % 8 ≡ class % 8 =
+    omega arith in rw same
 
 pub returns-clause-address_read : goal.returns-clause-address_read
 returns-clause-address_read c = λ a rest. refl

@@ -10,14 +10,18 @@ use Rattle.stun_types.proofs.attribute.password_algorithms.entry_at.Goals as goa
 pub returns-then-i-bytes : goal.returns-then-i-bytes
 returns-then-i-bytes c =
     let whole : length c.args.bytes.now ≡ 4 * length (entry_list c.args.bytes.now) =
-    entries-length c.args.bytes.now (entry_list c.args.bytes.now) (entry_list-read c.args.bytes.now c.requires) in
+    entries-length c.args.bytes.now (entry_list c.args.bytes.now)
+    (entry_list-read c.args.bytes.now c.requires) in
     sym (slice_get_past (entry_list c.args.bytes.now) c.args.i (omega arith))
 
 pub returns : goal.returns
 returns c =
     let whole : length c.args.bytes.now ≡ 4 * length (entry_list c.args.bytes.now) =
-    entries-length c.args.bytes.now (entry_list c.args.bytes.now) (entry_list-read c.args.bytes.now c.requires) in
+    entries-length c.args.bytes.now (entry_list c.args.bytes.now)
+    (entry_list-read c.args.bytes.now c.requires) in
     let there : c.args.i < length (entry_list c.args.bytes.now) = omega arith in
-    let read : c.read_entry.result ≡ entry_at_front (drop (4 * c.args.i) c.args.bytes.now) = rw take_rest at c.read_entry.ensures in
+    let read : c.read_entry.result ≡ entry_at_front (drop (4 * c.args.i) c.args.bytes.now) =
+    rw take_rest at c.read_entry.ensures in
     read
-    ∙ sym (entries-get c.args.bytes.now (entry_list c.args.bytes.now) c.args.i (entry_list-read c.args.bytes.now c.requires) there)
+    ∙ sym (entries-get c.args.bytes.now (entry_list c.args.bytes.now) c.args.i
+    (entry_list-read c.args.bytes.now c.requires) there)

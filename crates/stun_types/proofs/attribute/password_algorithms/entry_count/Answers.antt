@@ -7,5 +7,6 @@ use Rattle.stun_types.proofs.attribute.password_algorithms.entry_count.Goals as 
 pub returns : goal.returns
 returns c =
     let whole : length c.args.bytes.now ≡ 4 * length (entry_list c.args.bytes.now) =
-    entries-length c.args.bytes.now (entry_list c.args.bytes.now) (entry_list-read c.args.bytes.now c.requires) in
+    entries-length c.args.bytes.now (entry_list c.args.bytes.now)
+    (entry_list-read c.args.bytes.now c.requires) in
     omega arith

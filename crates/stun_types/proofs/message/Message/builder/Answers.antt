@@ -11,9 +11,12 @@ pub returns-clause-bytes : goal.returns-clause-bytes
 returns-clause-bytes g c = search rules
 
 -- the message that is spelled
-spelled_is_open : (g : Over) (c : goal.After-append-4 g) → IsOpen (spelled c.args.message_type c.args.id []) × (walk (spelled c.args.message_type c.args.id []) ≡ [])
+spelled_is_open : (g : Over) (c : goal.After-append-4 g)
+    → IsOpen (spelled c.args.message_type c.args.id [])
+    × (walk (spelled c.args.message_type c.args.id []) ≡ [])
 spelled_is_open g c =
-    let fits : c.args.message_type < 2 ^ 14 = omega (arith, c.value.ensures.value, c.value.ensures.fits) in
+    let fits : c.args.message_type < 2 ^ 14 =
+    omega (arith, c.value.ensures.value, c.value.ensures.fits) in
     IsOpen-spelled c.args.message_type c.args.id fits
 
 pub returns-clause-open : goal.returns-clause-open

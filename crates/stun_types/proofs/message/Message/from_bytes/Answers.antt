@@ -4,13 +4,17 @@ use Rattle.stun_types.specs.Message.{IsMessage}
 use Rattle.stun_types.specs.Walk.{walk, taken}
 use Rattle.stun_types.proofs.HeaderLemmas.{fields_of}
 use Rattle.stun_types.proofs.VisibleLemmas.{StandsAt-read}
-use Rattle.stun_types.proofs.MessageLemmas.{HasTaken-step, next_place-within, refusal-none, refusal-unfilled, taken-end, taken-all}
+use Rattle.stun_types.proofs.MessageLemmas.{HasTaken-step, next_place-within, refusal-none}
+use Rattle.stun_types.proofs.MessageLemmas.{refusal-unfilled, taken-end, taken-all}
 use Rattle.stun_types.proofs.message.Message.from_bytes.Goals as goal
 
 -- the walk ends before the end of the bytes
-unfilled : (c : goal.In_default) → HEADER_LENGTH + taken (walk c.args.bytes.now) ≢ length c.args.bytes.now
+unfilled : (c : goal.In_default)
+    → HEADER_LENGTH + taken (walk c.args.bytes.now) ≢ length c.args.bytes.now
 unfilled c filled =
-    let end = taken-end c.loop-place.place c.args.bytes.now c.loop-place.invariant.taken c.in_default.ensures.none in
+    let end =
+    taken-end c.loop-place.place c.args.bytes.now c.loop-place.invariant.taken
+    c.in_default.ensures.none in
     absurd (omega arith)
 
 pub returns-in_default-clause-ok : goal.returns-in_default-clause-ok
@@ -19,27 +23,40 @@ returns-in_default-clause-ok c = (λ ok. cc, λ message. absurd (unfilled c mess
 pub returns-in_default-clause-refused : goal.returns-in_default-clause-refused
 returns-in_default-clause-refused c =
     let field = ap (λ header. header.data_length) c.in_ok-header.ensures.value in
-    refusal-unfilled c.args.bytes.now (c.in_ok-header.ensures.ok.0 refl) (omega (arith, field)) (unfilled c)
+    refusal-unfilled c.args.bytes.now (c.in_ok-header.ensures.ok.0 refl) (omega (arith, field))
+    (unfilled c)
 
 pub loop-place-preserved : goal.loop-place-preserved
 loop-place-preserved c =
     let read = c.in-Some.ensures in
     let stands = StandsAt-read read.whole read.kind read.behind in
-    record { taken = HasTaken-step c.loop-place.invariant.taken stands; within = next_place-within stands }
+    record {
+      taken = HasTaken-step c.loop-place.invariant.taken stands;
+      within = next_place-within stands;
+    }
 
 -- the bytes are a message
 is_message : (c : goal.After-loop-place) → IsMessage c.args.bytes.now
 is_message c =
     let field = ap (λ header. header.data_length) c.in_ok-header.ensures.value in
-    let end = taken-all c.loop-place.place c.args.bytes.now c.loop-place.invariant.taken (omega arith) in
-    record { header = c.in_ok-header.ensures.ok.0 refl; stated = omega (arith, field); filled = omega (arith, end) }
+    let end =
+    taken-all c.loop-place.place c.args.bytes.now c.loop-place.invariant.taken (omega arith) in
+    record {
+      header = c.in_ok-header.ensures.ok.0 refl;
+      stated = omega (arith, field);
+      filled = omega (arith, end);
+    }
 
 pub invariant_of-result : goal.invariant_of-result
 invariant_of-result c =
     let message = is_message c in
     let field = ap (λ header. header.data_length) c.in_ok-header.ensures.value in
     let aligned = (fields_of c.args.bytes.now message.header.fields).aligned in
-    record { is_message = message; header_is = c.in_ok-header.ensures.value; limit = omega (arith, field, aligned) }
+    record {
+      is_message = message;
+      header_is = c.in_ok-header.ensures.value;
+      limit = omega (arith, field, aligned);
+    }
 
 pub returns-clause-accepted : goal.returns-clause-accepted
 returns-clause-accepted c = refusal-none c.args.bytes.now (is_message c)

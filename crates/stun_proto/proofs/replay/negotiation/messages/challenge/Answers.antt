@@ -1,14 +1,14 @@
 use Rattle.std.proofs.Common.{◌≡◌, List, ℕ, sym, subst, Ok, Err}
 use Rattle.std.specs.declared.result.Result.{Result}
 use Rattle.stun_base.specs.Header.{transaction_id_field}
-use Rattle.stun_base.specs.declared.error.StunWriteError.{StunWriteError}
+use Rattle.stun_base.specs.declared.wire.error.StunWriteError.{StunWriteError}
 use Rattle.stun_types.specs.WriteVec.{Written}
 use Rattle.stun_auth.specs.Additions.{UnlessMemory}
 use Rattle.stun_auth.specs.ClientStep.{UNAUTHORIZED}
 use Rattle.stun_auth.specs.Validation.{sight}
 use Rattle.stun_proto.specs.Negotiation.{failure, responded}
 use Rattle.stun_proto.specs.code.Signed.{signed_page}
-use Rattle.stun_proto.proofs.Typed.{by_reason, failure_responds, unless_map}
+use Rattle.stun_proto.proofs.meetings.Typed.{by_reason, failure_responds, unless_map}
 use Rattle.stun_proto.proofs.replay.negotiation.messages.challenge.Goals as goal
 
 same_bytes : (a b : List ℕ) → ◌≡◌ {A = Result (List ℕ) StunWriteError} (Ok a) (Ok b) → a ≡ b

@@ -2,8 +2,8 @@ use Rattle.std.proofs.Common.{◌≡◌, ◌∙◌, ap, subst, Ok, Err, List, �
 use Rattle.std.specs.Prelude.{IsErr}
 use Rattle.stun_auth.specs.ClientStep.{ClientAnswer, ForReason, IsResend, client_step}
 use Rattle.stun_auth.specs.Reading.{reading_of}
-use Rattle.stun_auth.specs.declared.client_answer.LongTermClientAuthErrorReason.{LongTermClientAuthErrorReason}
-use Rattle.stun_proto.proofs.Heard.{either_client, off_told, off_untold, on_told, on_untold, told, untold}
+use Rattle.stun_auth.specs.declared.client.answer.LongTermClientAuthErrorReason.{LongTermClientAuthErrorReason}
+use Rattle.stun_proto.proofs.meetings.Heard.{either_client, off_told, off_untold, on_told, on_untold, told, untold}
 use Rattle.stun_proto.proofs.replay.negotiation.messages.read.Goals as goal
 
 pub message_in-response-requires : goal.message_in-response-requires

@@ -1,5 +1,5 @@
 use Rattle.std.proofs.Common.{rules}
-use Rattle.stun_proto.proofs.Typed.{AddingLaws, has_id, has_method, if_ok_map, request_added, request_signed}
+use Rattle.stun_proto.proofs.meetings.Typed.{AddingLaws, has_id, has_method, if_ok_map, request_added, request_signed}
 use Rattle.stun_proto.proofs.replay.negotiation.messages.request.Goals as goal
 
 laws : (g : _) (c : goal.After-sign_outgoing_message g) → AddingLaws

@@ -2,7 +2,7 @@ use Rattle.std.proofs.Common.{◌≡◌, Bool, subst, OnOk}
 use Rattle.stun_auth.specs.ServerSigning.{after_signing}
 use Rattle.stun_auth.specs.Validation.{sight}
 use Rattle.stun_proto.specs.Negotiation.{responded}
-use Rattle.stun_proto.proofs.Typed.{AddingLaws, if_ok_map, response_signed, server_has_added}
+use Rattle.stun_proto.proofs.meetings.Typed.{AddingLaws, if_ok_map, response_signed, server_has_added}
 use Rattle.stun_proto.proofs.replay.negotiation.messages.sign.Goals as goal
 
 laws : (g : _) (c : goal.After-sign_outgoing_message g) → AddingLaws

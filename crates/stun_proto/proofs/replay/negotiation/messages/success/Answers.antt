@@ -1,13 +1,13 @@
 use Rattle.std.proofs.Common.{◌≡◌, [], ◌∙◌, ap, subst}
 use Rattle.stun_base.specs.Header.{transaction_id_field}
 use Rattle.stun_base.specs.MessageType.{type_number}
-use Rattle.stun_base.specs.declared.message_type.MessageClass.TheVariants as Class
+use Rattle.stun_base.specs.declared.wire.message_type.MessageClass.TheVariants as Class
 use Rattle.stun_types.specs.Grammar.{spelled}
 use Rattle.stun_auth.specs.Additions.{UnlessMemory}
 use Rattle.stun_auth.specs.Validation.{sight}
 use Rattle.stun_proto.specs.Negotiation.{responded, success}
 use Rattle.stun_proto.specs.code.Signed.{signed_page}
-use Rattle.stun_proto.proofs.Typed.{success_responds}
+use Rattle.stun_proto.proofs.meetings.Typed.{success_responds}
 use Rattle.stun_proto.proofs.replay.negotiation.messages.success.Goals as goal
 
 bytes_are : (g : _) (c : goal.After-sign g) → c.in_ok-writer.writer.bytes ≡ success (transaction_id_field c.args.request.now)

@@ -2,8 +2,8 @@ use Rattle.std.proofs.Common.{◌≡◌, [], ◌∷◌, length, Option, Some, No
 use Rattle.stun_base.specs.Attributes.{ERROR_CODE}
 use Rattle.stun_base.specs.Header.{transaction_id_field}
 use Rattle.stun_base.specs.MessageType.{type_number}
-use Rattle.stun_base.specs.declared.error.StunWriteError.{StunWriteError}
-use Rattle.stun_base.specs.declared.message_type.MessageClass.TheVariants as Class
+use Rattle.stun_base.specs.declared.wire.error.StunWriteError.{StunWriteError}
+use Rattle.stun_base.specs.declared.wire.message_type.MessageClass.TheVariants as Class
 use Rattle.stun_types.specs.ErrorCode.{CodeAndReason, error_refusal, error_value}
 use Rattle.stun_types.specs.Grammar.{spelled}
 use Rattle.stun_types.specs.WriteVec.{Written}
@@ -11,7 +11,7 @@ use Rattle.stun_auth.specs.Additions.{UnlessMemory}
 use Rattle.stun_auth.specs.ClientStep.{UNAUTHORIZED}
 use Rattle.stun_proto.specs.Negotiation.{failure}
 use Rattle.stun_proto.specs.code.Signed.{written_message}
-use Rattle.stun_proto.proofs.Typed.{by_reason, not_refused, only_memory}
+use Rattle.stun_proto.proofs.meetings.Typed.{by_reason, not_refused, only_memory}
 use Rattle.stun_proto.proofs.replay.negotiation.messages.unauthorized.Goals as goal
 
 none-some : {e : StunWriteError} → None ≡ Some e → ⊥

@@ -4,5 +4,8 @@ use Rattle.stun_types.proofs.EntryLemmas.{same_list}
 use Rattle.stun_types.proofs.attribute.password_algorithms.PasswordAlgorithms.equals.Goals as goal
 
 pub returns : goal.returns
-returns c =
-    (λ _. same_list c.args.self.now c.args.algorithms.now (omega arith) (λ k below. c.loop-i.invariant k (omega arith)), λ _. refl)
+returns c = (
+  λ _. same_list c.args.self.now c.args.algorithms.now (omega arith)
+      (λ k below. c.loop-i.invariant k (omega arith)),
+  λ _. refl,
+)

@@ -1,7 +1,0 @@
--- The entry's id is one more, so that the ids are still distinct.
-use Rattle.stun_agent.proofs.DeadlineTreeHeight.{whole_put}
-use Rattle.stun_agent.proofs.deadline_tree.DeadlineTree.put.Goals as goal
-
-pub invariant_of-self : goal.invariant_of-self
-invariant_of-self g c =
-    whole_put c.entry.inside.deadline c.self.inside.root c.put.new.link (rw (c.entry.view_is, c.self.view_is) c.requires) c.put.ensures.items c.put.ensures.tree c.self.invariant

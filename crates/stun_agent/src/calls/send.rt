@@ -1,0 +1,183 @@
+//! Sending: what is to be sent, and what is kept of a request.
+ghost use Rattle.std.specs.Prelude.{◌≡◌, Some, None, Ok, Err, IsOk, IfOk, IfErr, OnOk, OnErr, IsErrOf, IsOkUnless, MatchOption};
+ghost use Rattle.std.specs.Borrow.{sem};
+ghost use Rattle.stun_base.specs.Header.{transaction_id_field};
+ghost use Rattle.stun_base.specs.MessageType.{class_in};
+ghost use Rattle.stun_agent.specs.Agent.{address_refusal, class_refusal, sending_refusal, after_send, request_refusal, request_of, after_send_request};
+ghost use Rattle.stun_agent.specs.Datagrams.{parts, lent_datagram};
+ghost use Rattle.stun_agent.specs.Transactions.{IsRequestOf, at};
+
+use crate::agent::StunAgent;
+use crate::calls::integrity::integrity_of;
+use crate::calls::transmit::Transmit;
+use crate::error::StunError;
+use crate::state::address::is_same;
+use crate::state::transaction::Transaction;
+use crate::stats::counting;
+use std::alloc::Allocator;
+use std::net::SocketAddr;
+use stun_base::data::OwnedBytes;
+use stun_base::header::MessageHeader;
+use stun_base::instant::Instant;
+use stun_base::message_type::MessageClass;
+use stun_base::transaction_id::TransactionId;
+
+impl<A: Allocator + Copy> StunAgent<A> {
+    ghost use Rattle.stun_agent.specs.AgentLends.{ends_if_ok_as};
+
+    /// What is to be sent of bytes that are no message of STUN. Nothing is counted.
+    ///
+    /// The error is `ProtocolViolation` where the agent is to speak to another address. Then the bytes are dropped.
+    pub fn send_data<T: OwnedBytes + Drop>(
+        &self,
+        bytes: T,
+        to: SocketAddr,
+    ) -> Result<Transmit<T>, StunError>
+        ensures refused { MatchOption (address_refusal self.now to) (IsOk result) (IsErrOf result) }
+        ensures sent { IfOk result (λ t. parts t
+            ≡ (bytes, self.now.transport, self.now.local_addr, to)) }
+    {
+        self.check_address(to)?;
+        Ok(Transmit::new(bytes, self.outstanding.transport(), self.local_addr, to))
+    }
+
+    /// Refuses every address but the one that the agent is to speak to, where there is one.
+    fn check_address(&self, to: SocketAddr) -> Result<(), StunError>
+        ensures { MatchOption (address_refusal self.now to) (result ≡ Ok tt)
+            (λ error. result ≡ Err error) }
+    {
+        match self.remote_addr {
+            Some(peer) => {
+                if is_same(to, peer) {
+                    Ok(())
+                } else {
+                    Err(StunError::ProtocolViolation)
+                }
+            }
+            None => Ok(()),
+        }
+    }
+
+    /// What is to be sent of an indication or a response. Where statistics are kept it is counted.
+    ///
+    /// The errors, in the order in which they are looked for: `ParseError` where the bytes do not begin with a
+    /// header, `ProtocolViolation` for a request, `ProtocolViolation` where the agent is to speak to another
+    /// address. After an error the agent is as before, and the message is dropped. Does not allocate.
+    /// The moment is not used: the Rust crate's call has it.
+    pub fn send<T: OwnedBytes + Drop>(
+        &mut self,
+        msg: T,
+        to: SocketAddr,
+        _now: Instant,
+    ) -> Result<Transmit<T>, StunError>
+        ensures refused { MatchOption (sending_refusal self.old (T.contents msg) to) (IsOk result)
+            (IsErrOf result) }
+        ensures ok { OnOk result (self.new ≡ after_send (T.contents msg) self.old) }
+        ensures err { OnErr result (self.new ≡ self.old) }
+        ensures sent { IfOk result (λ t. parts t
+            ≡ (msg, self.old.transport, self.old.local_addr, to)) }
+    {
+        let bytes = msg.bytes();
+        let class = self.class_to_send(bytes, to)?;
+        counting::count_sent(&mut self.stats, class, bytes.len());
+        Ok(Transmit::new(msg, self.outstanding.transport(), self.local_addr, to))
+    }
+
+    /// Keeps a request, and lends its bytes to be sent.
+    ///
+    /// The agent awaits its response from `now` on: `poll_transmit` sends it again, and `poll` ends it.
+    /// The errors, in the order in which they are looked for: `ParseError` where the bytes do not begin with a
+    /// header, `ProtocolViolation` for another class, `ProtocolViolation` where the agent is to speak to another
+    /// address, `AlreadyInProgress` where a request of its transaction is outstanding, `OutOfMemory` where the bytes
+    /// cannot be kept. After an error the agent is as before, and the message is dropped.
+    pub fn send_request<T: OwnedBytes + Drop>(
+        &mut self,
+        msg: T,
+        to: SocketAddr,
+        now: Instant,
+    ) -> Result<Transmit<&[u8]>, StunError>
+        ensures* after { sem 𝓛 (ends_if_ok_as A.row A.Allocator self.entry result
+            (after_send_request self.old (T.contents msg) to now)) }
+        ensures refused { MatchOption (request_refusal self.old (T.contents msg) to)
+            (IsOkUnless result StunError.OutOfMemory) (IsErrOf result) }
+        ensures sent { IfOk result (λ t. lent_datagram t
+            ≡ (T.contents msg, self.old.transport, self.old.local_addr, to)) }
+    {
+        let id = self.keep_request(msg.bytes(), to, now)?;
+        let transport = self.outstanding.transport();
+        let from = self.local_addr;
+        let request = self.outstanding.get(id).unwrap();
+        Ok(Transmit {
+            data: request.bytes(),
+            transport,
+            from,
+            to,
+        })
+    }
+
+    /// Keeps and counts a request, and tells its id. It changes nothing where it refuses.
+    fn keep_request(
+        &mut self,
+        bytes: &[u8],
+        to: SocketAddr,
+        now: Instant,
+    ) -> Result<TransactionId, StunError>
+        ensures refused { MatchOption (request_refusal self.old bytes.now to)
+            (IsOkUnless result StunError.OutOfMemory) (IsErrOf result) }
+        ensures taken { OnOk result (request_refusal self.old bytes.now to ≡ None) }
+        ensures ok { OnOk result (self.new ≡ after_send_request self.old bytes.now to now) }
+        ensures err { OnErr result (self.new ≡ self.old) }
+        ensures kept { IfOk result (λ id. at id self.new.transactions
+            ≡ Some (request_of self.old bytes.now to now)) }
+    {
+        let id = self.id_to_ask(bytes, to)?;
+        let kept = Vec::from_slice(self.alloc, bytes)?;
+        let request = Transaction::new(kept, to, integrity_of(bytes), self.settings, now);
+        self.outstanding.insert(self.alloc, id, request)?;
+        counting::count_sent(&mut self.stats, MessageClass::Request, bytes.len());
+        Ok(id)
+    }
+
+    /// The class of a message that may be sent and wants no answer.
+    fn class_to_send(&self, bytes: &[u8], to: SocketAddr) -> Result<MessageClass, StunError>
+        ensures accepted { OnOk result (sending_refusal self.now bytes.now to ≡ None) }
+        ensures class { IfOk result (λ class. class ≡ class_in bytes.now) }
+        ensures refused { IfErr result (λ error. sending_refusal self.now bytes.now to
+            ≡ Some error) }
+    {
+        let class = class_of_answerless(bytes)?;
+        self.check_address(to)?;
+        Ok(class)
+    }
+
+    /// The id of a request that may be sent.
+    fn id_to_ask(&self, bytes: &[u8], to: SocketAddr) -> Result<TransactionId, StunError>
+        ensures answer { MatchOption (request_refusal self.now bytes.now to)
+            (result ≡ Ok (transaction_id_field bytes.now)) (λ error. result ≡ Err error) }
+        ensures request { IfOk result (λ id. IsRequestOf id bytes.now) }
+        ensures absent { IfOk result (λ id. at id self.now.transactions ≡ None) }
+    {
+        let header = MessageHeader::from_bytes(bytes)?;
+        if header.get_type().class() != MessageClass::Request {
+            return Err(StunError::ProtocolViolation);
+        }
+        self.check_address(to)?;
+        let id = header.transaction_id();
+        if self.outstanding.get(id).is_some() {
+            return Err(StunError::AlreadyInProgress);
+        }
+        Ok(id)
+    }
+}
+
+/// The class of a message that wants no answer.
+fn class_of_answerless(bytes: &[u8]) -> Result<MessageClass, StunError>
+    ensures { MatchOption (class_refusal bytes.now) (result ≡ Ok (class_in bytes.now))
+        (λ error. result ≡ Err error) }
+{
+    let class = MessageHeader::from_bytes(bytes)?.get_type().class();
+    if class == MessageClass::Request {
+        return Err(StunError::ProtocolViolation);
+    }
+    Ok(class)
+}

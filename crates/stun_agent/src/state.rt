@@ -1,0 +1,9 @@
+//! What an agent keeps between calls: the outstanding requests and their deadlines.
+
+pub(crate) mod address;
+pub(crate) mod deadline_tree;
+pub(crate) mod deadlines;
+pub(crate) mod outstanding;
+pub(crate) mod rto;
+pub(crate) mod transaction;
+pub(crate) mod transactions;

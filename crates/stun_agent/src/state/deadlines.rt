@@ -1,0 +1,245 @@
+//! What outstanding requests await, in a tree for each kind.
+ghost use Rattle.std.specs.Prelude.{◌≡◌, [], ◌∷◌, ◌+◌, ◌<◌, ◌≤◌, codes, Some, IsSomeAnd, IsPermutation};
+ghost use Rattle.std.specs.Fmt.{WritesOnOk};
+ghost use Rattle.stun_agent.specs.Deadlines.{most_reads, IsUnused};
+ghost use Rattle.stun_agent.specs.code.Deadlines.{earliest, has_come, early, lesser, least_due, least_ended, first_awaited, entries_at, IsReplaced};
+
+use crate::state::deadline_tree::{DeadlineTree, Entry};
+use std::alloc::{Allocator, Global};
+use std::fmt;
+use std::marker::{Brand, Model};
+use std::sync::ledger::{Blank, Book, Ledger, Share};
+use stun_base::instant::Instant;
+use stun_base::transaction_id::TransactionId;
+
+/// What a request awaits.
+#[derive(Clone, Copy, Debug, PartialEq, Eq)]
+pub(crate) enum DeadlineKind {
+    /// It is to be sent again, or would be if it were not silent.
+    Slot,
+    /// Its last wait ends.
+    End,
+    /// It is cancelled, and ends at the next poll that reaches it.
+    Cancelled,
+}
+
+/// The moment that a request awaits. A cancelled one awaits moment zero.
+#[derive(Clone, Copy, Debug, PartialEq, Eq)]
+pub(crate) struct Deadline {
+    pub(crate) id: TransactionId,
+    pub(crate) moment: Instant,
+    pub(crate) kind: DeadlineKind,
+}
+
+/// Deadlines, in a tree for each kind, since each question is about one or two kinds. A contract sees them in one list,
+/// in no order.
+#[derive(Drop)]
+#[derive_where(Debug)]
+pub(crate) struct DeadlineIndex<A: Allocator = Global> {
+    slots: DeadlineTree<A>,
+    ends: DeadlineTree<A>,
+    cancelled: DeadlineTree<A>,
+}
+
+impl<A: Allocator> Model for DeadlineIndex<A> {
+    ghost use Rattle.std.specs.Prelude.{List, ◌++◌};
+    ghost use Rattle.stun_agent.specs.declared.state.deadlines.Deadline.{Deadline};
+
+    ghost Value = { List Deadline };
+
+    ghost use Rattle.stun_agent.specs.code.Deadlines.{AreByKind};
+
+    ghost view = { λ index. index.slots ++ (index.ends ++ index.cancelled) };
+
+    ghost invariant = { λ index. AreByKind index.slots index.ends index.cancelled };
+}
+
+impl<A: Allocator> DeadlineIndex<A> {
+    pub(crate) fn new() -> Self
+        ensures { result ≡ [] }
+    {
+        DeadlineIndex {
+            slots: DeadlineTree::new(),
+            ends: DeadlineTree::new(),
+            cancelled: DeadlineTree::new(),
+        }
+    }
+
+    /// Puts in the deadline of a request that has none here. Does not allocate.
+    pub(crate) fn put(&mut self, entry: Entry<A>)
+        requires { entries_at entry.id self.old ≡ [] }
+        ensures { IsPermutation (entry ∷ self.old) self.new }
+    {
+        match entry.deadline().kind {
+            DeadlineKind::Slot => self.slots.put(entry),
+            DeadlineKind::End => self.ends.put(entry),
+            DeadlineKind::Cancelled => self.cancelled.put(entry),
+        }
+    }
+
+    /// Takes out the deadline that a request has.
+    pub(crate) fn take(&mut self, deadline: Deadline) -> Option<Entry<A>>
+        requires { entries_at deadline.id self.old ≡ deadline ∷ [] }
+        ensures { IsSomeAnd result
+            (λ e. (e ≡ deadline) × IsPermutation self.old (deadline ∷ self.new)) }
+    {
+        match deadline.kind {
+            DeadlineKind::Slot => self.slots.take(deadline.id),
+            DeadlineKind::End => self.ends.take(deadline.id),
+            DeadlineKind::Cancelled => self.cancelled.take(deadline.id),
+        }
+    }
+
+    /// Puts another deadline of a request in place of the one that it has, where it is another one. Does not allocate.
+    pub(crate) fn replace(&mut self, before: Deadline, after: Deadline)
+        requires there { entries_at before.id self.old ≡ before ∷ [] }
+        requires same { after.id ≡ before.id }
+        ensures { IsReplaced before after self.old self.new }
+    {
+        if before == after {
+            return;
+        }
+        if let Some(mut entry) = self.take(before) {
+            entry.set(after);
+            self.put(entry);
+        }
+    }
+
+    /// The first moment, and nothing of whose it is.
+    fn earliest(&self) -> Option<Instant>
+        ensures { result ≡ earliest self.now }
+    {
+        let awaited = first(self.slots.earliest(), self.ends.earliest());
+        first(awaited, self.cancelled.earliest())
+    }
+
+    /// Whether the first moment has come.
+    pub(crate) fn has_come(&self, now: Instant) -> bool
+        ensures { result ≡ has_come now self.now }
+    {
+        match self.earliest() {
+            Some(first) => first <= now,
+            None => false,
+        }
+    }
+
+    /// The least id among those whose end has come, and the first moment; and how often this index
+    /// was read to tell both: once itself, where the first deadline of each tree stands, and each
+    /// node that was read.
+    pub(crate) fn find_ended<L: Ledger>(
+        &self,
+        now: Instant,
+        blank: Blank,
+    ) -> (Option<TransactionId>, Option<Instant>, Reads<L>)
+        requires { IsUnused blank.name blank.parts L.name L.parts }
+        ensures ended { result.0 ≡ least_ended now self.now }
+        ensures first { result.1 ≡ earliest self.now }
+        ensures work { result.2 ≤ early now self.now + 1 }
+        ensures path { result.2 ≤ most_reads }
+    {
+        let mut reads = Reads::<L>::new(blank);
+        reads.tick();
+        let ended = self.ends.least_come(now, &None, &mut reads);
+        let cancelled = self.cancelled.least_come(now, &None, &mut reads);
+        (least(ended, cancelled), self.earliest(), reads)
+    }
+
+    /// The least id, after `last`, of a request whose slot is due.
+    pub(crate) fn least_due(
+        &self,
+        now: Instant,
+        last: &Option<TransactionId>,
+    ) -> Option<TransactionId>
+        ensures { result ≡ least_due now last.now self.now }
+    {
+        self.least_due_from::<Brand>(now, last, Blank::new(1))
+    }
+
+    /// As `least_due`, with a count of its own.
+    fn least_due_from<L: Ledger>(
+        &self,
+        now: Instant,
+        last: &Option<TransactionId>,
+        blank: Blank,
+    ) -> Option<TransactionId>
+        requires { IsUnused blank.name blank.parts L.name L.parts }
+        ensures { result ≡ least_due now last.now self.now }
+    {
+        let mut reads = Reads::<L>::new(blank);
+        self.slots.least_come(now, last, &mut reads)
+    }
+
+    /// The first moment of a request that is not cancelled.
+    pub(crate) fn first_awaited(&self) -> Option<Instant>
+        ensures { result ≡ first_awaited self.now }
+    {
+        first(self.slots.earliest(), self.ends.earliest())
+    }
+}
+
+/// The sooner of two moments that may be there.
+fn first(one: Option<Instant>, other: Option<Instant>) -> Option<Instant>
+    ensures { result ≡ lesser one other }
+{
+    match (one, other) {
+        (Some(one), Some(other)) => Some(one.min(other)),
+        (Some(one), None) => Some(one),
+        (None, other) => other,
+    }
+}
+
+/// The lesser of two ids that may be there.
+fn least(one: Option<TransactionId>, other: Option<TransactionId>) -> Option<TransactionId>
+    ensures { result ≡ lesser one other }
+{
+    match (one, other) {
+        (Some(one), Some(other)) => Some(one.min(other)),
+        (Some(one), None) => Some(one),
+        (None, other) => other,
+    }
+}
+
+/// How often an index of deadlines was read: itself once, where the first deadline of each tree
+/// stands, and each node that was read. It takes no bytes, and only what reads raises it.
+#[derive(Drop)]
+pub struct Reads<L: Ledger> {
+    book: Book<L>,
+    share: Share<L>,
+}
+
+impl<L: Ledger> Model for Reads<L> {
+    ghost use Rattle.std.specs.Prelude.{ℕ, ◌<◌};
+
+    ghost Value = { ℕ };
+
+    ghost view = { λ s. s.book.total };
+
+    ghost invariant = { λ s. 0 < s.share.parts };
+}
+
+impl<L: Ledger> fmt::Debug for Reads<L> {
+    ghost debug_output = { λ _. Some (codes "Reads") };
+
+    fn fmt<W: fmt::Write>(&self, f: &mut fmt::Formatter<W>) -> fmt::Result
+        ensures { WritesOnOk W.write_str_gives f.old result (codes "Reads") f.new }
+    {
+        f.write_str("Reads")
+    }
+}
+
+impl<L: Ledger> Reads<L> {
+    /// A count of a ledger that nobody has used.
+    fn new(blank: Blank) -> Self
+        requires { IsUnused blank.name blank.parts L.name L.parts }
+        ensures { result ≡ 0 }
+    {
+        let (book, share) = blank.open();
+        Reads { book, share }
+    }
+
+    pub(crate) fn tick(&mut self)
+        ensures { self.new ≡ self.old + 1 }
+    {
+        self.book.add(&mut self.share, 1);
+    }
+}

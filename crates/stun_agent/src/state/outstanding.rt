@@ -1,0 +1,226 @@
+//! The requests that wait, with the index of what they await: each call keeps both together.
+ghost use Rattle.std.specs.Prelude.{◌≡◌, ◌+◌, ◌≤◌, ◌<◌, [], length, Some, None, IfSome, IsSomeAnd, IfOk, OnOk, OnErr};
+ghost use Rattle.std.specs.Option.{option_map, option_copied};
+ghost use Rattle.stun_agent.specs.Deadlines.{early_requests, most_reads, IsUnused};
+ghost use Rattle.stun_agent.specs.Transactions.{AreKept, at, with, without, changed, first_over, wake_up, next_awaited, next_sent, after_slots, IsNamed};
+ghost use Rattle.stun_agent.specs.code.Transactions.{contents, id_and_repeats, after_change};
+
+use crate::error::NoRoom;
+use crate::state::deadline_tree::Entry;
+use crate::state::deadlines::{DeadlineIndex, Reads};
+use crate::state::transaction::{Change, Transaction};
+use crate::state::transactions::{self, Transactions};
+use std::alloc::{AllocError, Allocator, Global};
+use std::collections::BTreeMap;
+use std::marker::Model;
+use std::sync::ledger::{Blank, Ledger};
+use std::time::Duration;
+use stun_base::instant::Instant;
+use stun_base::transaction_id::TransactionId;
+use stun_base::transport::TransportType;
+
+/// An agent asks to be polled at least so often.
+const LONGEST_WAIT_SECONDS: u64 = 3600;
+
+/// The requests that wait for their responses, by their ids, the transport that carries them, and what they await,
+/// by the moments. A contract sees the requests and the transport.
+#[derive(Drop)]
+#[derive_where(Debug)]
+pub(crate) struct Outstanding<A: Allocator = Global> {
+    transport: TransportType,
+    requests: Transactions<A>,
+    deadlines: DeadlineIndex<A>,
+}
+
+impl<A: Allocator> Model for Outstanding<A> {
+    ghost use Rattle.stun_agent.specs.code.Deadlines.{AreIndexed};
+    ghost use Rattle.stun_agent.specs.code.Transactions.{Outstanding};
+
+    ghost Value = { Outstanding };
+
+    ghost view = { λ o. record { transport = o.transport; requests = o.requests.entries } };
+
+    ghost invariant = { λ o. AreIndexed o.transport o.requests.entries o.deadlines };
+}
+
+impl<A: Allocator + Copy> Outstanding<A> {
+    pub(crate) fn new(alloc: A, transport: TransportType) -> Self
+        ensures { result ≡ record { transport = transport; requests = [] } }
+    {
+        Outstanding {
+            transport,
+            requests: BTreeMap::new(alloc),
+            deadlines: DeadlineIndex::new(),
+        }
+    }
+
+    pub(crate) fn transport(&self) -> TransportType
+        ensures { result ≡ self.now.transport }
+    {
+        self.transport
+    }
+
+    pub(crate) fn get(&self, id: TransactionId) -> Option<&Transaction<A>>
+        ensures { option_copied result ≡ at id self.now.requests }
+    {
+        self.requests.get(&id)
+    }
+
+    /// Keeps a request at an id that has none. Where an allocation fails, nothing changes.
+    pub(crate) fn insert(
+        &mut self,
+        alloc: A,
+        id: TransactionId,
+        request: Transaction<A>,
+    ) -> Result<(), AllocError>
+        requires named { IsNamed (id, request) }
+        requires absent { at id self.old.requests ≡ None }
+        ensures ok { OnOk result (self.new ≡ record self.old { requests = with id request self.old.requests }) }
+        ensures there { OnOk result (at id self.new.requests ≡ Some request) }
+        ensures err { OnErr result (self.new ≡ self.old) }
+    {
+        let entry = Entry::new(alloc, request.deadline(id, self.transport))?;
+        match self.requests.insert(id, request) {
+            Ok(_absent) => {
+                self.deadlines.put(entry);
+                Ok(())
+            }
+            Err(_refused) => Err(AllocError),
+        }
+    }
+
+    /// Takes a request out.
+    pub(crate) fn remove(&mut self, id: TransactionId) -> Option<Transaction<A>>
+        ensures answer { result ≡ at id self.old.requests }
+        ensures after { self.new ≡ record self.old { requests = without id self.old.requests } }
+    {
+        let request = self.requests.remove(&id)?;
+        let _deadline = self.deadlines.take(request.deadline(id, self.transport));
+        Some(request)
+    }
+
+    /// The id of the request that is to end, and whether it was still sent again; when to poll
+    /// again, where none is to end; and how often deadlines, which alone decide both, were read.
+    pub(crate) fn find_over<L: Ledger>(
+        &self,
+        now: Instant,
+        blank: Blank,
+    ) -> (Option<(TransactionId, bool)>, Instant, Reads<L>)
+        requires { IsUnused blank.name blank.parts L.name L.parts }
+        ensures over { result.0 ≡ option_map id_and_repeats
+            (first_over self.now.transport now self.now.requests) }
+        ensures until { first_over self.now.transport now self.now.requests ≡ None
+            → result.1 ≡ wake_up self.now.transport now self.now.requests }
+        ensures work { result.2 ≤ early_requests self.now.transport now self.now.requests + 1 }
+        ensures path { result.2 ≤ most_reads }
+    {
+        let (ended, first, reads) = self.deadlines.find_ended::<L>(now, blank);
+        let longest = now + Duration::from_secs(LONGEST_WAIT_SECONDS);
+        let until = now.max(transactions::sooner(first, longest));
+        (
+            transactions::with_repeats(&self.requests, ended),
+            until,
+            reads,
+        )
+    }
+
+    /// The least moment that a request which is not cancelled awaits.
+    pub(crate) fn next_awaited(&self) -> Option<Instant>
+        ensures least { result ≡ next_awaited self.now.transport self.now.requests }
+        ensures kept { AreKept self.now.requests }
+    {
+        self.deadlines.first_awaited()
+    }
+
+    /// Passes the slots that are due, and tells of the request that is to be sent again its id and how many bytes it
+    /// has. Where that is more than there is room for, nothing changes.
+    pub(crate) fn pass_due_slots(
+        &mut self,
+        now: Instant,
+        room: Option<usize>,
+    ) -> Result<Option<(TransactionId, usize)>, NoRoom>
+        ensures sent { IfOk result (λ sent. sent ≡ option_map (λ e. (e.0, length e.1.bytes))
+            (next_sent self.old.transport now self.old.requests)) }
+        ensures fits { OnOk result (IfSome room (λ r.
+            IfSome (next_sent self.old.transport now self.old.requests)
+            (λ e. length e.1.bytes ≤ r))) }
+        ensures after { OnOk result (self.new ≡ record self.old {
+          requests = after_slots self.old.transport now
+              (option_map (λ e. e.0) (next_sent self.old.transport now self.old.requests))
+              self.old.requests;
+        }) }
+        ensures request { OnOk result
+            (IfSome (next_sent self.old.transport now self.old.requests) IsNamed) }
+        ensures kept { IfOk result (λ sent. IfSome sent (λ s.
+            option_map contents (at s.0 self.new.requests)
+            ≡ option_map (λ e. contents e.1)
+            (next_sent self.old.transport now self.old.requests))) }
+        ensures refused { OnErr result (IsSomeAnd room (λ r. IsSomeAnd
+            (next_sent self.old.transport now self.old.requests)
+            (λ e. r < length e.1.bytes))) }
+        ensures same { OnErr result (self.new ≡ self.old) }
+    {
+        if !self.deadlines.has_come(now) {
+            return Ok(None);
+        }
+        self.check_room(now, room)?;
+        Ok(transactions::pass_slots(&mut self.requests, &mut self.deadlines, self.transport, now))
+    }
+
+    /// Refuses where `pass_due_slots` would send more bytes than there is room for.
+    fn check_room(&self, now: Instant, room: Option<usize>) -> Result<(), NoRoom>
+        ensures ok { OnOk result (IfSome room (λ r.
+            IfSome (next_sent self.now.transport now self.now.requests)
+            (λ e. length e.1.bytes ≤ r))) }
+        ensures err { OnErr result (IsSomeAnd room (λ r. IsSomeAnd
+            (next_sent self.now.transport now self.now.requests)
+            (λ e. r < length e.1.bytes))) }
+    {
+        let Some(room) = room else {
+            return Ok(());
+        };
+        let Some(next) = self.next_sent(now) else {
+            return Ok(());
+        };
+        if room < next.bytes().len() {
+            return Err(NoRoom);
+        }
+        Ok(())
+    }
+
+    /// The request that `pass_due_slots` would send again.
+    pub(crate) fn next_sent(&self, now: Instant) -> Option<&Transaction<A>>
+        ensures { option_copied result ≡ option_map (λ e. e.1)
+            (next_sent self.now.transport now self.now.requests) }
+    {
+        if !self.deadlines.has_come(now) {
+            return None;
+        }
+        let mut last = None;
+        while let Some(id) = self.deadlines.least_due(now, &last) {
+            let request = self.requests.get(&id)?;
+            if request.sending().repeats() {
+                return Some(request);
+            }
+            last = Some(id);
+        }
+        None
+    }
+
+    /// Changes a request, where it is there. Does not allocate.
+    pub(crate) fn change(&mut self, id: TransactionId, change: Change)
+        ensures { self.new ≡ record self.old {
+          requests = changed (after_change change) id self.old.requests;
+        } }
+    {
+        let Some((before, after)) = transactions::change(
+            &mut self.requests,
+            self.transport,
+            id,
+            change,
+        ) else {
+            return;
+        };
+        self.deadlines.replace(before, after);
+    }
+}

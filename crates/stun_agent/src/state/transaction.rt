@@ -1,0 +1,241 @@
+//! One request that waits: its bytes, its timeouts, and what it awaits.
+ghost use Rattle.std.specs.Prelude.{◌≡◌, IsTrue};
+ghost use Rattle.stun_base.specs.Address.{same_address};
+ghost use Rattle.stun_agent.specs.code.Deadlines.{deadline_of};
+ghost use Rattle.stun_agent.specs.code.Transactions.{length_sent, after_change};
+ghost use Rattle.stun_agent.specs.Timing.{settings_of};
+ghost use Rattle.stun_agent.specs.Transactions.{repeats, is_cancelled, after_silence, new_transaction, has_slots, awaited, is_due, after_slot, round_trip};
+
+use crate::state::address::is_same;
+use crate::state::deadlines::{Deadline, DeadlineKind};
+use crate::state::rto::RequestRto;
+use std::alloc::{Allocator, Global};
+use std::marker::Model;
+use std::net::SocketAddr;
+use stun_base::algorithm::IntegrityAlgorithm;
+use stun_base::instant::Instant;
+use stun_base::transaction_id::TransactionId;
+use stun_base::transport::TransportType;
+
+/// What is still sent of a request.
+#[derive(Clone, Copy, Debug, PartialEq, Eq)]
+pub(crate) enum Sending {
+    /// It is sent again while timeouts are left.
+    Repeats,
+    /// It is sent no more, and is waited for.
+    Silent,
+    /// It ends at the next poll that reaches it.
+    Cancelled,
+}
+
+impl Sending {
+    pub(crate) fn repeats(self) -> bool
+        ensures { result ≡ repeats self }
+    {
+        matches!(&self, Sending::Repeats)
+    }
+
+    fn is_cancelled(self) -> bool
+        ensures { result ≡ is_cancelled self }
+    {
+        matches!(&self, Sending::Cancelled)
+    }
+
+    /// The same once retransmissions are cancelled.
+    fn silenced(self) -> Sending
+        ensures { result ≡ after_silence self }
+    {
+        match self {
+            Sending::Repeats => Sending::Silent,
+            Sending::Silent => Sending::Silent,
+            Sending::Cancelled => Sending::Cancelled,
+        }
+    }
+}
+
+/// What the user of a request changes of it.
+#[derive(Clone, Copy, Debug, PartialEq, Eq)]
+pub(crate) enum Change {
+    /// It is sent no more, and is waited for.
+    Silence,
+    /// It ends, as cancelled, at the next poll that reaches it.
+    Cancel,
+    /// It has other timeouts.
+    Configure(RequestRto),
+}
+
+/// A request that waits for its response.
+#[derive(Drop)]
+#[derive_where(Debug)]
+pub(crate) struct Transaction<A: Allocator = Global> {
+    bytes: Vec<u8, A>,
+    to: SocketAddr,
+    integrity: Option<IntegrityAlgorithm>,
+    settings: RequestRto,
+    slot: u32,
+    last: Instant,
+    sending: Sending,
+}
+
+impl<A: Allocator> Model for Transaction<A> {
+    ghost use Rattle.stun_agent.specs.Timing.{settings_of};
+    ghost use Rattle.stun_agent.specs.Transactions.{Transaction};
+
+    ghost Value = { Transaction };
+
+    ghost view = { λ t. record {
+      bytes = t.bytes.items;
+      to = t.to;
+      integrity = t.integrity;
+      settings = settings_of t.settings;
+      slot = t.slot;
+      last = t.last;
+      sending = t.sending;
+    } };
+}
+
+impl<A: Allocator> Transaction<A> {
+    pub(crate) fn new(
+        bytes: Vec<u8, A>,
+        to: SocketAddr,
+        integrity: Option<IntegrityAlgorithm>,
+        settings: RequestRto,
+        now: Instant,
+    ) -> Self
+        ensures { result ≡ new_transaction bytes.items to integrity (settings_of settings) now }
+    {
+        Transaction {
+            bytes,
+            to,
+            integrity,
+            settings,
+            slot: 0,
+            last: now,
+            sending: Sending::Repeats,
+        }
+    }
+
+    pub(crate) fn bytes(&self) -> &[u8]
+        ensures { result.now ≡ self.now.bytes }
+    {
+        self.bytes.as_slice()
+    }
+
+    pub(crate) fn to(&self) -> SocketAddr
+        ensures { result ≡ self.now.to }
+    {
+        self.to
+    }
+
+    /// Whether it was sent to this address.
+    pub(crate) fn went_to(&self, address: SocketAddr) -> bool
+        ensures { result ≡ same_address address self.now.to }
+    {
+        is_same(address, self.to)
+    }
+
+    pub(crate) fn integrity(&self) -> Option<IntegrityAlgorithm>
+        ensures { result ≡ self.now.integrity }
+    {
+        self.integrity
+    }
+
+    /// The nanoseconds between sending it and a moment, where no timeout has passed.
+    pub(crate) fn round_trip(&self, moment: Option<Instant>) -> Option<u64>
+        ensures { result ≡ round_trip moment self.now }
+    {
+        if self.slot != 0 {
+            return None;
+        }
+        let now = moment?;
+        Some(now.as_nanos().saturating_sub(self.last.as_nanos()))
+    }
+
+    pub(crate) fn sending(&self) -> Sending
+        ensures { result ≡ self.now.sending }
+    {
+        self.sending
+    }
+
+    pub(crate) fn change(&mut self, change: Change)
+        ensures { self.new ≡ after_change change self.old }
+    {
+        match change {
+            Change::Silence => self.sending = self.sending.silenced(),
+            Change::Cancel => self.sending = Sending::Cancelled,
+            Change::Configure(settings) => {
+                self.settings = settings;
+            }
+        }
+    }
+
+    /// Whether timeouts are left, each with a transmission at its end.
+    fn has_slots(&self, transport: TransportType) -> bool
+        ensures { result ≡ has_slots transport self.now }
+    {
+        self.slot < self.settings.slots(transport)
+    }
+
+    pub(crate) fn is_cancelled(&self) -> bool
+        ensures { result ≡ is_cancelled self.now.sending }
+    {
+        self.sending.is_cancelled()
+    }
+
+    /// The moment at which it is sent again, or ends.
+    pub(crate) fn awaited(&self, transport: TransportType) -> Instant
+        ensures { result ≡ awaited transport self.now }
+    {
+        let wait = if self.has_slots(transport) {
+            self.settings.timeout(self.slot)
+        } else {
+            self.settings.final_wait(transport)
+        };
+        self.last + wait
+    }
+
+    /// What it awaits, under its id.
+    pub(crate) fn deadline(&self, id: TransactionId, transport: TransportType) -> Deadline
+        ensures { result ≡ deadline_of transport (id, self.now) }
+    {
+        if self.is_cancelled() {
+            return Deadline {
+                moment: Instant::ZERO,
+                id,
+                kind: DeadlineKind::Cancelled,
+            };
+        }
+        let kind = if self.has_slots(transport) {
+            DeadlineKind::Slot
+        } else {
+            DeadlineKind::End
+        };
+        Deadline {
+            moment: self.awaited(transport),
+            id,
+            kind,
+        }
+    }
+
+    /// How many bytes are sent again of it, where it is.
+    pub(crate) fn length_sent(&self) -> Option<usize>
+        ensures { result ≡ length_sent self.now }
+    {
+        if self.sending.repeats() {
+            Some(self.bytes().len())
+        } else {
+            None
+        }
+    }
+
+    /// Takes the slot that is due.
+    pub(crate) fn take_slot(&mut self, transport: TransportType, now: Instant)
+        requires { IsTrue (is_due transport now self.old) }
+        ensures { self.new ≡ after_slot now self.old }
+    {
+        let slots = self.settings.slots(transport);
+        prove!(self.slot < slots);
+        self.slot += 1;
+        self.last = now;
+    }
+}

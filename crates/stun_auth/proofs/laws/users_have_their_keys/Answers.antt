@@ -1,0 +1,14 @@
+use Rattle.stun_auth.proofs.UserKeys.{key-added, key-by_others, key-of_others, key-removed}
+use Rattle.stun_auth.proofs.laws.users_have_their_keys.Goals as goal
+
+pub returns-clause-added : goal.returns-clause-added
+returns-clause-added c = key-added
+
+pub returns-clause-removed : goal.returns-clause-removed
+returns-clause-removed c = key-removed
+
+pub returns-clause-others_at_adding : goal.returns-clause-others_at_adding
+returns-clause-others_at_adding c = key-by_others
+
+pub returns-clause-others_at_removal : goal.returns-clause-others_at_removal
+returns-clause-others_at_removal c = key-of_others

@@ -1,0 +1,244 @@
+//! A server's challenge, as a client takes it up and keeps it (RFC 8489, section 9.2.5).
+ghost use Rattle.std.specs.Prelude.{◌≡◌, ◌≤◌, IfOk, Ok, Err, Some, None, length, map};
+ghost use Rattle.std.specs.Option.{option_map};
+ghost use Rattle.stun_types.specs.Limits.{TEXT_LIMIT};
+ghost use Rattle.stun_types.specs.PasswordAlgorithms.{integrity_of};
+ghost use Rattle.stun_auth.specs.ClientStep.{choose, choose_by_list, choose_without_bits, first_supported, is_required, list_or_none, naming_of, unless};
+ghost use Rattle.stun_auth.specs.Nonces.{asks_for_userhash};
+ghost use Rattle.stun_auth.specs.code.Supported.{in_order};
+
+use crate::feature::Feature;
+use crate::message::nonce::NonceSecurityBits;
+use crate::short_text::ShortText;
+use crate::supported::Supported;
+use std::alloc::{AllocError, Allocator};
+use stun_base::key::{long_term_key, userhash};
+use stun_types::attribute::{PasswordAlgorithmValue, PasswordAlgorithms};
+use stun_types::message::{IntegrityAlgorithm, PreparedKey};
+
+/// Why a client does not take up a challenge.
+#[derive(Clone, Copy, Debug, PartialEq, Eq)]
+pub(crate) enum Refusal {
+    Unauthorized,
+    UnsupportedFeature,
+}
+
+/// How a client names its user.
+#[derive(Drop)]
+pub(crate) enum UserNaming<A: Allocator> {
+    Plain(String<A>),
+    Hashed([u8; 32]),
+}
+
+/// What a client keeps of a server's challenge.
+#[derive(Drop)]
+pub(crate) struct KeptChallenge<A: Allocator> {
+    pub(crate) naming: UserNaming<A>,
+    pub(crate) realm: ShortText<A>,
+    pub(crate) nonce: ShortText<A>,
+    pub(crate) algorithms: Vec<PasswordAlgorithmValue, A>,
+    pub(crate) algorithm: IntegrityAlgorithm,
+    pub(crate) key: PreparedKey<A>,
+}
+
+/// A challenge that is to be taken up: the user it is for, what the message says, and the algorithm it comes to.
+#[derive(Drop)]
+pub(crate) struct Offer<'a, 'm> {
+    pub(crate) username: &'a str,
+    pub(crate) password: &'a str,
+    pub(crate) realm: &'m str,
+    pub(crate) nonce: &'m str,
+    pub(crate) list: Option<PasswordAlgorithms<'m>>,
+    pub(crate) algorithm: IntegrityAlgorithm,
+    ghost short: { (length realm.now ≤ TEXT_LIMIT) × (length nonce.now ≤ TEXT_LIMIT) },
+}
+
+impl<A: Allocator + Copy> UserNaming<A> {
+    ghost use Rattle.stun_auth.specs.code.ClientKept.{naming_seen};
+
+    /// The name of a user at a realm, as it is or hashed.
+    fn new(alloc: A, hashes: bool, username: &str, realm: &str) -> Result<Self, AllocError>
+        ensures { IfOk result (λ naming. naming_seen naming
+            ≡ naming_of hashes username.now realm.now) }
+    {
+        if hashes {
+            Ok(UserNaming::Hashed(userhash(username, realm)))
+        } else {
+            Ok(UserNaming::Plain(String::from_str(alloc, username)?))
+        }
+    }
+}
+
+impl Offer<'_, '_> {
+    ghost use Rattle.stun_auth.specs.code.ClientKept.{challenge_seen, offer_kept};
+
+    /// What is kept of the challenge.
+    pub(crate) fn kept<A: Allocator + Copy>(
+        &self,
+        alloc: A,
+        feature: Feature,
+    ) -> Result<KeptChallenge<A>, AllocError>
+        ensures { IfOk result (λ kept. challenge_seen kept ≡ offer_kept feature self.now) }
+    {
+        let hashes = asks_for_userhash(self.nonce) && feature.is_possible();
+        let naming = UserNaming::new(alloc, hashes, self.username, self.realm)?;
+        let realm = ShortText::copied(alloc, self.realm)?;
+        let nonce = ShortText::copied(alloc, self.nonce)?;
+        let algorithms = copied(alloc, &self.list)?;
+        let key = long_term_key(
+            alloc,
+            self.algorithm,
+            self.username,
+            self.realm,
+            self.password,
+        );
+        Ok(KeptChallenge {
+            naming,
+            realm,
+            nonce,
+            algorithms,
+            algorithm: self.algorithm,
+            key: PreparedKey::new(key, self.algorithm),
+        })
+    }
+}
+
+/// The algorithms of a server's list, and none where there is no list.
+fn copied<A: Allocator>(
+    alloc: A,
+    list: &Option<PasswordAlgorithms>,
+) -> Result<Vec<PasswordAlgorithmValue, A>, AllocError>
+    ensures { IfOk result (λ copy. map integrity_of copy.items
+        ≡ list_or_none (option_map (map integrity_of) list.now)) }
+{
+    match list {
+        Some(list) => listed(alloc, list),
+        None => Ok(Vec::new(alloc)),
+    }
+}
+
+/// The algorithms of a list.
+fn listed<A: Allocator>(
+    alloc: A,
+    list: &PasswordAlgorithms,
+) -> Result<Vec<PasswordAlgorithmValue, A>, AllocError>
+    ensures { IfOk result (λ copy. copy.items ≡ list.now) }
+{
+    let mut copy = Vec::new(alloc);
+    for i in 0..list.len() {
+        if let Some(algorithm) = list.get(i) {
+            copy.push(algorithm)?;
+        }
+    }
+    Ok(copy)
+}
+
+fn is_required(feature: Feature) -> bool
+    ensures { result ≡ is_required feature }
+{
+    matches!(feature, Feature::Required)
+}
+
+/// The first algorithm of a server's list that the client supports.
+fn first_supported(supported: Supported, list: &PasswordAlgorithms) -> Option<IntegrityAlgorithm>
+    ensures { result ≡ first_supported (in_order supported) (map integrity_of list.now) }
+{
+    for i in 0..list.len() {
+        if let Some(algorithm) = list.get(i) {
+            let integrity = algorithm.as_integrity();
+            if supported.contains(integrity) {
+                return Some(integrity);
+            }
+        }
+    }
+    None
+}
+
+/// The algorithm that a server's list comes to, or that none comes to where the nonce asks for a choice.
+fn choose_by_list(
+    supported: Supported,
+    asks: bool,
+    list: &Option<PasswordAlgorithms>,
+) -> Result<IntegrityAlgorithm, Refusal>
+    ensures { result ≡ choose_by_list (in_order supported) asks
+        (option_map (map integrity_of) list.now) }
+{
+    match list {
+        Some(list) => match first_supported(supported, list) {
+            Some(algorithm) => Ok(algorithm),
+            None => Err(Refusal::UnsupportedFeature),
+        },
+        None => {
+            if asks {
+                Err(Refusal::Unauthorized)
+            } else {
+                Ok(IntegrityAlgorithm::Sha1)
+            }
+        }
+    }
+}
+
+/// A choice, unless a required feature is missing.
+fn unless(
+    missing: bool,
+    choice: Result<IntegrityAlgorithm, Refusal>,
+) -> Result<IntegrityAlgorithm, Refusal>
+    ensures { result ≡ unless missing choice }
+{
+    match choice {
+        Err(refusal) => Err(refusal),
+        Ok(algorithm) => {
+            if missing {
+                Err(Refusal::UnsupportedFeature)
+            } else {
+                Ok(algorithm)
+            }
+        }
+    }
+}
+
+/// The algorithm where the nonce has no security bits.
+fn choose_without_bits(
+    supported: Supported,
+    feature: Feature,
+) -> Result<IntegrityAlgorithm, Refusal>
+    ensures { result ≡ choose_without_bits (in_order supported) feature }
+{
+    if is_required(feature) || !supported.contains(IntegrityAlgorithm::Sha1) {
+        Err(Refusal::UnsupportedFeature)
+    } else {
+        Ok(IntegrityAlgorithm::Sha1)
+    }
+}
+
+/// The algorithm that a challenge comes to.
+pub(crate) fn choose(
+    supported: Supported,
+    feature: Feature,
+    nonce: &str,
+    list: &Option<PasswordAlgorithms>,
+) -> Result<IntegrityAlgorithm, Refusal>
+    ensures { result ≡ choose (in_order supported) feature nonce.now
+        (option_map (map integrity_of) list.now) }
+{
+    match NonceSecurityBits::from_nonce(nonce) {
+        Some(bits) => {
+            let missing = is_required(feature) && !bits.username_anonymity();
+            unless(
+                missing,
+                choose_by_list(supported, bits.password_algorithms(), list),
+            )
+        }
+        None => choose_without_bits(supported, feature),
+    }
+}
+
+/// Whether a nonce allows hashed user names.
+fn asks_for_userhash(nonce: &str) -> bool
+    ensures { result ≡ asks_for_userhash nonce.now }
+{
+    match NonceSecurityBits::from_nonce(nonce) {
+        Some(bits) => bits.username_anonymity(),
+        None => false,
+    }
+}

@@ -1,0 +1,316 @@
+//! The users of a realm, each with a key for each supported algorithm.
+
+ghost use Rattle.std.specs.Prelude.{◌≡◌, Option, None, Some, OnOk, OnErr, IfOk, IfErr, IfNone, IfSome};
+ghost use Rattle.std.specs.FinMap as map;
+ghost use Rattle.std.specs.Ordering.{nat_cmp};
+ghost use Rattle.std.specs.BTreeMap.{Updates, UpdatesBy, get_by_text};
+ghost use Rattle.std.specs.Cmp.Lexicographic.{slice_cmp};
+ghost use Rattle.std.specs.Option.{option_copied};
+ghost use Rattle.std.specs.String.{string_bytes, string_cmp};
+ghost use Rattle.stun_auth.specs.Algorithms.{contains};
+ghost use Rattle.stun_auth.specs.Handed.{just};
+ghost use Rattle.stun_auth.specs.Registered.{key_at, key_if, name_with_hash, new_registered, with_user, without_user};
+ghost use Rattle.stun_auth.specs.code.UserSecret.{secret_seen};
+ghost use Rattle.stun_auth.specs.code.Users.{AllHaveKeys, secrets_seen};
+
+use crate::algorithm_set::AlgorithmSet;
+use crate::server::name_index::NameIndex;
+use crate::server::user_secret::UserSecret;
+use std::alloc::{AllocError, Allocator};
+use std::collections::BTreeMap;
+use std::marker::Model;
+use stun_base::algorithm::IntegrityAlgorithm;
+use stun_base::credentials::LongTermCredentials;
+use stun_base::key::userhash;
+use stun_base::prepared_key::PreparedKey;
+
+/// A user: what the user is known by, and the key for each supported algorithm, prepared for the
+/// digests that are verified under it.
+#[derive(Drop)]
+pub(crate) struct User<A: Allocator> {
+    /// In a box, since it is long and a tree leaves half of its places empty.
+    kept: Box<KeptUser<A>, A>,
+}
+
+/// What is kept of a user.
+#[derive(Drop)]
+pub(crate) struct KeptUser<A: Allocator> {
+    secret: UserSecret<A>,
+    sha1: Option<PreparedKey<A>>,
+    sha256: Option<PreparedKey<A>>,
+}
+
+/// The key of a user for an algorithm, if it is supported and the user's secret gives one.
+fn key_if<A: Allocator>(
+    alloc: A,
+    supported: AlgorithmSet,
+    algorithm: IntegrityAlgorithm,
+    name: &str,
+    realm: &str,
+    secret: &UserSecret<A>,
+) -> Option<PreparedKey<A>>
+    ensures { result ≡ key_if (contains algorithm supported) algorithm name.now realm.now
+        (secret_seen secret.now) }
+{
+    if supported.contains(algorithm) {
+        match secret.key(alloc, algorithm, name, realm) {
+            Some(key) => Some(PreparedKey::new(key, algorithm)),
+            None => None,
+        }
+    } else {
+        None
+    }
+}
+
+impl<A: Allocator + Copy> User<A> {
+    ghost use Rattle.stun_auth.specs.code.Users.{HasKeys, key_in, secret_of};
+
+    fn new(
+        alloc: A,
+        name: &str,
+        realm: &str,
+        secret: UserSecret<A>,
+        supported: AlgorithmSet,
+    ) -> Result<Self, AllocError>
+        ensures keys { IfOk result (HasKeys realm.now supported name.now) }
+        ensures secret { IfOk result (λ user. secret_of user ≡ secret_seen secret) }
+    {
+        let kept = KeptUser {
+            secret,
+            sha1: None,
+            sha256: None,
+        };
+        let mut user = User {
+            kept: Box::new(alloc, kept)?,
+        };
+        user.set_keys(alloc, name, realm, supported);
+        Ok(user)
+    }
+
+    /// Makes the keys anew. It does not allocate.
+    fn set_keys(&mut self, alloc: A, name: &str, realm: &str, supported: AlgorithmSet)
+        ensures keys { HasKeys realm.now supported name.now self.new }
+        ensures secret { secret_of self.new ≡ secret_of self.old }
+    {
+        let secret = &self.kept.secret;
+        let sha1 = key_if(
+            alloc,
+            supported,
+            IntegrityAlgorithm::Sha1,
+            name,
+            realm,
+            secret,
+        );
+        let sha256 = key_if(
+            alloc,
+            supported,
+            IntegrityAlgorithm::Sha256,
+            name,
+            realm,
+            secret,
+        );
+        self.kept.sha1 = sha1;
+        self.kept.sha256 = sha256;
+    }
+
+    fn key(&self, algorithm: IntegrityAlgorithm) -> Option<&PreparedKey<A>>
+        ensures { option_copied result ≡ key_in self.now algorithm }
+    {
+        match algorithm {
+            IntegrityAlgorithm::Sha1 => self.kept.sha1.as_ref(),
+            IntegrityAlgorithm::Sha256 => self.kept.sha256.as_ref(),
+        }
+    }
+}
+
+/// The users of a realm.
+#[derive(Drop)]
+pub(crate) struct Registry<A: Allocator> {
+    realm: String<A>,
+    supported: AlgorithmSet,
+    users: BTreeMap<String<A>, User<A>, A>,
+    /// The name of each user by its hash.
+    hashed: NameIndex<A>,
+}
+
+impl<A: Allocator> Model for Registry<A> {
+    ghost use Rattle.std.specs.String.{string_bytes};
+    ghost use Rattle.stun_auth.specs.Registered.{Registered};
+    ghost use Rattle.stun_auth.specs.code.Registered.{coded_registered};
+
+    ghost Value = { Registered };
+
+    ghost coded = { coded_registered };
+
+    ghost use Rattle.stun_auth.specs.code.NameIndex.{IsIndexOf};
+    ghost use Rattle.stun_auth.specs.code.Users.{secrets_seen, AllHaveKeys};
+
+    ghost view = { λ r. record {
+      realm = string_bytes r.realm;
+      algorithms = r.supported;
+      secrets = secrets_seen r.users.entries;
+    } };
+
+    ghost invariant = { λ r. AllHaveKeys (string_bytes r.realm) r.supported r.users
+        × IsIndexOf (string_bytes r.realm) (secrets_seen r.users.entries) r.hashed };
+}
+
+impl<A: Allocator + Copy> Registry<A> {
+    /// A realm without users, with HMAC-SHA1 alone.
+    pub(crate) fn new(alloc: A, realm: String<A>) -> Self
+        ensures { result ≡ new_registered (string_bytes realm) }
+    {
+        Registry {
+            realm,
+            supported: AlgorithmSet::OnlySha1,
+            users: BTreeMap::new(alloc),
+            hashed: NameIndex::new(alloc),
+        }
+    }
+
+    /// The realm.
+    pub(crate) fn realm(&self) -> &str
+        ensures { result.now ≡ self.now.realm }
+    {
+        self.realm.as_str()
+    }
+
+    /// The supported algorithms.
+    pub(crate) fn supported(&self) -> AlgorithmSet
+        ensures { result ≡ self.now.algorithms }
+    {
+        self.supported
+    }
+
+    /// The key of a present user for a supported algorithm.
+    pub(crate) fn key(&self, name: &str, algorithm: IntegrityAlgorithm) -> Option<&PreparedKey<A>>
+        ensures { option_copied result ≡ key_at self.now name.now algorithm }
+    {
+        match self.users.get(name) {
+            Some(user) => user.key(algorithm),
+            None => None,
+        }
+    }
+
+    /// The name of the first present user with that hash.
+    pub(crate) fn name_with_hash(&self, hash: &[u8; 32]) -> Option<&str>
+        ensures { option_copied result ≡ name_with_hash self.now hash.now }
+    {
+        self.hashed.least(hash)
+    }
+
+    /// Adds a user, or gives a present one another password and its keys.
+    pub(crate) fn add_user(&mut self, credentials: LongTermCredentials<A>) -> Result<(), AllocError>
+        ensures ok { OnOk result (self.new ≡ with_user self.old credentials) }
+        ensures err { OnErr result (self.new ≡ self.old) }
+    {
+        let (name, password) = credentials.into_parts();
+        self.insert(name, UserSecret::Password(password))
+    }
+
+    fn insert(&mut self, name: String<A>, secret: UserSecret<A>) -> Result<(), AllocError>
+        ensures ok { OnOk result (self.new ≡ record self.old {
+          secrets = map.insert self.old.secrets (string_bytes name) (secret_seen secret);
+        }) }
+        ensures err { OnErr result (self.new ≡ self.old) }
+    {
+        let alloc = *name.allocator();
+        let realm = self.realm.as_str();
+        let user = User::new(alloc, name.as_str(), realm, secret, self.supported)?;
+        let hash = userhash(name.as_str(), self.realm.as_str());
+        self.hashed.insert(hash, name.clone()?)?;
+        match put_user(&mut self.users, name, user) {
+            Ok(()) => Ok(()),
+            Err(refused) => {
+                // Only a new name is refused, which the index did not have before.
+                self.hashed.remove(hash, refused);
+                Err(AllocError)
+            }
+        }
+    }
+
+    /// The same realm and algorithms, with one user alone.
+    pub(crate) fn with_just(
+        &self,
+        name: String<A>,
+        secret: UserSecret<A>,
+    ) -> Result<Self, AllocError>
+        ensures { IfOk result (λ users. users ≡ just self.now
+            (Some (record { username = string_bytes name; secret = secret_seen secret }))) }
+    {
+        let mut users = Registry::new(*self.realm.allocator(), self.realm.clone()?);
+        users.set_supported(self.supported);
+        users.insert(name, secret)?;
+        Ok(users)
+    }
+
+    /// Removes a user and the user's keys.
+    pub(crate) fn remove_user(&mut self, name: &str)
+        ensures { self.new ≡ without_user self.old name.now }
+    {
+        if let Some(name) = take_user(&mut self.users, name) {
+            let hash = userhash(name.as_str(), self.realm.as_str());
+            self.hashed.remove(hash, name);
+        }
+    }
+
+    /// Supports these algorithms from here on: all users have keys for just these.
+    pub(crate) fn set_supported(&mut self, supported: AlgorithmSet)
+        ensures { self.new ≡ record self.old { algorithms = supported } }
+    {
+        let alloc = *self.realm.allocator();
+        make_keys(&mut self.users, alloc, self.realm.as_str(), supported);
+        self.supported = supported;
+    }
+}
+
+/// Puts a user under a name, in the place of the one before. A new name comes back where an allocation fails.
+fn put_user<A: Allocator + Copy>(
+    users: &mut BTreeMap<String<A>, User<A>, A>,
+    name: String<A>,
+    user: User<A>,
+) -> Result<(), String<A>>
+    ensures ok { OnOk result (Updates string_cmp users.old users.new name (Some user)) }
+    ensures refused { IfErr result (λ refused. refused ≡ name) }
+    ensures absent { OnErr result (get_by_text users.old (string_bytes name) ≡ None) }
+    ensures same { OnErr result (users.new.entries ≡ users.old.entries) }
+{
+    match users.insert(name, user) {
+        Ok(_) => Ok(()),
+        Err(refused) => {
+            let (name, _) = refused.value;
+            Err(name)
+        }
+    }
+}
+
+/// Takes out the user of a name, whose kept name comes back. It does not allocate.
+fn take_user<A: Allocator + Copy>(
+    users: &mut BTreeMap<String<A>, User<A>, A>,
+    name: &str,
+) -> Option<String<A>>
+    ensures name { IfSome result (λ kept. string_bytes kept ≡ name.now) }
+    ensures updates { UpdatesBy string_cmp (λ k. slice_cmp nat_cmp name.now
+        (string_bytes k)) users.old users.new None }
+    ensures same { IfNone result (users.new.entries ≡ users.old.entries) }
+{
+    let (name, _) = users.remove_entry(name)?;
+    Some(name)
+}
+
+/// Makes the keys of all users anew. It does not allocate.
+fn make_keys<A: Allocator, B: Allocator + Copy>(
+    users: &mut BTreeMap<String<A>, User<B>, A>,
+    alloc: B,
+    realm: &str,
+    supported: AlgorithmSet,
+)
+    ensures keys { AllHaveKeys realm.now supported users.new }
+    ensures secrets { secrets_seen users.new.entries ≡ secrets_seen users.old.entries }
+{
+    // All stay: this only walks over the users with their names.
+    users.retain(|name, user| {
+        user.set_keys(alloc, name.as_str(), realm, supported);
+        true
+    });
+}

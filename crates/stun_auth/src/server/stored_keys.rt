@@ -1,0 +1,60 @@
+//! Keys that were made of a user's password and stored in its place.
+
+ghost use Rattle.std.specs.Prelude.{◌≡◌, Some, codes};
+ghost use Rattle.std.specs.Fmt.{WritesOnOk, WritesStyledOnOk};
+ghost use Rattle.stun_auth.specs.Registered.{stored_key};
+
+use std::alloc::Allocator;
+use std::fmt;
+use stun_base::algorithm::IntegrityAlgorithm;
+use stun_base::key::IntegrityKey;
+
+/// The keys of a user that a data base stores in the place of a password: each is a hash of
+/// `username:realm:password`, with colons between, as `long_term_key` makes it. `None` where a key
+/// is not stored: the user then has no key for that algorithm.
+///
+/// Who has a key can sign as that user: keep it as secret as a password. `Debug` shows none of it.
+#[derive(Clone, Copy)]
+pub struct StoredKeys {
+    /// For HMAC-SHA1: MD5 (RFC 8489, section 9.2.2). `md5_key_from_utf8` makes it.
+    pub sha1: Option<[u8; 16]>,
+    /// For HMAC-SHA256: SHA-256 (section 18.5.1). `sha256_key_from_utf8` makes it.
+    pub sha256: Option<[u8; 32]>,
+}
+
+impl StoredKeys {
+    /// The key for an algorithm. It does not allocate.
+    pub(crate) fn key<A: Allocator>(
+        &self,
+        alloc: A,
+        algorithm: IntegrityAlgorithm,
+    ) -> Option<IntegrityKey<A>>
+        ensures { result ≡ stored_key self.now algorithm }
+    {
+        match algorithm {
+            IntegrityAlgorithm::Sha1 => match &self.sha1 {
+                Some(key) => Some(IntegrityKey::from_bytes(alloc, key).unwrap()),
+                None => None,
+            },
+            IntegrityAlgorithm::Sha256 => match &self.sha256 {
+                Some(key) => Some(IntegrityKey::from_bytes(alloc, key).unwrap()),
+                None => None,
+            },
+        }
+    }
+}
+
+impl fmt::Debug for StoredKeys {
+    ghost debug_output = { λ _. Some (codes "StoredKeys { .. }") };
+
+    fn fmt<W: fmt::Write>(&self, f: &mut fmt::Formatter<W>) -> fmt::Result
+        ensures writes { WritesOnOk W.write_str_gives f.old result
+            (codes "StoredKeys { .. }") f.new }
+
+        // So it is whatever width, precision or other option is asked.
+        ensures styled { WritesStyledOnOk W.write_str_gives f.old result
+            (codes "StoredKeys { .. }") f.new }
+    {
+        f.write_str("StoredKeys { .. }")
+    }
+}

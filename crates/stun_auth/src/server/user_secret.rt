@@ -1,0 +1,38 @@
+//! What a user is known by.
+
+ghost use Rattle.std.specs.Prelude.{◌≡◌, Some};
+ghost use Rattle.stun_auth.specs.Registered.{key_from};
+ghost use Rattle.stun_auth.specs.code.UserSecret.{secret_seen};
+
+use crate::server::stored_keys::StoredKeys;
+use std::alloc::Allocator;
+use stun_base::algorithm::IntegrityAlgorithm;
+use stun_base::key::{IntegrityKey, long_term_key};
+
+/// A password, or the keys that were made of one and stored.
+#[derive(Drop)]
+pub(crate) enum UserSecret<A: Allocator> {
+    Password(String<A>),
+    Keys(StoredKeys),
+}
+
+impl<A: Allocator> UserSecret<A> {
+    /// The key for an algorithm of the user of a name at a realm. It does not allocate.
+    pub(crate) fn key(
+        &self,
+        alloc: A,
+        algorithm: IntegrityAlgorithm,
+        name: &str,
+        realm: &str,
+    ) -> Option<IntegrityKey<A>>
+        ensures { result ≡ key_from algorithm name.now realm.now (secret_seen self.now) }
+    {
+        match self {
+            UserSecret::Password(password) => {
+                let key = long_term_key(alloc, algorithm, name, realm, password.as_str());
+                Some(key)
+            }
+            UserSecret::Keys(keys) => keys.key(alloc, algorithm),
+        }
+    }
+}

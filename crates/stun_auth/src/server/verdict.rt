@@ -1,0 +1,176 @@
+//! Whom a server accepts, and why it refuses all others (RFC 8489, section 9.2.4).
+
+ghost use Rattle.std.specs.Prelude.{◌≡◌, Option, None, Some, map};
+ghost use Rattle.std.specs.Option.{option_copied};
+ghost use Rattle.std.specs.Str.{bytes_eq};
+ghost use Rattle.stun_auth.specs.Algorithms.{has as is_among, offered_list, same_list};
+ghost use Rattle.stun_auth.specs.Nonces.{security_bits};
+ghost use Rattle.stun_auth.specs.Server.{agreed, bits_differ, nonce_refusal, verdict};
+ghost use Rattle.stun_auth.specs.code.Judging.{judged, name_in};
+ghost use Rattle.stun_auth.specs.code.ReadingSeen.{reading_seen};
+ghost use Rattle.stun_types.specs.PasswordAlgorithms.{integrity_of};
+
+use crate::algorithm_set::AlgorithmSet;
+use crate::feature::Feature;
+use crate::message::nonce::{NonceSecurityBits, asks_for_algorithms};
+use crate::message::reading::Reading;
+use crate::server::reason::Refusal;
+use crate::server::registry::Registry;
+use std::alloc::Allocator;
+use stun_base::algorithm::IntegrityAlgorithm;
+use stun_base::compare::is_same_text;
+use stun_types::attribute::{PasswordAlgorithmValue, PasswordAlgorithms};
+
+/// Who is accepted.
+#[derive(Clone, Copy)]
+pub(crate) struct Accepted<'a> {
+    pub(crate) name: &'a str,
+    pub(crate) algorithm: IntegrityAlgorithm,
+}
+
+/// The password algorithms that were offered, the strongest first.
+fn offered_values(offered: Option<AlgorithmSet>) -> &'static [PasswordAlgorithmValue]
+    ensures { map integrity_of result.now ≡ offered_list offered }
+{
+    match offered {
+        None => &[],
+        Some(set) => set.password_algorithms(),
+    }
+}
+
+/// Whether a list is the one that was offered.
+fn is_offered_list(list: &PasswordAlgorithms<'_>, offered: Option<AlgorithmSet>) -> bool
+    ensures { result ≡ same_list (map integrity_of list.now) (offered_list offered) }
+{
+    list.equals(offered_values(offered))
+}
+
+/// Whether an algorithm was offered.
+fn is_offered(algorithm: IntegrityAlgorithm, offered: Option<AlgorithmSet>) -> bool
+    ensures { result ≡ is_among algorithm (offered_list offered) }
+{
+    match offered {
+        Some(set) => set.contains(algorithm),
+        None => false,
+    }
+}
+
+/// The algorithm that both sides mean.
+fn agreed(
+    reading: &Reading<'_, '_>,
+    nonce: &str,
+    offered: Option<AlgorithmSet>,
+) -> Option<IntegrityAlgorithm>
+    ensures { result ≡ agreed (reading_seen reading.now) nonce.now offered }
+{
+    if !asks_for_algorithms(nonce) {
+        return Some(IntegrityAlgorithm::Sha1);
+    }
+    match &reading.algorithms {
+        None => match reading.algorithm {
+            None => Some(IntegrityAlgorithm::Sha1),
+            Some(_) => None,
+        },
+        Some(list) => match reading.algorithm {
+            None => None,
+            Some(algorithm) => {
+                if is_offered_list(list, offered) && is_offered(algorithm, offered) {
+                    Some(algorithm)
+                } else {
+                    None
+                }
+            }
+        },
+    }
+}
+
+/// Whether both nonces have security bits and these differ.
+fn bits_differ(ours: &str, theirs: &str) -> bool
+    ensures { result ≡ bits_differ (security_bits ours.now) (security_bits theirs.now) }
+{
+    match NonceSecurityBits::from_nonce(ours) {
+        None => false,
+        Some(ours) => match NonceSecurityBits::from_nonce(theirs) {
+            None => false,
+            Some(theirs) => ours.bytes() != theirs.bytes(),
+        },
+    }
+}
+
+/// How a nonce is refused that is not the current one.
+fn nonce_refusal(ours: &str, theirs: &str) -> Refusal
+    ensures { result ≡ nonce_refusal ours.now theirs.now }
+{
+    if bits_differ(ours, theirs) {
+        Refusal::Unauthorized
+    } else {
+        Refusal::StaleNonce
+    }
+}
+
+/// The name that a message gives, by a hash or plainly.
+fn name_in<'a, A: Allocator + Copy>(
+    registry: &'a Registry<A>,
+    feature: Feature,
+    reading: &Reading<'a, '_>,
+) -> Option<&'a str>
+    ensures { option_copied result ≡ name_in registry.now feature (reading_seen reading.now) }
+{
+    match &reading.userhash {
+        Some(hash) => {
+            if feature.is_possible() {
+                registry.name_with_hash(hash)
+            } else {
+                None
+            }
+        }
+        None => reading.username,
+    }
+}
+
+/// Whether a nonce is the one that is current. Each byte is looked at, wherever they differ.
+fn is_same_nonce(theirs: &str, ours: &str) -> bool
+    ensures { result ≡ bytes_eq theirs.now ours.now }
+{
+    is_same_text(theirs.as_bytes(), ours.as_bytes())
+}
+
+/// Who is accepted where this nonce is current and these algorithms were offered, or the first refusal that holds.
+///
+/// It does not allocate and derives no key.
+pub(crate) fn verdict<'a, A: Allocator + Copy>(
+    registry: &'a Registry<A>,
+    feature: Feature,
+    reading: &Reading<'a, '_>,
+    nonce: &str,
+    offered: Option<AlgorithmSet>,
+) -> Result<Accepted<'a>, Refusal>
+    ensures { judged result ≡ verdict registry.now feature nonce.now offered
+        (reading_seen reading.now) }
+{
+    if !reading.has_integrity {
+        return Err(Refusal::Unauthorized);
+    }
+    if !reading.is_complete() {
+        return Err(Refusal::BadRequest);
+    }
+    let Some(theirs) = reading.nonce else {
+        return Err(Refusal::BadRequest);
+    };
+    let Some(algorithm) = agreed(reading, theirs, offered) else {
+        return Err(Refusal::BadRequest);
+    };
+    if !is_same_nonce(theirs, nonce) {
+        return Err(nonce_refusal(nonce, theirs));
+    }
+    let Some(name) = name_in(registry, feature, reading) else {
+        return Err(Refusal::Unauthorized);
+    };
+    let Some(key) = registry.key(name, algorithm) else {
+        return Err(Refusal::Unauthorized);
+    };
+    match reading.verified_under(key) {
+        Some(_) => Ok(Accepted { name, algorithm }),
+        None => Err(Refusal::Unauthorized),
+    }
+}

@@ -1,0 +1,445 @@
+//! Credentials (RFC 8489, section 9), and the keys that are made of them.
+
+ghost use Rattle.std.specs.Prelude.{◌≡◌, ◌≤◌, length, IfOk, IsOk, Some, codes, string_bytes};
+ghost use Rattle.std.specs.Cmp.{partial_equiv_from_equiv};
+ghost use Rattle.std.specs.Fmt.{WritesOnOk, WritesStyledOnOk};
+ghost use Rattle.stun_base.specs.Credentials.{same_text, same_user, same_text_equivalence};
+ghost use Rattle.stun_base.specs.Credentials.{same_user_equivalence};
+ghost use Rattle.stun_base.specs.Keys.{long_term_key_of};
+
+use crate::keys::algorithm::IntegrityAlgorithm;
+use crate::keys::key::{self, IntegrityKey};
+use std::alloc::{AllocError, Allocator, Global};
+use std::fmt;
+use std::marker::Model;
+
+/// The password of a short-term credential (RFC 8489, section 9.1).
+///
+/// The text is used as it is. The caller prepares it by OpaqueString (RFC 8265, section 4.2).
+/// Contracts see the bytes of the password. `Debug` shows none of them.
+#[derive(Drop)]
+pub struct ShortTermCredentials<A: Allocator = Global> {
+    password: String<A>,
+}
+
+impl<A: Allocator> Model for ShortTermCredentials<A> {
+    ghost use Rattle.std.specs.Prelude.{ℕ, List, string_bytes};
+
+    ghost Value = { List ℕ };
+
+    ghost view = { λ credentials. string_bytes credentials.password };
+}
+
+impl<A: Allocator> ShortTermCredentials<A> {
+    /// The credentials of this password. They keep the text and its allocator.
+    pub fn new(password: String<A>) -> Self
+        ensures { result ≡ string_bytes password }
+    {
+        ShortTermCredentials { password }
+    }
+
+    /// The password. Its bytes are the key of either digest, whatever their number.
+    pub fn password(&self) -> &str
+        ensures { result.now ≡ self.now }
+    {
+        self.password.as_str()
+    }
+}
+
+impl<A: Allocator + Copy> ShortTermCredentials<A> {
+    /// The key of these credentials: the password's bytes (RFC 8489, section 9.1.1).
+    ///
+    /// Up to 32 bytes are in the key itself; a longer key is allocated by the password's allocator.
+    pub fn make_key(&self) -> Result<IntegrityKey<A>, AllocError>
+        ensures key { IfOk result (λ key. key ≡ self.now) }
+        ensures succeeds_inline { length self.now ≤ 32 → IsOk result }
+    {
+        IntegrityKey::from_bytes(*self.password.allocator(), self.password.as_bytes())
+    }
+}
+
+/// The same password, in memory of the same allocator.
+impl<A: Allocator + Copy> Clone for ShortTermCredentials<A> {
+    ghost is_clone = { λ credentials copy. copy ≡ credentials };
+
+    fn clone(&self) -> Result<Self, AllocError> {
+        Ok(ShortTermCredentials::new(copied(&self.password)?))
+    }
+}
+
+impl<A: Allocator> fmt::Debug for ShortTermCredentials<A> {
+    ghost debug_output = { λ _. Some (codes "ShortTermCredentials { .. }") };
+
+    fn fmt<W: fmt::Write>(&self, f: &mut fmt::Formatter<W>) -> fmt::Result
+        ensures writes { WritesOnOk W.write_str_gives f.old result
+            (codes "ShortTermCredentials { .. }") f.new }
+
+        // It writes the same with every width, precision and other option.
+        ensures styled { WritesStyledOnOk W.write_str_gives f.old result
+            (codes "ShortTermCredentials { .. }") f.new }
+    {
+        f.write_str("ShortTermCredentials { .. }")
+    }
+}
+
+/// Credentials are equal if and only if their passwords are.
+impl<A: Allocator> PartialEq for ShortTermCredentials<A> {
+    ghost eq = { same_text };
+
+    ghost laws = { partial_equiv_from_equiv same_text_equivalence };
+
+    fn eq(&self, other: &Self) -> bool {
+        self.password == other.password
+    }
+}
+
+impl<A: Allocator> Eq for ShortTermCredentials<A> {
+    ghost laws = { same_text_equivalence };
+}
+
+/// The name and password of a user (RFC 8489, section 9.2).
+///
+/// The texts are used as they are. The caller prepares them by OpaqueString (RFC 8265, section
+/// 4.2). Contracts see the bytes of both. `Debug` shows none of them.
+#[derive(Drop)]
+pub struct LongTermCredentials<A: Allocator = Global> {
+    username: String<A>,
+    password: String<A>,
+}
+
+impl<A: Allocator> Model for LongTermCredentials<A> {
+    ghost use Rattle.std.specs.Prelude.{string_bytes};
+    ghost use Rattle.stun_base.specs.Credentials.{NameAndPassword};
+
+    ghost Value = { NameAndPassword };
+
+    ghost view = { λ credentials. record {
+      username = string_bytes credentials.username;
+      password = string_bytes credentials.password;
+    } };
+}
+
+impl<A: Allocator> LongTermCredentials<A> {
+    /// The credentials of this user. They keep both texts and their allocators.
+    pub fn new(username: String<A>, password: String<A>) -> Self
+        ensures { result ≡ record {
+          username = string_bytes username;
+          password = string_bytes password;
+        } }
+    {
+        LongTermCredentials { username, password }
+    }
+
+    /// The user's name.
+    pub fn username(&self) -> &str
+        ensures { result.now ≡ self.now.username }
+    {
+        self.username.as_str()
+    }
+
+    /// The user's password.
+    pub fn password(&self) -> &str
+        ensures { result.now ≡ self.now.password }
+    {
+        self.password.as_str()
+    }
+
+    /// The name and the password, with their allocators.
+    pub fn into_parts(self) -> (String<A>, String<A>)
+        ensures username { string_bytes result.0 ≡ self.username }
+        ensures password { string_bytes result.1 ≡ self.password }
+    {
+        let LongTermCredentials { username, password } = self;
+        (username, password)
+    }
+}
+
+impl<A: Allocator + Copy> LongTermCredentials<A> {
+    /// The credentials of this user at a realm. Keys are made of them without an allocation.
+    ///
+    /// Name and password are copied, each by its own allocator. It fails only if an allocation
+    /// fails.
+    pub fn to_key(&self, realm: String<A>) -> Result<LongTermKeyCredentials<A>, AllocError>
+        ensures { IfOk result (λ key. key ≡ record {
+          username = self.now.username;
+          realm = string_bytes realm;
+          password = self.now.password;
+        }) }
+    {
+        let username = copied(&self.username)?;
+        let password = copied(&self.password)?;
+        Ok(LongTermKeyCredentials {
+            username,
+            realm,
+            password,
+        })
+    }
+}
+
+/// The same text, in memory of the same allocator.
+fn copied<A: Allocator + Copy>(text: &String<A>) -> Result<String<A>, AllocError>
+    ensures { IfOk result (λ copy. string_bytes copy ≡ string_bytes text.now) }
+{
+    String::from_str(*text.allocator(), text.as_str())
+}
+
+/// The same name and password, in memory of the same allocators.
+impl<A: Allocator + Copy> Clone for LongTermCredentials<A> {
+    ghost is_clone = { λ credentials copy. copy ≡ credentials };
+
+    fn clone(&self) -> Result<Self, AllocError> {
+        let username = copied(&self.username)?;
+        let password = copied(&self.password)?;
+        Ok(LongTermCredentials { username, password })
+    }
+}
+
+impl<A: Allocator> fmt::Debug for LongTermCredentials<A> {
+    ghost debug_output = { λ _. Some (codes "LongTermCredentials { .. }") };
+
+    fn fmt<W: fmt::Write>(&self, f: &mut fmt::Formatter<W>) -> fmt::Result
+        ensures writes { WritesOnOk W.write_str_gives f.old result
+            (codes "LongTermCredentials { .. }") f.new }
+
+        // It writes the same with every width, precision and other option.
+        ensures styled { WritesStyledOnOk W.write_str_gives f.old result
+            (codes "LongTermCredentials { .. }") f.new }
+    {
+        f.write_str("LongTermCredentials { .. }")
+    }
+}
+
+/// Credentials are equal if and only if name and password are.
+impl<A: Allocator> PartialEq for LongTermCredentials<A> {
+    ghost eq = { same_user };
+
+    ghost laws = { partial_equiv_from_equiv same_user_equivalence };
+
+    fn eq(&self, other: &Self) -> bool {
+        self.username == other.username && self.password == other.password
+    }
+}
+
+impl<A: Allocator> Eq for LongTermCredentials<A> {
+    ghost laws = { same_user_equivalence };
+}
+
+/// The name and password of a user at a realm, of which a long-term key is made (RFC 8489, section
+/// 9.2.2).
+///
+/// Contracts see the bytes of the three texts. `Debug` shows none of them.
+#[derive(Drop)]
+pub struct LongTermKeyCredentials<A: Allocator = Global> {
+    username: String<A>,
+    realm: String<A>,
+    password: String<A>,
+}
+
+impl<A: Allocator> Model for LongTermKeyCredentials<A> {
+    ghost use Rattle.std.specs.Prelude.{string_bytes};
+    ghost use Rattle.stun_base.specs.Credentials.{UserAtRealm};
+
+    ghost Value = { UserAtRealm };
+
+    ghost view = { λ credentials. record {
+      username = string_bytes credentials.username;
+      realm = string_bytes credentials.realm;
+      password = string_bytes credentials.password;
+    } };
+}
+
+impl<A: Allocator> LongTermKeyCredentials<A> {
+    /// The user's name.
+    pub fn username(&self) -> &str
+        ensures { result.now ≡ self.now.username }
+    {
+        self.username.as_str()
+    }
+
+    /// The realm.
+    pub fn realm(&self) -> &str
+        ensures { result.now ≡ self.now.realm }
+    {
+        self.realm.as_str()
+    }
+
+    /// The user's password.
+    pub fn password(&self) -> &str
+        ensures { result.now ≡ self.now.password }
+    {
+        self.password.as_str()
+    }
+
+    /// The key for this algorithm: the hash of `username:realm:password` (RFC 8489, sections 9.2.2
+    /// and 18.5.1). It has 16 bytes of MD5 for HMAC-SHA1, and 32 of SHA-256 for HMAC-SHA256. It
+    /// does not allocate.
+    pub fn make_key(&self, algorithm: IntegrityAlgorithm) -> IntegrityKey<A>
+        ensures { result ≡ long_term_key_of self.now algorithm }
+    {
+        key::hashed_key(
+            algorithm,
+            self.username.as_str(),
+            self.realm.as_str(),
+            self.password.as_str(),
+        )
+    }
+}
+
+/// The same texts, in memory of the same allocators.
+impl<A: Allocator + Copy> Clone for LongTermKeyCredentials<A> {
+    ghost is_clone = { λ credentials copy. copy ≡ credentials };
+
+    fn clone(&self) -> Result<Self, AllocError> {
+        let username = copied(&self.username)?;
+        let realm = copied(&self.realm)?;
+        let password = copied(&self.password)?;
+        Ok(LongTermKeyCredentials {
+            username,
+            realm,
+            password,
+        })
+    }
+}
+
+impl<A: Allocator> fmt::Debug for LongTermKeyCredentials<A> {
+    ghost debug_output = { λ _. Some (codes "LongTermKeyCredentials { .. }") };
+
+    fn fmt<W: fmt::Write>(&self, f: &mut fmt::Formatter<W>) -> fmt::Result
+        ensures writes { WritesOnOk W.write_str_gives f.old result
+            (codes "LongTermKeyCredentials { .. }") f.new }
+
+        // It writes the same with every width, precision and other option.
+        ensures styled { WritesStyledOnOk W.write_str_gives f.old result
+            (codes "LongTermKeyCredentials { .. }") f.new }
+    {
+        f.write_str("LongTermKeyCredentials { .. }")
+    }
+}
+
+/// The credentials that protect a message, of either kind (RFC 8489, section 9).
+///
+/// They have one key for each algorithm: the password's bytes, or the long-term key. `Debug` shows
+/// their kind alone.
+#[derive(Drop)]
+pub enum MessageIntegrityCredentials<A: Allocator = Global> {
+    /// A password alone (section 9.1).
+    ShortTerm(ShortTermCredentials<A>),
+    /// A user at a realm (section 9.2).
+    LongTerm(LongTermKeyCredentials<A>),
+}
+
+impl<A: Allocator> MessageIntegrityCredentials<A> {
+    ghost use Rattle.stun_base.specs.Keys.OfCredentials.{keys_of};
+
+    /// The key for this algorithm: the password's bytes, borrowed, or the long-term key. It does
+    /// not allocate.
+    pub fn key(&self, algorithm: IntegrityAlgorithm) -> CredentialsKey<'_, A>
+        ensures { result ≡ keys_of self.now algorithm }
+    {
+        let bytes = match self {
+            MessageIntegrityCredentials::ShortTerm(credentials) => {
+                CredentialsKeyBytes::Password(credentials.password().as_bytes())
+            }
+            MessageIntegrityCredentials::LongTerm(credentials) => {
+                CredentialsKeyBytes::Made(credentials.make_key(algorithm))
+            }
+        };
+        CredentialsKey { bytes }
+    }
+}
+
+impl<A: Allocator> From<ShortTermCredentials<A>> for MessageIntegrityCredentials<A> {
+    ghost use Rattle.std.specs.Prelude.{◌≡◌};
+    ghost use Rattle.stun_base.specs.declared.keys.credentials.MessageIntegrityCredentials.TheVariants.{
+      ShortTerm,
+    };
+
+    ghost from_gives = { λ credentials result. result ≡ ShortTerm credentials };
+
+    fn from(credentials: ShortTermCredentials<A>) -> Self {
+        MessageIntegrityCredentials::ShortTerm(credentials)
+    }
+}
+
+impl<A: Allocator> From<LongTermKeyCredentials<A>> for MessageIntegrityCredentials<A> {
+    ghost use Rattle.std.specs.Prelude.{◌≡◌};
+    ghost use Rattle.stun_base.specs.declared.keys.credentials.MessageIntegrityCredentials.TheVariants.{
+      LongTerm,
+    };
+
+    ghost from_gives = { λ credentials result. result ≡ LongTerm credentials };
+
+    fn from(credentials: LongTermKeyCredentials<A>) -> Self {
+        MessageIntegrityCredentials::LongTerm(credentials)
+    }
+}
+
+impl<A: Allocator> fmt::Debug for MessageIntegrityCredentials<A> {
+    ghost use Rattle.stun_base.specs.Keys.OfCredentials.{kind_shown};
+
+    ghost debug_output = { λ credentials. Some (kind_shown credentials) };
+
+    fn fmt<W: fmt::Write>(&self, f: &mut fmt::Formatter<W>) -> fmt::Result
+        ensures writes { WritesOnOk W.write_str_gives f.old result (kind_shown self.now) f.new }
+
+        // It writes the same with every width, precision and other option.
+        ensures styled { WritesStyledOnOk W.write_str_gives f.old result
+            (kind_shown self.now) f.new }
+    {
+        match self {
+            MessageIntegrityCredentials::ShortTerm(_) => f.write_str("ShortTerm(..)"),
+            MessageIntegrityCredentials::LongTerm(_) => f.write_str("LongTerm(..)"),
+        }
+    }
+}
+
+/// The key of credentials for one algorithm. It borrows a password, or holds a long-term key.
+///
+/// Contracts see it as the key's bytes. `Debug` shows none of them.
+#[derive(Drop)]
+pub struct CredentialsKey<'a, A: Allocator = Global> {
+    bytes: CredentialsKeyBytes<'a, A>,
+}
+
+/// Where the bytes of the key are.
+#[derive(Drop)]
+enum CredentialsKeyBytes<'a, A: Allocator> {
+    Password(&'a [u8]),
+    Made(IntegrityKey<A>),
+}
+
+impl<'a, A: Allocator> Model for CredentialsKey<'a, A> {
+    ghost use Rattle.std.specs.Prelude.{ℕ, List};
+    ghost use Rattle.stun_base.specs.code.CredentialsKeyBytes.{credentials_key_bytes};
+
+    ghost Value = { List ℕ };
+
+    ghost view = { λ key. credentials_key_bytes key.bytes };
+}
+
+impl<'a, A: Allocator> CredentialsKey<'a, A> {
+    /// The bytes of the key.
+    pub fn as_bytes(&self) -> &[u8]
+        ensures { result.now ≡ self.now }
+    {
+        match &self.bytes {
+            CredentialsKeyBytes::Password(bytes) => bytes,
+            CredentialsKeyBytes::Made(key) => key.as_bytes(),
+        }
+    }
+}
+
+impl<'a, A: Allocator> fmt::Debug for CredentialsKey<'a, A> {
+    ghost debug_output = { λ _. Some (codes "CredentialsKey { .. }") };
+
+    fn fmt<W: fmt::Write>(&self, f: &mut fmt::Formatter<W>) -> fmt::Result
+        ensures writes { WritesOnOk W.write_str_gives f.old result
+            (codes "CredentialsKey { .. }") f.new }
+
+        // So it is whatever width, precision or other option is asked.
+        ensures styled { WritesStyledOnOk W.write_str_gives f.old result
+            (codes "CredentialsKey { .. }") f.new }
+    {
+        f.write_str("CredentialsKey { .. }")
+    }
+}

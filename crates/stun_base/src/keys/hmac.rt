@@ -1,0 +1,149 @@
+//! HMAC (RFC 2104) over SHA-1 and SHA-256.
+
+ghost use Rattle.std.specs.Prelude.{◌≡◌, ◌≤◌, ◌++◌, ℕ, List, length, map};
+ghost use Rattle.std.specs.List.{concat};
+ghost use Rattle.sha1.specs.Sha1.{sha1};
+ghost use Rattle.sha2.specs.Sha256.{sha256};
+ghost use Rattle.stun_base.specs.Hmac as spec;
+ghost use Rattle.stun_base.specs.code.Padded.{IsBegun};
+
+use crate::keys::hash::HashFunction;
+use sha1::Sha1;
+use sha2::Sha256;
+use std::convert::AsSlice;
+
+/// The number of bytes of an HMAC-SHA1.
+pub const SHA1_LENGTH: usize = 20;
+
+/// The number of bytes of an HMAC-SHA256.
+pub const SHA256_LENGTH: usize = 32;
+
+/// The number of bytes of one block of both hash functions.
+const BLOCK_LENGTH: usize = 64;
+
+/// The byte that each byte of the key is xored with before the text is hashed.
+const INNER_PAD: u8 = 0x36;
+
+/// The byte that each byte of the key is xored with before the inner digest is hashed.
+const OUTER_PAD: u8 = 0x5c;
+
+/// The key as one block: a longer key is hashed, and zeros fill up the block.
+fn key_block<H: HashFunction>(key: &[u8]) -> [u8; BLOCK_LENGTH]
+    ensures { result ≡ spec.key_block H.digest key.now }
+{
+    if key.len() > BLOCK_LENGTH {
+        let mut hasher = H::start();
+        hasher.feed(key);
+        let digest = hasher.finish();
+        filled(digest.as_slice())
+    } else {
+        filled(key)
+    }
+}
+
+/// The bytes, filled up to a block by zeros.
+fn filled(bytes: &[u8]) -> [u8; BLOCK_LENGTH]
+    requires { length bytes.now ≤ 64 }
+    ensures { result ≡ spec.block_of bytes.now }
+{
+    let mut block = [0; BLOCK_LENGTH];
+    block[..bytes.len()].copy_from_slice(bytes);
+    block
+}
+
+/// Each byte of the block xor the pad.
+fn padded(block: &[u8; BLOCK_LENGTH], pad: u8) -> [u8; BLOCK_LENGTH]
+    ensures { result ≡ spec.xor_pad pad block.now }
+{
+    let mut masked = [0; BLOCK_LENGTH];
+    for i in 0..BLOCK_LENGTH {
+        masked[i] = block[i] ^ pad;
+    }
+    masked
+}
+
+/// A hasher that has been fed the key's block under a pad.
+fn begun<H: HashFunction>(block: &[u8; BLOCK_LENGTH], pad: u8) -> H
+    ensures { H.holds result (spec.xor_pad pad block.now) }
+{
+    let mut hasher = H::start();
+    hasher.feed(&padded(block, pad));
+    hasher
+}
+
+/// Feeds the pieces in their order.
+fn feed_all<H: HashFunction>(hasher: &mut H, pieces: &[&[u8]])
+    ensures { (message : List ℕ) → H.holds hasher.old message →
+        H.holds hasher.new (message ++ concat (map (λ piece. piece.now) pieces.now)) }
+{
+    for piece in pieces {
+        hasher.feed(piece);
+    }
+}
+
+/// HMAC over a hash function, of the pieces in their order as one text.
+#[tactic(auto, unfolding(crate::specs::Hmac::hmac))]
+fn hmac<H: HashFunction>(key: &[u8], pieces: &[&[u8]]) -> H::Digest
+    ensures { H.Digest.items result ≡
+        spec.hmac H.digest key.now (concat (map (λ piece. piece.now) pieces.now)) }
+{
+    let block = key_block::<H>(key);
+    let mut inner = begun::<H>(&block, INNER_PAD);
+    feed_all(&mut inner, pieces);
+    let mut outer = begun::<H>(&block, OUTER_PAD);
+    outer.feed(inner.finish().as_slice());
+    outer.finish()
+}
+
+/// The part of HMAC that comes before the text (RFC 2104, section 4). One hasher has been fed the
+/// key's block under the inner pad, the other the key's block under the outer pad. They are as
+/// secret as the key: digests under the key can be made with them.
+#[derive(Drop)]
+pub(crate) struct BegunHmac<H: HashFunction> {
+    inner: H,
+    outer: H,
+}
+
+impl<H: HashFunction> BegunHmac<H> {
+    /// The hashers of a key.
+    pub(crate) fn of(key: &[u8]) -> Self
+        ensures { IsBegun H.holds H.digest key.now result.inner result.outer }
+    {
+        let block = key_block::<H>(key);
+        BegunHmac {
+            inner: begun::<H>(&block, INNER_PAD),
+            outer: begun::<H>(&block, OUTER_PAD),
+        }
+    }
+
+    /// HMAC of the pieces, in their order as one text, under the key of these hashers.
+    #[tactic(auto, unfolding(crate::specs::Hmac::hmac))]
+    pub(crate) fn digest(&self, pieces: &[&[u8]]) -> H::Digest
+        ensures { (key : List ℕ) →
+            IsBegun H.holds H.digest key self.now.inner self.now.outer →
+            H.Digest.items result ≡
+            spec.hmac H.digest key (concat (map (λ piece. piece.now) pieces.now)) }
+    {
+        let mut inner = self.inner.copy();
+        feed_all(&mut inner, pieces);
+        let mut outer = self.outer.copy();
+        outer.feed(inner.finish().as_slice());
+        outer.finish()
+    }
+}
+
+/// HMAC-SHA1 (RFC 2104) of the pieces in their order, as one text. Key and text may have any
+/// length. It does not allocate.
+pub fn hmac_sha1(key: &[u8], pieces: &[&[u8]]) -> [u8; SHA1_LENGTH]
+    ensures { result ≡ spec.hmac sha1 key.now (concat (map (λ piece. piece.now) pieces.now)) }
+{
+    hmac::<Sha1>(key, pieces)
+}
+
+/// HMAC-SHA256 (RFC 2104) of the pieces in their order, as one text. Key and text may have any
+/// length. It does not allocate.
+pub fn hmac_sha256(key: &[u8], pieces: &[&[u8]]) -> [u8; SHA256_LENGTH]
+    ensures { result ≡ spec.hmac sha256 key.now (concat (map (λ piece. piece.now) pieces.now)) }
+{
+    hmac::<Sha256>(key, pieces)
+}

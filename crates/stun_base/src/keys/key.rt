@@ -1,0 +1,263 @@
+//! Keys of message integrity (RFC 8489, sections 9.1.1 and 9.2.2), and hashes of user names (14.4).
+
+ghost use Rattle.std.specs.Prelude.{◌≡◌, ◌≤◌, ◌↔◌, [], length, true, IfOk};
+ghost use Rattle.std.specs.Prelude.{IsOk, Some, IfSome, IsSome, codes};
+ghost use Rattle.std.specs.Fmt.{WritesOnOk, WritesStyledOnOk};
+ghost use Rattle.std.specs.Str.{is_utf8};
+ghost use Rattle.stun_base.specs.Keys as spec;
+
+use crate::keys::algorithm::IntegrityAlgorithm;
+use crate::keys::hash::{HashFunction, digest_of};
+use crate::keys::no_memory::NoMemory;
+use crate::keys::short_text::ShortText;
+use md5::Md5;
+use sha2::Sha256;
+use smallvec::SmallVec;
+use std::alloc::{AllocError, Allocator, Global};
+use std::fmt;
+use std::marker::Model;
+
+/// The most bytes of a key that is kept without an allocation.
+const INLINE_LENGTH: usize = 32;
+
+/// The key of a digest. Up to 32 bytes are in the value itself.
+///
+/// Contracts see a key as its bytes. `Debug` shows none of them.
+#[derive(Drop)]
+pub struct IntegrityKey<A: Allocator = Global> {
+    bytes: KeyBytes<A>,
+}
+
+/// The bytes of a key: a short one inline, a longer one on the heap.
+#[derive(Drop)]
+enum KeyBytes<A: Allocator> {
+    Inline(SmallVec<u8, INLINE_LENGTH, NoMemory>),
+    Heap(Vec<u8, A>),
+}
+
+impl<A: Allocator> Model for IntegrityKey<A> {
+    ghost use Rattle.std.specs.Prelude.{ℕ, List};
+    ghost use Rattle.stun_base.specs.code.KeyBytes.{key_bytes, IsInItsPlace};
+
+    ghost Value = { List ℕ };
+
+    ghost view = { λ key. key_bytes key.bytes };
+
+    ghost invariant = { λ key. IsInItsPlace key.bytes };
+}
+
+impl<A: Allocator> IntegrityKey<A> {
+    /// A key of these bytes. Up to 32 bytes are in the key itself; more are allocated by `alloc`.
+    /// It fails only if this allocation fails.
+    pub fn from_bytes(alloc: A, bytes: &[u8]) -> Result<Self, AllocError>
+        ensures ok { IfOk result (λ key. key ≡ bytes.now) }
+        ensures succeeds_inline { length bytes.now ≤ 32 → IsOk result }
+    {
+        let bytes = match SmallVec::from_slice(NoMemory, bytes) {
+            Ok(inline) => KeyBytes::Inline(inline),
+            Err(_) => KeyBytes::Heap(Vec::from_slice(alloc, bytes)?),
+        };
+        Ok(IntegrityKey { bytes })
+    }
+
+    /// The bytes of the key.
+    pub fn as_bytes(&self) -> &[u8]
+        ensures { result.now ≡ self.now }
+    {
+        match &self.bytes {
+            KeyBytes::Inline(inline) => inline.as_slice(),
+            KeyBytes::Heap(heap) => heap.as_slice(),
+        }
+    }
+}
+
+/// The same bytes. Up to 32 are copied without an allocation, more are allocated by the same
+/// allocator.
+impl<A: Allocator + Copy> Clone for IntegrityKey<A> {
+    ghost is_clone = { λ key copy. copy ≡ key };
+
+    ghost is_infallible = { λ key. length key ≤ 32 };
+
+    fn clone(&self) -> Result<Self, AllocError> {
+        let bytes = match &self.bytes {
+            KeyBytes::Inline(inline) => {
+                KeyBytes::Inline(SmallVec::from_slice(NoMemory, inline.as_slice()).unwrap())
+            }
+            KeyBytes::Heap(heap) => {
+                KeyBytes::Heap(Vec::from_slice(*heap.allocator(), heap.as_slice())?)
+            }
+        };
+        Ok(IntegrityKey { bytes })
+    }
+}
+
+impl<A: Allocator> fmt::Debug for IntegrityKey<A> {
+    ghost debug_output = { λ _. Some (codes "IntegrityKey { .. }") };
+
+    fn fmt<W: fmt::Write>(&self, f: &mut fmt::Formatter<W>) -> fmt::Result
+        ensures writes { WritesOnOk W.write_str_gives f.old result
+            (codes "IntegrityKey { .. }") f.new }
+
+        // It writes the same with every width, precision and other option.
+        ensures styled { WritesStyledOnOk W.write_str_gives f.old result
+            (codes "IntegrityKey { .. }") f.new }
+    {
+        f.write_str("IntegrityKey { .. }")
+    }
+}
+
+/// Puts a user's name, realm and password into an empty text, with colons between them. Returns
+/// false if they do not fit. The text is filled in place, since one that is moved after it was
+/// filled is slower to hash.
+fn join(text: &mut ShortText, username: &[u8], realm: &[u8], password: &[u8]) -> bool
+    requires { text.old ≡ [] }
+    ensures { result ≡ true → text.new ≡ spec.with_colon
+        (spec.with_colon username.now realm.now) password.now }
+{
+    text.push(username)
+        && text.push(b":")
+        && text.push(realm)
+        && text.push(b":")
+        && text.push(password)
+}
+
+/// The digest of a user's name, realm and password with colons between them, fed one after the
+/// other.
+fn digest_in_turn<H: HashFunction>(username: &[u8], realm: &[u8], password: &[u8]) -> H::Digest
+    ensures value { H.Digest.items result ≡
+        H.digest (spec.with_colon (spec.with_colon username.now realm.now) password.now) }
+    ensures fits { length (H.Digest.items result) ≤ 64 }
+{
+    let mut hasher = H::start();
+    hasher.feed(username);
+    hasher.feed(b":");
+    hasher.feed(realm);
+    hasher.feed(b":");
+    hasher.feed(password);
+    hasher.finish()
+}
+
+/// The digest of a user's name, realm and password with colons between them.
+fn credentials_digest<H: HashFunction>(username: &[u8], realm: &[u8], password: &[u8]) -> H::Digest
+    ensures value { H.Digest.items result ≡
+        H.digest (spec.with_colon (spec.with_colon username.now realm.now) password.now) }
+    ensures fits { length (H.Digest.items result) ≤ 64 }
+{
+    let mut text = ShortText::new();
+    if join(&mut text, username, realm, password) {
+        digest_of::<H>(text.as_bytes())
+    } else {
+        digest_in_turn::<H>(username, realm, password)
+    }
+}
+
+/// Whether bytes are UTF-8.
+fn is_utf8(bytes: &[u8]) -> bool
+    ensures { result ≡ is_utf8 bytes.now }
+{
+    simdutf8::basic::from_utf8(bytes).is_ok()
+}
+
+/// The digest of three texts with colons between them, or `None` if one of them is not UTF-8.
+fn digest_of_utf8<H: HashFunction>(
+    username: &[u8],
+    realm: &[u8],
+    password: &[u8],
+) -> Option<H::Digest>
+    ensures digest { IfSome result (λ digest. H.Digest.items digest ≡
+        H.digest (spec.with_colon (spec.with_colon username.now realm.now) password.now)) }
+    ensures utf8 { IsSome result ↔ (spec.are_utf8 username.now realm.now password.now ≡ true) }
+{
+    // The test comes last: a processor can make it while it still works on the digest.
+    let mut text = ShortText::new();
+    if join(&mut text, username, realm, password) {
+        let digest = digest_of::<H>(text.as_bytes());
+        text.is_utf8().then_some(digest)
+    } else {
+        let digest = digest_in_turn::<H>(username, realm, password);
+        let are_utf8 = is_utf8(username) && is_utf8(realm) && is_utf8(password);
+        are_utf8.then_some(digest)
+    }
+}
+
+/// The long-term key of a user at a realm: the hash of `username:realm:password` (RFC 8489,
+/// sections 9.2.2 and 18.5.1). It has 16 bytes of MD5 for HMAC-SHA1, and 32 of SHA-256 for
+/// HMAC-SHA256. The texts are used as they are. The caller prepares them by OpaqueString (RFC 8265,
+/// section 4.2).
+///
+/// It does not allocate: `alloc` is dropped. It only names the allocator of longer keys of this
+/// type.
+pub fn long_term_key<A: Allocator>(
+    alloc: A,
+    algorithm: IntegrityAlgorithm,
+    username: &str,
+    realm: &str,
+    password: &str,
+) -> IntegrityKey<A>
+    ensures { result ≡ spec.long_term_key algorithm username.now realm.now password.now }
+{
+    drop(alloc);
+    hashed_key(algorithm, username, realm, password)
+}
+
+/// The long-term key, at any allocator.
+pub(crate) fn hashed_key<A: Allocator>(
+    algorithm: IntegrityAlgorithm,
+    username: &str,
+    realm: &str,
+    password: &str,
+) -> IntegrityKey<A>
+    ensures { result ≡ spec.long_term_key algorithm username.now realm.now password.now }
+{
+    let username = username.as_bytes();
+    let realm = realm.as_bytes();
+    let password = password.as_bytes();
+    let inline = match algorithm {
+        IntegrityAlgorithm::Sha1 => SmallVec::from_slice(
+            NoMemory,
+            &credentials_digest::<Md5>(username, realm, password),
+        ),
+        IntegrityAlgorithm::Sha256 => SmallVec::from_slice(
+            NoMemory,
+            &credentials_digest::<Sha256>(username, realm, password),
+        ),
+    };
+    IntegrityKey {
+        bytes: KeyBytes::Inline(inline.unwrap()),
+    }
+}
+
+/// The long-term key for HMAC-SHA1 of texts that come as bytes: MD5 of `username:realm:password`
+/// (RFC 8489, section 9.2.2). It is `None` if one of them is not UTF-8. They are used as they are.
+/// It does not allocate.
+pub fn md5_key_from_utf8(username: &[u8], realm: &[u8], password: &[u8]) -> Option<[u8; 16]>
+    ensures key { IfSome result (λ key. key
+        ≡ spec.long_term_key IntegrityAlgorithm.Sha1 username.now realm.now password.now) }
+    ensures utf8 { IsSome result ↔ (spec.are_utf8 username.now realm.now password.now ≡ true) }
+{
+    digest_of_utf8::<Md5>(username, realm, password)
+}
+
+/// The long-term key for HMAC-SHA256 of texts that come as bytes: SHA-256 of
+/// `username:realm:password` (RFC 8489, section 18.5.1). It is `None` if one of them is not UTF-8.
+/// They are used as they are. It does not allocate.
+pub fn sha256_key_from_utf8(username: &[u8], realm: &[u8], password: &[u8]) -> Option<[u8; 32]>
+    ensures key { IfSome result (λ key. key
+        ≡ spec.long_term_key IntegrityAlgorithm.Sha256 username.now realm.now password.now) }
+    ensures utf8 { IsSome result ↔ (spec.are_utf8 username.now realm.now password.now ≡ true) }
+{
+    digest_of_utf8::<Sha256>(username, realm, password)
+}
+
+/// The hash that names a user at a realm: SHA-256 of `username:realm` (RFC 8489, section 14.4).
+/// Both texts are used as they are. The caller prepares them by OpaqueString (RFC 8265, section
+/// 4.2). It does not allocate.
+pub fn userhash(username: &str, realm: &str) -> [u8; 32]
+    ensures { result ≡ spec.userhash username.now realm.now }
+{
+    let mut hasher = Sha256::start();
+    hasher.feed(username.as_bytes());
+    hasher.feed(b":");
+    hasher.feed(realm.as_bytes());
+    hasher.finish()
+}

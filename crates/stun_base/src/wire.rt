@@ -1,0 +1,12 @@
+//! What stands in the bytes of a message (RFC 8489, sections 5 and 18), and what is around them:
+//! time, transports, random numbers and errors.
+
+pub mod attribute_type;
+pub mod data;
+pub mod error;
+pub mod header;
+pub mod instant;
+pub mod message_type;
+pub mod transaction_id;
+pub mod transport;
+pub mod words;

@@ -1,0 +1,84 @@
+//! Values that hold bytes.
+
+ghost use Rattle.std.specs.Prelude.{◌≡◌, ℕ, List, IfOk, IsOk, Ok};
+
+use std::alloc::{AllocError, Allocator, Global};
+
+/// A value that holds bytes of its own or borrows them.
+///
+/// Two calls on one value return the same bytes.
+pub trait OwnedBytes {
+    // The bytes of the value.
+    ghost contents: { Self → List ℕ };
+
+    /// The bytes.
+    fn bytes(&self) -> &[u8]
+        ensures { result.now ≡ contents self.now };
+}
+
+impl OwnedBytes for &[u8] {
+    ghost contents = { λ slice. slice.now };
+
+    fn bytes(&self) -> &[u8] {
+        *self
+    }
+}
+
+impl<const N: usize> OwnedBytes for [u8; N] {
+    ghost contents = { λ array. array };
+
+    fn bytes(&self) -> &[u8] {
+        self
+    }
+}
+
+impl<A: Allocator> OwnedBytes for Vec<u8, A> {
+    ghost contents = { λ vec. vec.items };
+
+    fn bytes(&self) -> &[u8] {
+        self.as_slice()
+    }
+}
+
+/// Bytes that are borrowed for `'a`, or owned in the memory of an allocator.
+#[derive(Drop)]
+#[derive_where(Debug)]
+pub enum Data<'a, A: Allocator = Global> {
+    /// Borrowed bytes.
+    Borrowed(&'a [u8]),
+    /// Owned bytes.
+    Owned(Vec<u8, A>),
+}
+
+impl<'a, A: Allocator> OwnedBytes for Data<'a, A> {
+    ghost use Rattle.stun_base.specs.Data.{data_bytes};
+
+    ghost contents = { data_bytes };
+
+    fn bytes(&self) -> &[u8] {
+        match self {
+            Data::Borrowed(bytes) => bytes,
+            Data::Owned(bytes) => bytes.as_slice(),
+        }
+    }
+}
+
+impl<'a, A: Allocator> Data<'a, A> {
+    ghost use Rattle.stun_base.specs.Data.{data_bytes, IsOwned};
+
+    /// The same bytes, owned.
+    ///
+    /// Owned bytes are moved, with their own allocator; that does not allocate. Borrowed bytes are
+    /// copied into memory of `alloc`. It fails only if this allocation fails.
+    pub fn into_owned<'b>(self, alloc: A) -> Result<Data<'b, A>, AllocError>
+        ensures bytes { IfOk result (λ owned. data_bytes owned ≡ data_bytes self.entry) }
+        ensures owned { IfOk result (λ owned. IsOwned owned) }
+        ensures moves { IsOwned self.entry → IsOk result }
+        ensures itself { IsOwned self.entry → result ≡ Ok self.entry }
+    {
+        match self {
+            Data::Borrowed(bytes) => Ok(Data::Owned(Vec::from_slice(alloc, bytes)?)),
+            Data::Owned(bytes) => Ok(Data::Owned(bytes)),
+        }
+    }
+}

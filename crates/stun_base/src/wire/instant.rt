@@ -1,0 +1,74 @@
+//! Times, which the caller passes: no call reads a clock.
+
+ghost use Rattle.std.specs.Prelude.{◌≡◌, ◌-◌};
+ghost use Rattle.std.specs.Duration.{as_nanos};
+ghost use Rattle.stun_base.specs.Moments.{moment_after};
+
+use std::marker::Model;
+use std::ops::{Add, Sub};
+use std::time::Duration;
+
+/// A time, in whole nanoseconds since a start that the caller chooses.
+///
+/// Contracts see it as that number, and times are ordered as numbers. A sum stops at
+/// `Instant::MAX`, and a difference at zero, so no call fails.
+#[derive(Clone, Copy, Debug, PartialEq, Eq, PartialOrd, Ord, Hash)]
+pub struct Instant {
+    nanos: u64,
+}
+
+impl Model for Instant {
+    ghost use Rattle.std.specs.Prelude.{ℕ};
+
+    ghost Value = { ℕ };
+
+    ghost view = { λ moment. moment.nanos };
+
+    ghost inverse = { λ nanos. record { nanos = nanos } };
+}
+
+impl Instant {
+    /// The first time.
+    pub const ZERO: Instant = Instant { nanos: 0 };
+    /// The last time, 2^64 - 1 nanoseconds after the first.
+    pub const MAX: Instant = Instant { nanos: u64::MAX };
+
+    /// The time so many nanoseconds after the first.
+    pub fn from_nanos(nanos: u64) -> Instant
+        ensures { result ≡ nanos }
+    {
+        Instant { nanos }
+    }
+
+    /// The nanoseconds since the first time.
+    pub fn as_nanos(self) -> u64
+        ensures { result ≡ self }
+    {
+        self.nanos
+    }
+}
+
+/// The time `span` later, at most `Instant::MAX`.
+impl Add<Duration> for Instant {
+    type Output = Instant;
+
+    ghost add_gives = { λ moment span result. result ≡ moment_after moment (as_nanos span) };
+
+    fn add(self, span: Duration) -> Instant {
+        let nanos = (self.nanos as u128 + span.as_nanos()).min(u64::MAX as u128);
+        Instant {
+            nanos: nanos as u64,
+        }
+    }
+}
+
+/// The span since an earlier time, and zero since a later one.
+impl Sub for Instant {
+    type Output = Duration;
+
+    ghost sub_gives = { λ later earlier span. as_nanos span ≡ later - earlier };
+
+    fn sub(self, earlier: Instant) -> Duration {
+        Duration::from_nanos(self.nanos.saturating_sub(earlier.nanos))
+    }
+}

@@ -1,0 +1,29 @@
+//! The transports that carry messages.
+
+ghost use Rattle.std.specs.Prelude.{Some};
+ghost use Rattle.stun_base.specs.Transport.{name_of};
+
+use std::fmt;
+
+/// The transport that carries messages. Its text is `UDP` or `TCP`.
+#[derive(Clone, Copy, Debug, PartialEq, Eq, Hash)]
+pub enum TransportType {
+    /// Datagrams, which may be lost: requests are sent again (RFC 8489, section 6.2.1).
+    Udp,
+    /// A stream, which loses nothing: requests are sent once (section 6.2.2).
+    Tcp,
+}
+
+impl fmt::Display for TransportType {
+    ghost output = { λ transport. Some (name_of transport) };
+
+    // No option of the formatter changes it.
+    ghost styled_output = { λ transport _. Some (name_of transport) };
+
+    fn fmt<W: fmt::Write>(&self, f: &mut fmt::Formatter<W>) -> fmt::Result {
+        match self {
+            TransportType::Udp => f.write_str("UDP"),
+            TransportType::Tcp => f.write_str("TCP"),
+        }
+    }
+}

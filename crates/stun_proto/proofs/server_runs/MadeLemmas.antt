@@ -1,0 +1,142 @@
+-- One call that a user makes of a server, by the clauses of that call.
+use Rattle.std.proofs.Common.{◌≡◌, ℕ, ◌-◌, Bool, List, length, Option, None, refl, sym, subst, ap, ◌∙◌, Result, Ok, Err}
+use Rattle.std.specs.Prelude.{OnErr, OnOk}
+use Rattle.std.specs.Global.{Vec}
+use Rattle.std.specs.declared.net.socket_addr.SocketAddr.{SocketAddr}
+use Rattle.stun_base.specs.MessageType.{class_in, is_response}
+use Rattle.stun_base.specs.declared.wire.error.StunParseError.{StunParseError}
+use Rattle.stun_base.specs.declared.wire.error.StunWriteError.{StunWriteError}
+use Rattle.stun_base.specs.declared.wire.error.StunWriteError.TheVariants.{NotAllowed, MessageIntegrityExists, AttributeExists, TooLarge, TooSmall, IntegrityFailed, OutOfMemory}
+use Rattle.stun_types.specs.Message.{IsMessage, refusal}
+use Rattle.stun_types.specs.WriteVec.{Written}
+use Rattle.stun_types.proofs.MessageLemmas.{refusal-none}
+use Rattle.stun_auth.specs.declared.server.reason.LongTermServerAuthErrorReason.{LongTermServerAuthErrorReason}
+use Rattle.stun_auth.specs.declared.server.reason.LongTermServerAuthErrorReason.TheVariants as Server
+use Rattle.stun_auth.specs.Additions.{Page, UnlessMemory, page_of, written}
+use Rattle.stun_auth.specs.Reading.{reading_of}
+use Rattle.stun_auth.specs.Reasons.{OrMemory}
+use Rattle.stun_auth.specs.ServerSigning.{after_signing, server_signed}
+use Rattle.stun_auth.specs.Validation.{Answer, ServerSeen, after_message, answer, sight}
+use Rattle.stun_proto.specs.ServerLoop.{IfMessage, IsMade, Told, signed_or_refused, told}
+use Rattle.stun_proto.specs.Serving.{reply_of_answer, reply_of_signing}
+use Rattle.stun_proto.specs.Signing.{written_anew}
+use Rattle.stun_proto.specs.declared.replay.call.ServerCall.TheVariants as Call
+
+-- two facts about an answer, where no allocation failed and where one did
+both_told : {V : Type 0} (result : Result V LongTermServerAuthErrorReason) (P Q P' Q' R : Type 0)
+    → (P → P' → R)
+    → OrMemory result P Q → OrMemory result P' Q' → OrMemory result R Q'
+both_told (Ok v) P Q P' Q' R one a b = one a b
+both_told (Err Server.Unauthorized) P Q P' Q' R one a b = one a b
+both_told (Err Server.IntegrityFailed) P Q P' Q' R one a b = one a b
+both_told (Err Server.UnsupportedFeature) P Q P' Q' R one a b = one a b
+both_told (Err Server.BadRequest) P Q P' Q' R one a b = one a b
+both_told (Err Server.StaleNonce) P Q P' Q' R one a b = one a b
+both_told (Err Server.OutOfMemory) P Q P' Q' R one a b = b
+
+pub made_validate : (s : ServerSeen) (from : SocketAddr) (now : ℕ) (message : Vec ℕ)
+    (words bytes : List ℕ) (given : Answer) → message.items ≡ bytes → refusal bytes ≡ None
+    → answer (sight s from) now words (reading_of bytes) ≡ given
+    → IsMade s (Call.Validate from now message words)
+    (told (reply_of_answer given) (after_message s from now words (reading_of bytes)))
+made_validate s from now message words bytes given same is_message answered =
+    let left : ServerSeen = after_message s from now words (reading_of bytes) in
+    let after : Told = told (reply_of_answer given) left in
+    let P : List ℕ → Type 0 = λ b. IfMessage s (refusal b) after
+    (after ≡ told (reply_of_answer (answer (sight s from) now words (reading_of b)))
+    (after_message s from now words (reading_of b))) in
+    let Q : Option StunParseError → Type 0 = λ o. IfMessage s o after
+    (after ≡ told (reply_of_answer (answer (sight s from) now words (reading_of bytes))) left) in
+    subst P (sym same)
+    (subst Q (sym is_message) (ap (λ g. told (reply_of_answer g) left) (sym answered)))
+
+pub is_validated : (s t : ServerSeen) (from : SocketAddr) (now : ℕ) (words bytes : List ℕ)
+    (given : Answer)
+    → IsMessage bytes
+    → OrMemory given (given ≡ answer (sight s from) now words (reading_of bytes)) (Unit {0})
+    → OrMemory given (t ≡ after_message s from now words (reading_of bytes)) (t ≡ s)
+    → OrMemory given
+    ((message : Vec ℕ) → message.items ≡ bytes
+    → IsMade s (Call.Validate from now message words) (told (reply_of_answer given) t)) (t ≡ s)
+is_validated s t from now words bytes given is_message answered left =
+    let Says : Type 0 = given ≡ answer (sight s from) now words (reading_of bytes) in
+    let Leaves : Type 0 = t ≡ after_message s from now words (reading_of bytes) in
+    let Makes : Type 0 = (message : Vec ℕ) → message.items ≡ bytes
+    → IsMade s (Call.Validate from now message words) (told (reply_of_answer given) t) in
+    both_told given Says (Unit {0}) Leaves (t ≡ s) Makes
+    (λ is after message same.
+    subst (λ x. IsMade s (Call.Validate from now message words) (told (reply_of_answer given) x))
+    (sym after)
+    (made_validate s from now message words bytes given same (refusal-none bytes is_message)
+    (sym is)))
+    answered left
+
+-- ---- signing
+pub made_sign : (s : ServerSeen) (to : SocketAddr) (message : Vec ℕ) (bytes : List ℕ)
+    (response : Bool) (signed : Result Page StunWriteError)
+    → message.items ≡ bytes → refusal bytes ≡ None → written_anew bytes ≡ Ok bytes
+    → is_response (class_in bytes) ≡ response
+    → server_signed (sight s to) response (page_of bytes) ≡ signed
+    → IsMade s (Call.Sign to message) (signed_or_refused s (after_signing s to response) signed)
+made_sign s to message bytes response signed same is_message plain class_is answered =
+    let after : Told = signed_or_refused s (after_signing s to response) signed in
+    let Signs : Bool → List ℕ → Told = λ r b.
+    signed_or_refused s (after_signing s to r) (server_signed (sight s to) r (page_of b)) in
+    let P : List ℕ → Type 0 = λ b. IfMessage s (refusal b) after
+    ((written_anew b ≡ Ok b) × (after ≡ Signs (is_response (class_in b)) b)) in
+    let Q : Option StunParseError → Type 0 = λ o. IfMessage s o after
+    ((written_anew bytes ≡ Ok bytes) × (after ≡ Signs (is_response (class_in bytes)) bytes)) in
+    let is : Signs (is_response (class_in bytes)) bytes ≡ after =
+    ap (λ r. Signs r bytes) class_is
+    ∙ ap (signed_or_refused s (after_signing s to response)) answered in
+    subst P (sym same) (subst Q (sym is_message) (plain, sym is))
+
+-- the page of a writer to a vector
+abbrev pub page_written : Result Written StunWriteError → Result Page StunWriteError
+page_written result = written (λ (w : Written). w.bytes) (λ (w : Written). 65552 - length w.bytes)
+    result
+
+-- the server after it, as its clauses have it
+left_by : (s t signed : ServerSeen) (result : Result Written StunWriteError)
+    → OnOk result (t ≡ signed) → OnErr result (t ≡ s)
+    → signed_or_refused s signed (page_written result)
+    ≡ told (reply_of_signing (page_written result)) t
+left_by s t signed (Ok w) ok err = ap (told (reply_of_signing (page_written (Ok w)))) (sym ok)
+left_by s t signed (Err reason) ok err = ap (told (reply_of_signing (page_written (Err reason))))
+    (sym err)
+
+unless_memory : {V : Type 0} (result : Result V StunWriteError) (P Q R S : Type 0) → (P → R)
+    → OnErr result S
+    → UnlessMemory result P Q → UnlessMemory result R S
+unless_memory (Ok v) P Q R S f err a = f a
+unless_memory (Err NotAllowed) P Q R S f err a = f a
+unless_memory (Err MessageIntegrityExists) P Q R S f err a = f a
+unless_memory (Err (AttributeExists kind)) P Q R S f err a = f a
+unless_memory (Err TooLarge) P Q R S f err a = f a
+unless_memory (Err TooSmall) P Q R S f err a = f a
+unless_memory (Err IntegrityFailed) P Q R S f err a = f a
+unless_memory (Err OutOfMemory) P Q R S f err a = err
+
+pub is_signed : (s t : ServerSeen) (to : SocketAddr) (bytes : List ℕ)
+    (result : Result Written StunWriteError) (Q : Type 0)
+    → IsMessage bytes
+    → UnlessMemory result
+    (page_written result ≡ server_signed (sight s to) (is_response (class_in bytes))
+    (page_of bytes)) Q
+    → OnOk result (t ≡ after_signing s to (is_response (class_in bytes)))
+    → OnErr result (t ≡ s)
+    → UnlessMemory result
+    ((message : Vec ℕ) → message.items ≡ bytes → written_anew bytes ≡ Ok bytes
+    → IsMade s (Call.Sign to message) (told (reply_of_signing (page_written result)) t)) (t ≡ s)
+is_signed s t to bytes result Q is_message answered ok err =
+    let response = is_response (class_in bytes) in
+    let Says : Type 0 = page_written result ≡ server_signed (sight s to) response (page_of bytes) in
+    let Makes : Type 0 = (message : Vec ℕ) → message.items ≡ bytes → written_anew bytes ≡ Ok bytes
+    → IsMade s (Call.Sign to message) (told (reply_of_signing (page_written result)) t) in
+    unless_memory result Says Q Makes (t ≡ s)
+    (λ is message same plain.
+    subst (IsMade s (Call.Sign to message))
+    (left_by s t (after_signing s to response) result ok err)
+    (made_sign s to message bytes response (page_written result) same
+    (refusal-none bytes is_message) plain refl (sym is)))
+    err answered

@@ -1,0 +1,99 @@
+//! The walk of a message's attributes, which reads their types and lengths alone.
+
+ghost use Rattle.std.specs.Prelude.{◌≡◌, true, false, drop, IfSome, IfNone, OnSome};
+ghost use Rattle.std.specs.Option.{option_map};
+ghost use Rattle.stun_types.specs.Attribute.{attribute_length, first_attribute};
+ghost use Rattle.stun_types.specs.Attribute.{has_attribute, kind_field};
+ghost use Rattle.stun_types.specs.Integrity.{deciding, first_of};
+ghost use Rattle.stun_types.specs.Visible.{has_kind, visible};
+ghost use Rattle.stun_types.specs.Walk.{next_place, walk};
+
+use crate::attribute::{ATTRIBUTE_HEADER_LENGTH, AttributeType};
+use crate::message::attributes_iter::Passed;
+use byteorder::{BigEndian, ByteOrder};
+use stun_base::header::HEADER_LENGTH;
+
+/// The number of bytes of an attribute with this length field, with its header and its padding.
+fn length_by_field(value_length: u16) -> usize
+    ensures { result ≡ attribute_length value_length }
+{
+    (usize::from(value_length) + ATTRIBUTE_HEADER_LENGTH + 3) / 4 * 4
+}
+
+/// The type of the attribute at this place of the bytes, and the place after its padding. `None` if
+/// they are not whole.
+pub(crate) fn kind_at(bytes: &[u8], place: usize) -> Option<(AttributeType, usize)>
+    ensures none { IfNone result (has_attribute (drop place bytes.now) ≡ false) }
+    ensures whole { OnSome result (has_attribute (drop place bytes.now) ≡ true) }
+    ensures kind { IfSome result (λ found. found.0.0 ≡ kind_field (drop place bytes.now)) }
+    ensures behind { IfSome result (λ found. found.1 ≡ next_place place bytes.now) }
+{
+    let rest = bytes.get(place..)?;
+    if rest.len() < ATTRIBUTE_HEADER_LENGTH {
+        return None;
+    }
+    let kind = AttributeType::new(BigEndian::read_u16(rest));
+    let length = length_by_field(BigEndian::read_u16(&rest[2..]));
+    if rest.len() < length {
+        return None;
+    }
+    Some((kind, place + length))
+}
+
+/// Whether a message has an attribute of this type, visible or not.
+pub(crate) fn has_attribute(message: &[u8], kind: AttributeType) -> bool
+    ensures { result ≡ has_kind kind.0 (walk message.now) }
+{
+    let mut place = HEADER_LENGTH;
+    while let Some((found, behind)) = kind_at(message, place) {
+        if found == kind {
+            return true;
+        }
+        place = behind;
+    }
+    false
+}
+
+/// The place of the first visible attribute of a type. The walk ends at the first attribute that
+/// hides the type.
+pub(crate) fn first_place(message: &[u8], kind: AttributeType) -> Option<usize>
+    ensures whole { IfSome result (λ place. has_attribute (drop place message.now) ≡ true) }
+    ensures first { first_of kind.0 (visible message.now)
+        ≡ option_map (λ place. (place, first_attribute (drop place message.now))) result }
+{
+    let mut place = HEADER_LENGTH;
+    while let Some((found, behind)) = kind_at(message, place) {
+        if found == kind {
+            return Some(place);
+        }
+        if !Passed::NONE.and(found).shows(kind) {
+            return None;
+        }
+        place = behind;
+    }
+    None
+}
+
+/// The place of the attribute whose digest decides: the stronger one, if both are visible. The walk
+/// ends at the stronger one, and at FINGERPRINT, which hides both.
+pub(crate) fn deciding_place(message: &[u8]) -> Option<usize>
+    ensures whole { IfSome result (λ place. has_attribute (drop place message.now) ≡ true) }
+    ensures deciding { deciding message.now
+        ≡ option_map (λ place. (place, first_attribute (drop place message.now))) result }
+{
+    let mut place = HEADER_LENGTH;
+    let mut weaker = None;
+    while let Some((kind, behind)) = kind_at(message, place) {
+        if kind == AttributeType::MESSAGE_INTEGRITY_SHA256 {
+            return Some(place);
+        }
+        if kind == AttributeType::FINGERPRINT {
+            return weaker;
+        }
+        if kind == AttributeType::MESSAGE_INTEGRITY && weaker.is_none() {
+            weaker = Some(place);
+        }
+        place = behind;
+    }
+    weaker
+}

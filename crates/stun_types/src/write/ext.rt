@@ -1,0 +1,468 @@
+//! The calls of every writer.
+
+ghost use Rattle.std.specs.Prelude.{◌≡◌, ◌≤◌, ◌+◌, ◌-◌, ◌^◌, ◌↔◌, ◌++◌, false};
+ghost use Rattle.std.specs.Prelude.{min, length, None, IsTrue, IsOk, OnErr, OnOk};
+ghost use Rattle.stun_base.specs.Algorithm.{digest, digest_length};
+ghost use Rattle.stun_base.specs.Header.{BeginsWithHeader, HEADER_LENGTH as header_length};
+ghost use Rattle.stun_base.specs.Header.{header_of, transaction_id_field};
+ghost use Rattle.stun_base.specs.Keys.OfCredentials.{keys_of};
+ghost use Rattle.stun_base.specs.MessageType.{class_in, IsResponse};
+ghost use Rattle.stun_types.specs.Attribute.{attribute_length};
+ghost use Rattle.stun_types.specs.Grammar.{spelled, spelled_attribute};
+ghost use Rattle.stun_types.specs.Limits.{max_length};
+ghost use Rattle.stun_types.specs.Visible.{has_kind};
+ghost use Rattle.stun_types.specs.Walk.{walk};
+ghost use Rattle.stun_types.specs.Writing.{GainsIntegrity, GainsOne, IsOpen, RefusedBy};
+ghost use Rattle.stun_types.specs.Writing.{SpellsOneMore, VerifiesAfter, attribute_refusal};
+ghost use Rattle.stun_types.specs.Writing.{has_integrity, integrity_kind, is_set_apart};
+ghost use Rattle.stun_types.specs.Writing.{length_with, signing_refusal, with_attribute};
+ghost use Rattle.stun_types.specs.Writing.{with_integrity};
+
+use crate::attribute::{Attribute, AttributeType, attribute_length};
+use crate::integrity::digest_key::DigestKey;
+use crate::limits::MAX_LENGTH;
+use crate::message::walk::has_attribute;
+use crate::write::MessageWrite;
+use crate::write::append::append_attribute;
+use std::alloc::{AllocError, Allocator};
+use stun_base::algorithm::IntegrityAlgorithm;
+use stun_base::credentials::MessageIntegrityCredentials;
+use stun_base::error::StunWriteError;
+use stun_base::header::{HEADER_LENGTH, MessageHeader};
+use stun_base::key::IntegrityKey;
+use stun_base::message_type::MessageClass;
+use stun_base::prepared_key::PreparedKey;
+use stun_base::transaction_id::TransactionId;
+
+/// Whether only the calls that sign write attributes of this type, or no call.
+fn is_set_apart(kind: AttributeType) -> bool
+    ensures { result ≡ is_set_apart kind.0 }
+{
+    kind == AttributeType::MESSAGE_INTEGRITY
+        || kind == AttributeType::MESSAGE_INTEGRITY_SHA256
+        || kind == AttributeType::FINGERPRINT
+}
+
+/// The calls of every writer: they read the message, add attributes, and sign it.
+///
+/// They are for a message without FINGERPRINT: the builders write none, nor do these calls. Their
+/// conditions ask for less: as many bytes as a header has, or a header.
+pub trait MessageWriteExt: MessageWrite {
+    /// Whether the message has an attribute of this type, visible or not.
+    final fn has_attribute(&self, kind: AttributeType) -> bool
+    where
+        Self: Sized,
+        requires { header_length ≤ length (Self.bytes self.now) }
+        ensures { result ≡ has_kind kind.0 (walk (Self.bytes self.now)) }
+    {
+        has_attribute(self.data(), kind)
+    }
+
+    /// Whether the message has this class.
+    final fn has_class(&self, class: MessageClass) -> bool
+    where
+        Self: Sized,
+        requires { BeginsWithHeader (Self.bytes self.now) }
+        ensures { IsTrue result ↔ (class_in (Self.bytes self.now) ≡ class) }
+    {
+        header(self.data()).get_type().has_class(class)
+    }
+
+    /// Whether the message is a response.
+    final fn is_response(&self) -> bool
+    where
+        Self: Sized,
+        requires { BeginsWithHeader (Self.bytes self.now) }
+        ensures { IsTrue result ↔ IsResponse (class_in (Self.bytes self.now)) }
+    {
+        header(self.data()).get_type().is_response()
+    }
+
+    /// The id of the message's transaction.
+    final fn transaction_id(&self) -> TransactionId
+    where
+        Self: Sized,
+        requires { BeginsWithHeader (Self.bytes self.now) }
+        ensures { result ≡ transaction_id_field (Self.bytes self.now) }
+    {
+        header(self.data()).transaction_id()
+    }
+
+    /// Adds an attribute at the end.
+    ///
+    /// It fails with the first of these that holds. `NotAllowed`: the type is that of an integrity
+    /// attribute or of FINGERPRINT. `MessageIntegrityExists`: the message has an integrity
+    /// attribute. `AttributeExists`: it has an attribute of this type. `TooLarge`: it would have
+    /// more than 65532 bytes after its header. `TooSmall`: the writer has too little room.
+    /// `OutOfMemory`: an allocation fails. If it fails, bytes, room and reservation stay as they
+    /// were.
+    final fn add_attribute<A: Attribute>(&mut self, attribute: &A) -> Result<(), StunWriteError>
+    where
+        Self: Sized,
+        requires { header_length ≤ length (Self.bytes self.old) }
+
+        // It fails with the first reason that holds. Without a reason only an allocation can fail.
+        ensures refused { RefusedBy (attribute_refusal (Self.bytes self.old) (Self.room self.old)
+            (A.kind attribute.now) (length (A.value attribute.now))) result }
+        ensures bytes { OnOk result (Self.bytes self.new ≡ with_attribute (Self.bytes self.old)
+            (record { kind = A.kind attribute.now; value = A.value attribute.now })) }
+
+        // It succeeds if the bytes are reserved already and there is no reason.
+        ensures succeeds { attribute_refusal (Self.bytes self.old) (Self.room self.old)
+            (A.kind attribute.now) (length (A.value attribute.now)) ≡ None
+            → attribute_length (length (A.value attribute.now)) ≤ Self.reserved self.old
+            → IsOk result }
+
+        // A reader finds the attributes from before, and this one after them.
+        ensures added { OnOk result (GainsOne (Self.bytes self.old) (Self.bytes self.new)
+            (record { kind = A.kind attribute.now; value = A.value attribute.now })) }
+        ensures open { OnOk result (IsOpen (Self.bytes self.old) → IsOpen (Self.bytes self.new)) }
+        ensures spelled { OnOk result (SpellsOneMore (Self.bytes self.old) (Self.bytes self.new)
+            (record { kind = A.kind attribute.now; value = A.value attribute.now })) }
+        ensures room { OnOk result (Self.room self.new
+            + attribute_length (length (A.value attribute.now)) ≡ Self.room self.old) }
+        ensures reserved { OnOk result (Self.reserved self.old
+            ≤ Self.reserved self.new + attribute_length (length (A.value attribute.now))) }
+        ensures err { OnErr result ((Self.bytes self.new ≡ Self.bytes self.old)
+            × (Self.room self.new ≡ Self.room self.old)) }
+        ensures kept { OnErr result (Self.reserved self.old ≤ Self.reserved self.new) }
+    {
+        let kind = attribute.get_type();
+        if is_set_apart(kind) {
+            return Err(StunWriteError::NotAllowed);
+        }
+        if has_integrity(self.data()) {
+            return Err(StunWriteError::MessageIntegrityExists);
+        }
+        if has_attribute(self.data(), kind) {
+            return Err(StunWriteError::AttributeExists(kind));
+        }
+        let message_length = length_with(self.data(), attribute.padded_len());
+        if message_length > MAX_LENGTH {
+            return Err(StunWriteError::TooLarge);
+        }
+        self.reserve(attribute.padded_len())?;
+        self.set_length(message_length as u16);
+        attribute.write_into(self);
+        Ok(())
+    }
+
+    /// Adds the integrity attribute of an algorithm, under the key of the credentials for it: the
+    /// bytes of a password, or a long-term key. The key is not allocated. It fails as
+    /// `add_message_integrity_with_key` does.
+    final fn add_message_integrity<A: Allocator>(
+        &mut self,
+        credentials: &MessageIntegrityCredentials<A>,
+        algorithm: IntegrityAlgorithm,
+    ) -> Result<(), StunWriteError>
+    where
+        Self: Sized,
+        requires { header_length ≤ length (Self.bytes self.old) }
+        ensures refused { RefusedBy (signing_refusal (Self.bytes self.old)
+            (Self.room self.old) algorithm) result }
+        ensures succeeds { signing_refusal (Self.bytes self.old) (Self.room self.old) algorithm
+            ≡ None
+            → attribute_length (digest_length algorithm) ≤ Self.reserved self.old → IsOk result }
+        ensures bytes { OnOk result (Self.bytes self.new
+            ≡ with_integrity (Self.bytes self.old) algorithm (keys_of credentials.now algorithm)) }
+        ensures added { OnOk result (GainsIntegrity (Self.bytes self.old) (Self.bytes self.new)
+            algorithm (keys_of credentials.now algorithm)) }
+        ensures stands { OnOk result (VerifiesAfter (Self.bytes self.old) (Self.bytes self.new)
+            algorithm (keys_of credentials.now algorithm)) }
+        ensures room { OnOk result (Self.room self.new
+            + attribute_length (digest_length algorithm) ≡ Self.room self.old) }
+        ensures err { OnErr result ((Self.bytes self.new ≡ Self.bytes self.old)
+            × (Self.room self.new ≡ Self.room self.old)) }
+        ensures kept { OnErr result (Self.reserved self.old ≤ Self.reserved self.new) }
+    {
+        let key = credentials.key(algorithm);
+        add_integrity(self, &key.as_bytes(), algorithm)
+    }
+
+    /// Adds the integrity attribute of an algorithm, under this key.
+    ///
+    /// It fails with the first of these that holds. `MessageIntegrityExists`: the message has an
+    /// integrity attribute. `TooLarge`: it would have more than 65532 bytes after its header.
+    /// `TooSmall`: the writer has too little room. `OutOfMemory`: an allocation fails. If it fails,
+    /// bytes, room and reservation stay as they were.
+    final fn add_message_integrity_with_key<A: Allocator>(
+        &mut self,
+        key: &IntegrityKey<A>,
+        algorithm: IntegrityAlgorithm,
+    ) -> Result<(), StunWriteError>
+    where
+        Self: Sized,
+        requires { header_length ≤ length (Self.bytes self.old) }
+        ensures refused { RefusedBy (signing_refusal (Self.bytes self.old)
+            (Self.room self.old) algorithm) result }
+        ensures succeeds { signing_refusal (Self.bytes self.old) (Self.room self.old) algorithm
+            ≡ None
+            → attribute_length (digest_length algorithm) ≤ Self.reserved self.old → IsOk result }
+        ensures bytes { OnOk result (Self.bytes self.new
+            ≡ with_integrity (Self.bytes self.old) algorithm key.now) }
+        ensures added { OnOk result (GainsIntegrity (Self.bytes self.old) (Self.bytes self.new)
+            algorithm key.now) }
+        ensures stands { OnOk result (VerifiesAfter (Self.bytes self.old) (Self.bytes self.new)
+            algorithm key.now) }
+        ensures room { OnOk result (Self.room self.new
+            + attribute_length (digest_length algorithm) ≡ Self.room self.old) }
+        ensures err { OnErr result ((Self.bytes self.new ≡ Self.bytes self.old)
+            × (Self.room self.new ≡ Self.room self.old)) }
+        ensures kept { OnErr result (Self.reserved self.old ≤ Self.reserved self.new) }
+    {
+        add_integrity(self, &key.as_bytes(), algorithm)
+    }
+
+    /// The same under the bytes of a key, of any length.
+    final fn add_message_integrity_with_key_bytes(
+        &mut self,
+        key: &[u8],
+        algorithm: IntegrityAlgorithm,
+    ) -> Result<(), StunWriteError>
+    where
+        Self: Sized,
+        requires { header_length ≤ length (Self.bytes self.old) }
+        ensures refused { RefusedBy (signing_refusal (Self.bytes self.old)
+            (Self.room self.old) algorithm) result }
+        ensures succeeds { signing_refusal (Self.bytes self.old) (Self.room self.old) algorithm
+            ≡ None
+            → attribute_length (digest_length algorithm) ≤ Self.reserved self.old → IsOk result }
+        ensures bytes { OnOk result (Self.bytes self.new
+            ≡ with_integrity (Self.bytes self.old) algorithm key.now) }
+        ensures added { OnOk result (GainsIntegrity (Self.bytes self.old) (Self.bytes self.new)
+            algorithm key.now) }
+        ensures stands { OnOk result (VerifiesAfter (Self.bytes self.old) (Self.bytes self.new)
+            algorithm key.now) }
+        ensures room { OnOk result (Self.room self.new
+            + attribute_length (digest_length algorithm) ≡ Self.room self.old) }
+        ensures err { OnErr result ((Self.bytes self.new ≡ Self.bytes self.old)
+            × (Self.room self.new ≡ Self.room self.old)) }
+        ensures kept { OnErr result (Self.reserved self.old ≤ Self.reserved self.new) }
+    {
+        add_integrity(self, &key, algorithm)
+    }
+
+    /// The same under a prepared key. If it is prepared for this algorithm, two blocks fewer are
+    /// hashed.
+    final fn add_message_integrity_with_prepared_key<A: Allocator>(
+        &mut self,
+        key: &PreparedKey<A>,
+        algorithm: IntegrityAlgorithm,
+    ) -> Result<(), StunWriteError>
+    where
+        Self: Sized,
+        requires { header_length ≤ length (Self.bytes self.old) }
+        ensures refused { RefusedBy (signing_refusal (Self.bytes self.old)
+            (Self.room self.old) algorithm) result }
+        ensures succeeds { signing_refusal (Self.bytes self.old) (Self.room self.old) algorithm
+            ≡ None
+            → attribute_length (digest_length algorithm) ≤ Self.reserved self.old → IsOk result }
+        ensures bytes { OnOk result (Self.bytes self.new
+            ≡ with_integrity (Self.bytes self.old) algorithm key.now) }
+        ensures added { OnOk result (GainsIntegrity (Self.bytes self.old) (Self.bytes self.new)
+            algorithm key.now) }
+        ensures stands { OnOk result (VerifiesAfter (Self.bytes self.old) (Self.bytes self.new)
+            algorithm key.now) }
+        ensures room { OnOk result (Self.room self.new
+            + attribute_length (digest_length algorithm) ≡ Self.room self.old) }
+        ensures err { OnErr result ((Self.bytes self.new ≡ Self.bytes self.old)
+            × (Self.room self.new ≡ Self.room self.old)) }
+        ensures kept { OnErr result (Self.reserved self.old ≤ Self.reserved self.new) }
+    {
+        add_integrity(self, key, algorithm)
+    }
+
+    /// Adds the integrity attribute of an algorithm, without a check.
+    ///
+    /// The caller knows three things. The message has no integrity attribute. With this one it has
+    /// at most 65532 bytes after its header. The writer has room for it: 24 bytes for HMAC-SHA1, 36
+    /// for HMAC-SHA256. It fails only if an allocation fails; bytes, room and reservation then stay
+    /// as they were.
+    final fn add_message_integrity_with_key_unchecked<A: Allocator>(
+        &mut self,
+        key: &IntegrityKey<A>,
+        algorithm: IntegrityAlgorithm,
+    ) -> Result<(), AllocError>
+    where
+        Self: Sized,
+        requires header { header_length ≤ length (Self.bytes self.old) }
+        requires unsigned { has_integrity (Self.bytes self.old) ≡ false }
+        requires short { length_with (Self.bytes self.old) (digest_length algorithm) ≤ max_length }
+        requires room { attribute_length (digest_length algorithm) ≤ Self.room self.old }
+        ensures succeeds { attribute_length (digest_length algorithm) ≤ Self.reserved self.old
+            → IsOk result }
+        ensures bytes { OnOk result (Self.bytes self.new
+            ≡ with_integrity (Self.bytes self.old) algorithm key.now) }
+        ensures added { OnOk result (GainsIntegrity (Self.bytes self.old) (Self.bytes self.new)
+            algorithm key.now) }
+        ensures stands { OnOk result (VerifiesAfter (Self.bytes self.old) (Self.bytes self.new)
+            algorithm key.now) }
+        ensures room { OnOk result (Self.room self.new
+            + attribute_length (digest_length algorithm) ≡ Self.room self.old) }
+        ensures err { OnErr result ((Self.bytes self.new ≡ Self.bytes self.old)
+            × (Self.room self.new ≡ Self.room self.old)) }
+        ensures kept { OnErr result (Self.reserved self.old ≤ Self.reserved self.new) }
+    {
+        sign(self, &key.as_bytes(), algorithm)
+    }
+
+    /// The same under a prepared key.
+    final fn add_message_integrity_with_prepared_key_unchecked<A: Allocator>(
+        &mut self,
+        key: &PreparedKey<A>,
+        algorithm: IntegrityAlgorithm,
+    ) -> Result<(), AllocError>
+    where
+        Self: Sized,
+        requires header { header_length ≤ length (Self.bytes self.old) }
+        requires unsigned { has_integrity (Self.bytes self.old) ≡ false }
+        requires short { length_with (Self.bytes self.old) (digest_length algorithm) ≤ max_length }
+        requires room { attribute_length (digest_length algorithm) ≤ Self.room self.old }
+        ensures succeeds { attribute_length (digest_length algorithm) ≤ Self.reserved self.old
+            → IsOk result }
+        ensures bytes { OnOk result (Self.bytes self.new
+            ≡ with_integrity (Self.bytes self.old) algorithm key.now) }
+        ensures added { OnOk result (GainsIntegrity (Self.bytes self.old) (Self.bytes self.new)
+            algorithm key.now) }
+        ensures stands { OnOk result (VerifiesAfter (Self.bytes self.old) (Self.bytes self.new)
+            algorithm key.now) }
+        ensures room { OnOk result (Self.room self.new
+            + attribute_length (digest_length algorithm) ≡ Self.room self.old) }
+        ensures err { OnErr result ((Self.bytes self.new ≡ Self.bytes self.old)
+            × (Self.room self.new ≡ Self.room self.old)) }
+        ensures kept { OnErr result (Self.reserved self.old ≤ Self.reserved self.new) }
+    {
+        sign(self, key, algorithm)
+    }
+}
+
+impl<W: MessageWrite> MessageWriteExt for W {}
+
+/// The header of a message.
+fn header(message: &[u8]) -> MessageHeader
+    requires { BeginsWithHeader message.now }
+    ensures { result ≡ header_of message.now }
+{
+    MessageHeader::from_bytes(message).unwrap()
+}
+
+/// Whether a message has an integrity attribute.
+fn has_integrity(message: &[u8]) -> bool
+    requires { header_length ≤ length message.now }
+    ensures { result ≡ has_integrity message.now }
+{
+    has_attribute(message, AttributeType::MESSAGE_INTEGRITY)
+        || has_attribute(message, AttributeType::MESSAGE_INTEGRITY_SHA256)
+}
+
+/// The message length with so many bytes more, at most `usize::MAX`.
+fn length_with(message: &[u8], more: usize) -> usize
+    requires { header_length ≤ length message.now }
+    ensures { result ≡ min (length message.now - header_length + more) (2 ^ 64 - 1) }
+{
+    (message.len() - HEADER_LENGTH).saturating_add(more)
+}
+
+/// The number of bytes of the integrity attribute of an algorithm with its header.
+fn integrity_length(algorithm: IntegrityAlgorithm) -> usize
+    ensures { result ≡ attribute_length (digest_length algorithm) }
+{
+    attribute_length(algorithm.digest_length())
+}
+
+/// Adds the integrity attribute of an algorithm, or fails with the first reason that holds.
+fn add_integrity<W: MessageWrite, K: DigestKey>(
+    writer: &mut W,
+    key: &K,
+    algorithm: IntegrityAlgorithm,
+) -> Result<(), StunWriteError>
+    requires { header_length ≤ length (W.bytes writer.old) }
+    ensures refused { RefusedBy (signing_refusal (W.bytes writer.old)
+        (W.room writer.old) algorithm) result }
+    ensures succeeds { signing_refusal (W.bytes writer.old) (W.room writer.old) algorithm ≡ None
+        → attribute_length (digest_length algorithm) ≤ W.reserved writer.old → IsOk result }
+    ensures bytes { OnOk result (W.bytes writer.new
+        ≡ with_integrity (W.bytes writer.old) algorithm (K.key_bytes key.now)) }
+    ensures added { OnOk result (GainsIntegrity (W.bytes writer.old) (W.bytes writer.new)
+        algorithm (K.key_bytes key.now)) }
+    ensures stands { OnOk result (VerifiesAfter (W.bytes writer.old) (W.bytes writer.new)
+        algorithm (K.key_bytes key.now)) }
+    ensures room { OnOk result (W.room writer.new
+        + attribute_length (digest_length algorithm) ≡ W.room writer.old) }
+    ensures err { OnErr result ((W.bytes writer.new ≡ W.bytes writer.old)
+        × (W.room writer.new ≡ W.room writer.old)) }
+    ensures kept { OnErr result (W.reserved writer.old ≤ W.reserved writer.new) }
+{
+    if has_integrity(writer.data()) {
+        return Err(StunWriteError::MessageIntegrityExists);
+    }
+    let padded_length = integrity_length(algorithm);
+    if length_with(writer.data(), padded_length) > MAX_LENGTH {
+        return Err(StunWriteError::TooLarge);
+    }
+    if writer.room() < padded_length {
+        return Err(StunWriteError::TooSmall);
+    }
+    sign(writer, key, algorithm)?;
+    Ok(())
+}
+
+/// Sets the length of a message for its integrity attribute, and appends the attribute.
+fn sign<W: MessageWrite, K: DigestKey>(
+    writer: &mut W,
+    key: &K,
+    algorithm: IntegrityAlgorithm,
+) -> Result<(), AllocError>
+    requires header { header_length ≤ length (W.bytes writer.old) }
+    requires short { length_with (W.bytes writer.old) (digest_length algorithm) ≤ max_length }
+    requires room { attribute_length (digest_length algorithm) ≤ W.room writer.old }
+    ensures succeeds { attribute_length (digest_length algorithm) ≤ W.reserved writer.old
+        → IsOk result }
+    ensures bytes { OnOk result (W.bytes writer.new
+        ≡ with_integrity (W.bytes writer.old) algorithm (K.key_bytes key.now)) }
+    ensures added { OnOk result (GainsIntegrity (W.bytes writer.old) (W.bytes writer.new)
+        algorithm (K.key_bytes key.now)) }
+    ensures stands { OnOk result (VerifiesAfter (W.bytes writer.old) (W.bytes writer.new)
+        algorithm (K.key_bytes key.now)) }
+    ensures room { OnOk result (W.room writer.new
+        + attribute_length (digest_length algorithm) ≡ W.room writer.old) }
+    ensures err { OnErr result ((W.bytes writer.new ≡ W.bytes writer.old)
+        × (W.room writer.new ≡ W.room writer.old)) }
+    ensures kept { OnErr result (W.reserved writer.old ≤ W.reserved writer.new) }
+{
+    let padded_length = integrity_length(algorithm);
+    let message_length = length_with(writer.data(), padded_length);
+    if writer.reserve(padded_length).is_err() {
+        return Err(AllocError);
+    }
+    writer.set_length(message_length as u16);
+    append_integrity(writer, key, algorithm);
+    Ok(())
+}
+
+/// Appends the integrity attribute whose digest is that of all bytes before it.
+fn append_integrity<W: MessageWrite, K: DigestKey>(
+    writer: &mut W,
+    key: &K,
+    algorithm: IntegrityAlgorithm,
+)
+    requires { attribute_length (digest_length algorithm) ≤ W.reserved writer.old }
+    ensures bytes { W.bytes writer.new ≡ W.bytes writer.old
+        ++ spelled_attribute (record {
+          kind = integrity_kind algorithm;
+          value = digest algorithm (K.key_bytes key.now) (W.bytes writer.old);
+        }) }
+    ensures room { W.room writer.new + attribute_length (digest_length algorithm)
+        ≡ W.room writer.old }
+{
+    match algorithm {
+        IntegrityAlgorithm::Sha1 => {
+            let digest = key.digest_sha1(writer.data());
+            append_attribute(writer, AttributeType::MESSAGE_INTEGRITY, &digest);
+        }
+        IntegrityAlgorithm::Sha256 => {
+            let digest = key.digest_sha256(writer.data());
+            append_attribute(writer, AttributeType::MESSAGE_INTEGRITY_SHA256, &digest);
+        }
+    }
+}

@@ -1,8 +1,9 @@
 #!/usr/bin/env python3
 """Checks the links of all pages. Run at the top of the repository.
 
-A relative link must lead to a file or folder of the repository, its anchor to a heading of that page or to a line that the file
-has. A page that a file names, as `docs/SERVER.md`, must be there. Prints each that is not, and fails then.
+A relative link must lead to a file or folder of the repository, its anchor to a heading of that
+page or to a line that the file has. A page that a file names, as `docs/SERVER.md`, must be there.
+Prints each that is not, and fails then.
 """
 
 import os
@@ -20,7 +21,8 @@ def anchors(text):
     for heading in re.findall(r"(?m)^#{1,6} +(.*?) *$", re.sub(r"(?ms)^```.*?^```", "", text)):
         plain = re.sub(r"\[([^\]]*)\]\([^)]*\)", r"\1", heading)
         name = re.sub(r"[^\w\- ]", "", plain.lower()).replace(" ", "-")
-        same = sum(other == name or re.fullmatch(re.escape(name) + r"-\d+", other) is not None for other in found)
+        again = re.compile(re.escape(name) + r"(-\d+)?")
+        same = sum(again.fullmatch(other) is not None for other in found)
         found.add(name if same == 0 else "%s-%d" % (name, same))
     return found
 
@@ -40,14 +42,18 @@ def reason(page, target):
 
 
 def main():
-    files = subprocess.run(["git", "ls-files", "-co", "--exclude-standard"], capture_output=True, text=True, check=True).stdout.split("\n")
+    command = ["git", "ls-files", "-co", "--exclude-standard"]
+    files = subprocess.run(command, capture_output=True, text=True, check=True).stdout.split("\n")
     links = wrong = 0
     for file in filter(os.path.isfile, files):
         with open(file, errors="ignore") as opened:
             text = opened.read()
         targets = re.sub(r"(?ms)^```.*?^```", "", text) if file.endswith(".md") else ""
-        named = [(name, None if os.path.exists(name) else "is not there") for name in NAMED.findall(text)]
-        for target, why in named + [(t, reason(file, t)) for t in LINK.findall(targets) if not re.match(r"\w+:", t)]:
+        named = [(name, None if os.path.exists(name) else "is not there")
+                 for name in NAMED.findall(text)]
+        linked = [(target, reason(file, target))
+                  for target in LINK.findall(targets) if not re.match(r"\w+:", target)]
+        for target, why in named + linked:
             links += 1
             if why:
                 wrong += 1

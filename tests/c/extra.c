@@ -1,7 +1,9 @@
-/* FINGERPRINT, types that are not known, streams of messages, addresses, numbers, texts and a writer: what the calls answer to
- * the samples of RFC 5769, to each of their bits changed, to messages with many types, and to streams in any pieces.
+/* FINGERPRINT, types that are not known, streams of messages, addresses, numbers, texts and a
+ * writer: what the calls answer to the samples of RFC 5769, to each of their bits changed, to
+ * messages with many types, and to streams in any pieces.
  *
- * The samples are typed from RFC 5769; what is wanted is counted, spelled or summed here, and does not come from the library. */
+ * The samples are typed from RFC 5769; what is wanted is counted, spelled or summed here, and does
+ * not come from the library. */
 #include "stunp.h"
 #include <stdbool.h>
 #include <stdio.h>
@@ -14,29 +16,34 @@
 
 static void check(int64_t answer, int64_t wanted, int line) {
     if (answer == wanted) return;
-    fprintf(stderr, "extra: line %d: %lld (%s), not %lld\n", line, (long long)answer, stunp_strerror(answer), (long long)wanted);
+    fprintf(stderr, "extra: line %d: %lld (%s), not %lld\n", line, (long long)answer,
+            stunp_strerror(answer), (long long)wanted);
     exit(1);
 }
 
 /* Sections 2.1 to 2.4. The last has no FINGERPRINT. */
 static const char request[] =
-    "\x00\x01\x00\x58\x21\x12\xa4\x42\xb7\xe7\xa7\x01\xbc\x34\xd6\x86\xfa\x87\xdf\xae\x80\x22\x00\x10STUN test client"
-    "\x00\x24\x00\x04\x6e\x00\x01\xff\x80\x29\x00\x08\x93\x2f\xf9\xb1\x51\x26\x3b\x36\x00\x06\x00\x09" "evtj:h6vY   "
-    "\x00\x08\x00\x14\x9a\xea\xa7\x0c\xbf\xd8\xcb\x56\x78\x1e\xf2\xb5\xb2\xd3\xf2\x49\xc1\xb5\x71\xa2\x80\x28\x00\x04"
-    "\xe5\x7a\x3b\xcf";
+    "\x00\x01\x00\x58\x21\x12\xa4\x42\xb7\xe7\xa7\x01\xbc\x34\xd6\x86\xfa\x87\xdf\xae"
+    "\x80\x22\x00\x10STUN test client\x00\x24\x00\x04\x6e\x00\x01\xff\x80\x29\x00\x08\x93\x2f\xf9"
+    "\xb1\x51\x26\x3b\x36\x00\x06\x00\x09" "evtj:h6vY   \x00\x08\x00\x14\x9a\xea\xa7\x0c\xbf\xd8"
+    "\xcb\x56\x78\x1e\xf2\xb5\xb2\xd3\xf2\x49\xc1\xb5\x71\xa2\x80\x28\x00\x04\xe5\x7a"
+    "\x3b\xcf";
 static const char response[] =
-    "\x01\x01\x00\x3c\x21\x12\xa4\x42\xb7\xe7\xa7\x01\xbc\x34\xd6\x86\xfa\x87\xdf\xae\x80\x22\x00\x0btest vector "
-    "\x00\x20\x00\x08\x00\x01\xa1\x47\xe1\x12\xa6\x43\x00\x08\x00\x14\x2b\x91\xf5\x99\xfd\x9e\x90\xc3\x8c\x74\x89\xf9"
-    "\x2a\xf9\xba\x53\xf0\x6b\xe7\xd7\x80\x28\x00\x04\xc0\x7d\x4c\x96";
+    "\x01\x01\x00\x3c\x21\x12\xa4\x42\xb7\xe7\xa7\x01\xbc\x34\xd6\x86\xfa\x87\xdf\xae"
+    "\x80\x22\x00\x0btest vector \x00\x20\x00\x08\x00\x01\xa1\x47\xe1\x12\xa6\x43\x00\x08\x00\x14"
+    "\x2b\x91\xf5\x99\xfd\x9e\x90\xc3\x8c\x74\x89\xf9\x2a\xf9\xba\x53\xf0\x6b\xe7\xd7"
+    "\x80\x28\x00\x04\xc0\x7d\x4c\x96";
 static const char response_6[] =
-    "\x01\x01\x00\x48\x21\x12\xa4\x42\xb7\xe7\xa7\x01\xbc\x34\xd6\x86\xfa\x87\xdf\xae\x80\x22\x00\x0btest vector "
-    "\x00\x20\x00\x14\x00\x02\xa1\x47\x01\x13\xa9\xfa\xa5\xd3\xf1\x79\xbc\x25\xf4\xb5\xbe\xd2\xb9\xd9\x00\x08\x00\x14"
-    "\xa3\x82\x95\x4e\x4b\xe6\x7b\xf1\x17\x84\xc9\x7c\x82\x92\xc2\x75\xbf\xe3\xed\x41\x80\x28\x00\x04\xc8\xfb\x0b\x4c";
+    "\x01\x01\x00\x48\x21\x12\xa4\x42\xb7\xe7\xa7\x01\xbc\x34\xd6\x86\xfa\x87\xdf\xae"
+    "\x80\x22\x00\x0btest vector \x00\x20\x00\x14\x00\x02\xa1\x47\x01\x13\xa9\xfa\xa5\xd3\xf1\x79"
+    "\xbc\x25\xf4\xb5\xbe\xd2\xb9\xd9\x00\x08\x00\x14\xa3\x82\x95\x4e\x4b\xe6\x7b\xf1"
+    "\x17\x84\xc9\x7c\x82\x92\xc2\x75\xbf\xe3\xed\x41\x80\x28\x00\x04\xc8\xfb\x0b\x4c";
 static const char long_term[] =
-    "\x00\x01\x00\x60\x21\x12\xa4\x42\x78\xad\x34\x33\xc6\xad\x72\xc0\x29\xda\x41\x2e\x00\x06\x00\x12\xe3\x83\x9e\xe3\x83"
-    "\x88\xe3\x83\xaa\xe3\x83\x83\xe3\x82\xaf\xe3\x82\xb9\x00\x00\x00\x15\x00\x1c" "f//499k954d6OL34oL9FSTvy64sA"
-    "\x00\x14\x00\x0b" "example.org\x00\x00\x08\x00\x14\xf6\x70\x24\x65\x6d\xd6\x4a\x3e\x02\xb8\xe0\x71\x2e\x85\xc9\xa2"
-    "\x8c\xa8\x96\x66";
+    "\x00\x01\x00\x60\x21\x12\xa4\x42\x78\xad\x34\x33\xc6\xad\x72\xc0\x29\xda\x41\x2e"
+    "\x00\x06\x00\x12\xe3\x83\x9e\xe3\x83\x88\xe3\x83\xaa\xe3\x83\x83\xe3\x82\xaf\xe3"
+    "\x82\xb9\x00\x00\x00\x15\x00\x1c" "f//499k954d6OL34oL9FSTvy64sA\x00\x14\x00\x0b" "example.org"
+    "\x00\x00\x08\x00\x14\xf6\x70\x24\x65\x6d\xd6\x4a\x3e\x02\xb8\xe0\x71\x2e\x85\xc9"
+    "\xa2\x8c\xa8\x96\x66";
 static const struct { const uint8_t *bytes; size_t length; } samples[] = {
     {BYTES(request)}, {BYTES(response)}, {BYTES(response_6)}, {BYTES(long_term)},
 };
@@ -49,7 +56,8 @@ static uint8_t large[70000], out[70000], before[70000];
 
 static void checks_samples(void) {
     for (size_t i = 0; i < 3; i++) {
-        CHECK(stunp_check_fingerprint(samples[i].bytes, samples[i].length), STUNP_RIGHT_FINGERPRINT);
+        CHECK(stunp_check_fingerprint(samples[i].bytes, samples[i].length),
+              STUNP_RIGHT_FINGERPRINT);
         for (size_t front = 0; front < samples[i].length; front++)
             CHECK(stunp_check_fingerprint(samples[i].bytes, front), STUNP_TRUNCATED);
     }
@@ -64,17 +72,20 @@ static void notices_each_bit(void) {
             const size_t length = samples[i].length;
             memcpy(out, samples[i].bytes, length);
             out[bit / 8] ^= (uint8_t)(1 << bit % 8);
-            int64_t parsed = stunp_parse(out, length), answer = stunp_check_fingerprint(out, length);
+            int64_t parsed = stunp_parse(out, length),
+                answer = stunp_check_fingerprint(out, length);
             if (parsed < 0) CHECK(answer, parsed);
             CHECK(answer == STUNP_RIGHT_FINGERPRINT, 0);
             /* Its own value, or the id that it covers. */
-            if (bit / 8 >= length - 4 || (bit / 8 >= 8 && bit / 8 < 20)) CHECK(answer, STUNP_WRONG_FINGERPRINT);
+            if (bit / 8 >= length - 4 || (bit / 8 >= 8 && bit / 8 < 20))
+                CHECK(answer, STUNP_WRONG_FINGERPRINT);
             wrong += answer == STUNP_WRONG_FINGERPRINT;
         }
     CHECK(wrong > 1500, 1);
 }
 
-/* What it does not end, and what has another length, is misplaced; what follows the first is not looked at. */
+/* What it does not end, and what has another length, is misplaced; what follows the first is not
+ * looked at. */
 static void tells_misplaced(void) {
     static const struct { const char *bytes; size_t length; int64_t wanted; } attributes[] = {
         {"\x80\x28\x00\x04\0\0\0\0", 8, STUNP_WRONG_FINGERPRINT},
@@ -127,8 +138,10 @@ static void refuses_fingerprints(void) {
     CHECK(stunp_add_fingerprint(out, 28, 28), STUNP_ATTRIBUTE_EXISTS);
     for (size_t rest = 0; rest <= 8; rest += 4) {
         CHECK(stunp_begin(STUNP_REQUEST, STUNP_BINDING, id, 12, out, sizeof out), 20);
-        CHECK(stunp_add(out, sizeof out, 20, STUNP_DATA, large, 65528 - rest), (int64_t)(65552 - rest));
-        CHECK(stunp_add_fingerprint(out, sizeof out, 65552 - rest), rest < 8 ? STUNP_MESSAGE_TOO_LONG : 65552);
+        CHECK(stunp_add(out, sizeof out, 20, STUNP_DATA, large, 65528 - rest),
+              (int64_t)(65552 - rest));
+        CHECK(stunp_add_fingerprint(out, sizeof out, 65552 - rest),
+              rest < 8 ? STUNP_MESSAGE_TOO_LONG : 65552);
     }
     CHECK(stunp_check_fingerprint(out, 65552), STUNP_RIGHT_FINGERPRINT);
 }
@@ -148,7 +161,8 @@ static size_t request_of(const uint16_t *types, size_t count, uint8_t *message) 
 }
 
 static void tells_types(void) {
-    static const uint16_t types[] = {0x7fff, 0x8000, 0x0006, 0x0024, 0x7fff, 0xffff, 0x0001, 0x0024, 0x0000};
+    static const uint16_t types[] = {0x7fff, 0x8000, 0x0006, 0x0024, 0x7fff, 0xffff, 0x0001, 0x0024,
+                                     0x0000};
     static const uint16_t known[] = {0x0006, 0x0001, 0x8022}, wanted[] = {0x7fff, 0x0024, 0x0000};
     uint16_t told[4] = {7, 7, 7, 7};
     size_t length = request_of(types, COUNT(types), large);
@@ -162,9 +176,11 @@ static void tells_types(void) {
     CHECK(told[0] == 0x7fff && told[1] == 0x0024 && told[2] == 0, 1);
     CHECK(stunp_unknown_types(large, length, known, COUNT(known), told, 0), 3);
     CHECK(stunp_unknown_types(large, length, types, COUNT(types), told, 0), 0);
-    /* What follows an integrity attribute is not visible; PRIORITY is, and USERNAME and MESSAGE-INTEGRITY. */
+    /* What follows an integrity attribute is not visible; PRIORITY is, and USERNAME and
+     * MESSAGE-INTEGRITY. */
     CHECK(stunp_unknown_types(BYTES(request), known, 0, told, 4), 3);
-    CHECK(told[0] == STUNP_PRIORITY && told[1] == STUNP_USERNAME && told[2] == STUNP_MESSAGE_INTEGRITY, 1);
+    CHECK(told[0] == STUNP_PRIORITY && told[1] == STUNP_USERNAME
+          && told[2] == STUNP_MESSAGE_INTEGRITY, 1);
 }
 
 static void refuses_types(void) {
@@ -185,18 +201,20 @@ static void refuses_types(void) {
 }
 
 /* The answer is what the single calls write, and a buffer that lacks one byte is left. */
-static void writes_answer(const uint8_t *message, size_t length, const uint16_t *known, size_t known_length,
-                          const uint8_t *types, size_t types_length) {
+static void writes_answer(const uint8_t *message, size_t length, const uint16_t *known,
+                          size_t known_length, const uint8_t *types, size_t types_length) {
     static uint8_t wanted[40000];
     const uint32_t method = (uint32_t)stunp_method(message, length);
     int64_t end = stunp_begin(STUNP_ERROR, method, message + 8, 12, wanted, sizeof wanted);
     end = stunp_add_error(wanted, sizeof wanted, (size_t)end, 420, BYTES("Unknown Attribute"));
-    end = stunp_add(wanted, sizeof wanted, (size_t)end, STUNP_UNKNOWN_ATTRIBUTES, types, types_length);
+    end = stunp_add(wanted, sizeof wanted, (size_t)end, STUNP_UNKNOWN_ATTRIBUTES, types,
+                    types_length);
     CHECK(end >= 56, 1);
     const size_t written = (size_t)end;
     memset(out, 0xa5, written + 4);
     memcpy(before, out, written + 4);
-    CHECK(stunp_refuse_unknown(message, length, known, known_length, out, written - 1), STUNP_BUFFER_TOO_SMALL);
+    CHECK(stunp_refuse_unknown(message, length, known, known_length, out, written - 1),
+          STUNP_BUFFER_TOO_SMALL);
     CHECK(memcmp(out, before, written + 4), 0);
     CHECK(stunp_refuse_unknown(message, length, known, known_length, out, written), end);
     CHECK(memcmp(out, wanted, written), 0);
@@ -206,12 +224,14 @@ static void writes_answer(const uint8_t *message, size_t length, const uint16_t 
 }
 
 static void answers_420(void) {
-    static const uint16_t known[] = {STUNP_USERNAME, STUNP_MESSAGE_INTEGRITY}, types[] = {0x7fff, 0x0006, 0x0024, 0x0006, 0x0000};
+    static const uint16_t known[] = {STUNP_USERNAME, STUNP_MESSAGE_INTEGRITY},
+        types[] = {0x7fff, 0x0006, 0x0024, 0x0006, 0x0000};
     static uint16_t all[16383];
     static uint8_t spelled[2 * 16383];
     writes_answer(BYTES(request), known, COUNT(known), BYTES("\x00\x24"));
     writes_answer(BYTES(request), known, 1, BYTES("\x00\x24\x00\x08"));
-    writes_answer(large, request_of(types, COUNT(types), large), known, COUNT(known), BYTES("\x7f\xff\x00\x24\x00\x00"));
+    writes_answer(large, request_of(types, COUNT(types), large), known, COUNT(known),
+                  BYTES("\x7f\xff\x00\x24\x00\x00"));
     /* The longest message has 16383 attributes. */
     for (size_t i = 0; i < COUNT(all); i++) {
         all[i] = (uint16_t)(2 * i + 1);
@@ -219,17 +239,20 @@ static void answers_420(void) {
         spelled[2 * i + 1] = (uint8_t)all[i];
     }
     all[3] = 0x0008; /* this one hides all others */
-    writes_answer(large, request_of(all, COUNT(all), large), known, 0, BYTES("\x00\x01\x00\x03\x00\x05\x00\x08"));
+    writes_answer(large, request_of(all, COUNT(all), large), known, 0,
+                  BYTES("\x00\x01\x00\x03\x00\x05\x00\x08"));
     all[3] = 0x0007;
     writes_answer(large, request_of(all, COUNT(all), large), known, 0, spelled, sizeof spelled);
-    CHECK(stunp_sign(out, sizeof out, 48 + 4 + 2 * 16383 + 2, STUNP_SHA1, BYTES(password)), 48 + 4 + 2 * 16383 + 2 + 24);
+    CHECK(stunp_sign(out, sizeof out, 48 + 4 + 2 * 16383 + 2, STUNP_SHA1, BYTES(password)),
+          48 + 4 + 2 * 16383 + 2 + 24);
 }
 
 /* ---- Streams */
 
-/* The messages of a stream that comes in pieces of so many bytes are those that are wanted, one after the other. */
-static void cuts(int64_t (*next)(const uint8_t *, size_t), const uint8_t *stream, size_t length, size_t piece, const size_t *wanted,
-                 size_t count) {
+/* The messages of a stream that comes in pieces of so many bytes are those that are wanted, one
+ * after the other. */
+static void cuts(int64_t (*next)(const uint8_t *, size_t), const uint8_t *stream, size_t length,
+                 size_t piece, const size_t *wanted, size_t count) {
     size_t came = 0, begin = 0, cut = 0;
     while (came < length) {
         came = length - came < piece ? length : came + piece;
@@ -249,9 +272,11 @@ static void cuts(int64_t (*next)(const uint8_t *, size_t), const uint8_t *stream
 static void cuts_streams(void) {
     static const char channel[] = "\x40\x01\x00\x05" "hello\0\0\0", empty[] = "\x4f\xff\x00\x00";
     static uint8_t stream[1024], turn[1024], packets[1024];
-    size_t lengths[4], turn_lengths[6], packet_lengths[5] = {2}, length = 0, turn_length = 0, packets_length = 2;
+    size_t lengths[4], turn_lengths[6], packet_lengths[5] = {2}, length = 0, turn_length = 0,
+        packets_length = 2;
     for (size_t i = 0; i < 4; i++) {
-        lengths[i] = samples[i].length, turn_lengths[i + 1] = lengths[i], packet_lengths[i + 1] = 2 + lengths[i];
+        lengths[i] = samples[i].length, turn_lengths[i + 1] = lengths[i],
+            packet_lengths[i + 1] = 2 + lengths[i];
         memcpy(stream + length, samples[i].bytes, lengths[i]);
         length += lengths[i];
         packets[packets_length + 1] = (uint8_t)lengths[i];
@@ -309,16 +334,19 @@ static void tells_packets(void) {
 
 /* ---- Addresses. */
 
-static const uint8_t peer_6[16] = {0x20, 0x01, 0x0d, 0xb8, 0x12, 0x34, 0x56, 0x78, 0, 0x11, 0x22, 0x33, 0x44, 0x55, 0x66, 0x77};
+static const uint8_t peer_6[16] = {0x20, 0x01, 0x0d, 0xb8, 0x12, 0x34, 0x56, 0x78, 0, 0x11, 0x22,
+                                   0x33, 0x44, 0x55, 0x66, 0x77};
 static const uint8_t peer_4[4] = {192, 0, 2, 1};
 
-/* Two peers and a relayed address in one message, of which the walk comes to the second peer too. */
+/* Two peers and a relayed address in one message, of which the walk comes to the second peer
+ * too. */
 static void hides_addresses(void) {
     uint8_t message[128], octets[17] = {0};
     uint16_t port = 7, type = 0;
     size_t length = 0;
     CHECK(stunp_begin(STUNP_REQUEST, STUNP_CREATE_PERMISSION, id, 12, message, sizeof message), 20);
-    CHECK(stunp_add_xor_address(message, 43, 20, STUNP_XOR_PEER_ADDRESS, peer_6, 16, 32853), STUNP_BUFFER_TOO_SMALL);
+    CHECK(stunp_add_xor_address(message, 43, 20, STUNP_XOR_PEER_ADDRESS, peer_6, 16, 32853),
+          STUNP_BUFFER_TOO_SMALL);
     CHECK(stunp_add_xor_address(message, 44, 20, STUNP_XOR_PEER_ADDRESS, peer_6, 16, 32853), 44);
     CHECK(memcmp(message + 20, "\x00\x12\x00\x14", 4), 0);
     CHECK(memcmp(message + 24, response_6 + 40, 20), 0);
@@ -326,7 +354,8 @@ static void hides_addresses(void) {
     CHECK(memcmp(message + 44, "\x00\x16\x00\x08", 4), 0);
     CHECK(memcmp(message + 48, response + 40, 8), 0);
     /* A second of a type is not added by the library, but may be read. */
-    CHECK(stunp_add_xor_address(message, 128, 56, STUNP_XOR_PEER_ADDRESS, peer_4, 4, 32853), STUNP_ATTRIBUTE_EXISTS);
+    CHECK(stunp_add_xor_address(message, 128, 56, STUNP_XOR_PEER_ADDRESS, peer_4, 4, 32853),
+          STUNP_ATTRIBUTE_EXISTS);
     CHECK(stunp_add_xor_address(message, 128, 56, STUNP_XOR_MAPPED_ADDRESS, peer_4, 4, 32853), 68);
     message[57] = STUNP_XOR_PEER_ADDRESS;
 
@@ -351,16 +380,24 @@ static void refuses_addresses(void) {
     uint16_t port = 7;
     CHECK(stunp_begin(STUNP_REQUEST, STUNP_ALLOCATE, id, 12, message, sizeof message), 20);
     CHECK(stunp_add_xor_address(message, 64, 65, 65536, peer_4, 4, 1), STUNP_BAD_ARGUMENT);
-    CHECK(stunp_add_xor_address(message, 64, 20, STUNP_XOR_PEER_ADDRESS, peer_4, 3, 1), STUNP_BAD_ARGUMENT);
-    CHECK(stunp_add_xor_address(message, 64, 20, STUNP_XOR_PEER_ADDRESS, peer_4, 4, 65536), STUNP_BAD_ARGUMENT);
-    CHECK(stunp_add_xor_address(message, 64, 19, STUNP_XOR_PEER_ADDRESS, peer_4, 4, 1), STUNP_TRUNCATED);
-    CHECK(stunp_add_xor_address(message, 64, 20, STUNP_MESSAGE_INTEGRITY, peer_4, 4, 1), STUNP_NOT_ALLOWED);
-    CHECK(stunp_add_xor_address(message, 64, 20, STUNP_FINGERPRINT, peer_4, 4, 1), STUNP_NOT_ALLOWED);
+    CHECK(stunp_add_xor_address(message, 64, 20, STUNP_XOR_PEER_ADDRESS, peer_4, 3, 1),
+          STUNP_BAD_ARGUMENT);
+    CHECK(stunp_add_xor_address(message, 64, 20, STUNP_XOR_PEER_ADDRESS, peer_4, 4, 65536),
+          STUNP_BAD_ARGUMENT);
+    CHECK(stunp_add_xor_address(message, 64, 19, STUNP_XOR_PEER_ADDRESS, peer_4, 4, 1),
+          STUNP_TRUNCATED);
+    CHECK(stunp_add_xor_address(message, 64, 20, STUNP_MESSAGE_INTEGRITY, peer_4, 4, 1),
+          STUNP_NOT_ALLOWED);
+    CHECK(stunp_add_xor_address(message, 64, 20, STUNP_FINGERPRINT, peer_4, 4, 1),
+          STUNP_NOT_ALLOWED);
     CHECK(stunp_add_xor_address(message, 64, 20, STUNP_XOR_PEER_ADDRESS, peer_4, 4, 1), 32);
     CHECK(stunp_add_fingerprint(message, 64, 32), 40);
-    CHECK(stunp_add_xor_address(message, 64, 40, STUNP_XOR_RELAYED_ADDRESS, peer_4, 4, 1), STUNP_CLOSED);
-    for (size_t place = 0; place < 20; place++) CHECK(stunp_read_xor_address(message, 40, place, octets, 16, &port), STUNP_BAD_ARGUMENT);
-    for (size_t length = 0; length < 32; length++) CHECK(stunp_read_xor_address(message, length, 20, octets, 16, &port), STUNP_BAD_ARGUMENT);
+    CHECK(stunp_add_xor_address(message, 64, 40, STUNP_XOR_RELAYED_ADDRESS, peer_4, 4, 1),
+          STUNP_CLOSED);
+    for (size_t place = 0; place < 20; place++)
+        CHECK(stunp_read_xor_address(message, 40, place, octets, 16, &port), STUNP_BAD_ARGUMENT);
+    for (size_t length = 0; length < 32; length++)
+        CHECK(stunp_read_xor_address(message, length, 20, octets, 16, &port), STUNP_BAD_ARGUMENT);
     CHECK(stunp_read_xor_address(message, 40, 41, octets, 16, &port), STUNP_BAD_ARGUMENT);
     CHECK(stunp_read_xor_address(message, 40, SIZE_MAX, octets, 16, &port), STUNP_BAD_ARGUMENT);
     CHECK(stunp_read_xor_address(message, 40, 32, octets, 16, &port), STUNP_MALFORMED_ATTRIBUTE);
@@ -374,7 +411,8 @@ static void shows_addresses(void) {
     uint8_t message[128], octets[17] = {0};
     uint16_t port = 7;
     CHECK(stunp_begin(STUNP_SUCCESS, STUNP_BINDING, id, 12, message, sizeof message), 20);
-    CHECK(stunp_add_address(message, 31, 20, STUNP_MAPPED_ADDRESS, peer_4, 4, 32853), STUNP_BUFFER_TOO_SMALL);
+    CHECK(stunp_add_address(message, 31, 20, STUNP_MAPPED_ADDRESS, peer_4, 4, 32853),
+          STUNP_BUFFER_TOO_SMALL);
     CHECK(stunp_add_address(message, 32, 20, STUNP_MAPPED_ADDRESS, peer_4, 4, 32853), 32);
     CHECK(memcmp(message + 20, "\x00\x01\x00\x08\x00\x01\x80\x55\xc0\x00\x02\x01", 12), 0);
     CHECK(stunp_add_address(message, 128, 32, STUNP_ALTERNATE_SERVER, peer_6, 16, 32853), 56);
@@ -390,12 +428,17 @@ static void shows_addresses(void) {
     CHECK(port == 32853 && memcmp(octets, peer_6, 16) == 0 && octets[16] == 0, 1);
 
     CHECK(stunp_add_address(message, 128, 129, 65536, peer_4, 4, 1), STUNP_BAD_ARGUMENT);
-    CHECK(stunp_add_address(message, 128, 55, STUNP_MAPPED_ADDRESS, peer_4, 4, 65536), STUNP_BAD_ARGUMENT);
-    CHECK(stunp_add_address(message, 128, 55, STUNP_MAPPED_ADDRESS, peer_6, 15, 1), STUNP_BAD_ARGUMENT);
-    CHECK(stunp_add_address(message, 128, 55, STUNP_MAPPED_ADDRESS, peer_6, 16, 1), STUNP_TRUNCATED);
+    CHECK(stunp_add_address(message, 128, 55, STUNP_MAPPED_ADDRESS, peer_4, 4, 65536),
+          STUNP_BAD_ARGUMENT);
+    CHECK(stunp_add_address(message, 128, 55, STUNP_MAPPED_ADDRESS, peer_6, 15, 1),
+          STUNP_BAD_ARGUMENT);
+    CHECK(stunp_add_address(message, 128, 55, STUNP_MAPPED_ADDRESS, peer_6, 16, 1),
+          STUNP_TRUNCATED);
     CHECK(stunp_add_address(message, 128, 56, STUNP_FINGERPRINT, peer_6, 16, 1), STUNP_NOT_ALLOWED);
-    CHECK(stunp_add_address(message, 128, 56, STUNP_MAPPED_ADDRESS, peer_6, 16, 1), STUNP_ATTRIBUTE_EXISTS);
-    for (size_t place = 0; place < 20; place++) CHECK(stunp_read_address(message, 56, place, octets, 16, &port), STUNP_BAD_ARGUMENT);
+    CHECK(stunp_add_address(message, 128, 56, STUNP_MAPPED_ADDRESS, peer_6, 16, 1),
+          STUNP_ATTRIBUTE_EXISTS);
+    for (size_t place = 0; place < 20; place++)
+        CHECK(stunp_read_address(message, 56, place, octets, 16, &port), STUNP_BAD_ARGUMENT);
     CHECK(stunp_read_address(message, 56, 57, octets, 16, &port), STUNP_BAD_ARGUMENT);
     CHECK(stunp_read_address(message, 55, 32, octets, 16, &port), STUNP_BAD_ARGUMENT);
     message[25] = 2; /* the other family */
@@ -423,15 +466,18 @@ static void reads_samples(void) {
     CHECK(memcmp(out + 28, bytes + controlled, 12), 0);
     CHECK(stunp_parse(out, 40), 0);
     number = 7;
-    for (size_t place = 0; place < 20; place++) CHECK(stunp_read_number(out, 40, place, &number), STUNP_BAD_ARGUMENT);
-    for (size_t there = 0; there < 28; there++) CHECK(stunp_read_number(out, there, 20, &number), STUNP_BAD_ARGUMENT);
+    for (size_t place = 0; place < 20; place++)
+        CHECK(stunp_read_number(out, 40, place, &number), STUNP_BAD_ARGUMENT);
+    for (size_t there = 0; there < 28; there++)
+        CHECK(stunp_read_number(out, there, 20, &number), STUNP_BAD_ARGUMENT);
     CHECK(stunp_read_number(out, 40, 40, &number), STUNP_BAD_ARGUMENT);
     CHECK(stunp_read_number(out, 40, SIZE_MAX, &number), STUNP_BAD_ARGUMENT);
     CHECK(stunp_read_number(BYTES(request), 20, &number), STUNP_MALFORMED_ATTRIBUTE); /* SOFTWARE */
     CHECK(number == 7, 1);
 }
 
-/* The least and the greatest number of each size, the first that is too great, and the sizes that are none. */
+/* The least and the greatest number of each size, the first that is too great, and the sizes that
+ * are none. */
 static void sizes(void) {
     for (size_t size = 0; size <= 20; size++) {
         const bool is_size = size == 1 || size == 2 || size == 4 || size == 8;
@@ -441,7 +487,8 @@ static void sizes(void) {
         CHECK(stunp_begin(STUNP_REQUEST, STUNP_BINDING, id, 12, out, 20), 20);
         memcpy(before, out, 64);
         if (!is_size || size < 8)
-            CHECK(stunp_add_number(out, 64, 20, STUNP_PRIORITY, is_size ? greatest + 1 : 0, size), STUNP_BAD_ARGUMENT);
+            CHECK(stunp_add_number(out, 64, 20, STUNP_PRIORITY, is_size ? greatest + 1 : 0, size),
+                  STUNP_BAD_ARGUMENT);
         CHECK(memcmp(out, before, 64), 0);
         if (is_size) {
             const int64_t end = size == 8 ? 32 : 28;
@@ -453,8 +500,10 @@ static void sizes(void) {
             CHECK(stunp_read_number(out, (size_t)end, 20, &number), (int64_t)size);
             CHECK(number == 0, 1);
         } else {
-            CHECK(stunp_add(out, 64, 20, STUNP_PRIORITY, large, size), (int64_t)(24 + (size + 3) / 4 * 4));
-            CHECK(stunp_read_number(out, 24 + (size + 3) / 4 * 4, 20, &number), STUNP_MALFORMED_ATTRIBUTE);
+            CHECK(stunp_add(out, 64, 20, STUNP_PRIORITY, large, size),
+                  (int64_t)(24 + (size + 3) / 4 * 4));
+            CHECK(stunp_read_number(out, 24 + (size + 3) / 4 * 4, 20, &number),
+                  STUNP_MALFORMED_ATTRIBUTE);
             CHECK(number == 7, 1);
         }
     }
@@ -479,7 +528,8 @@ static void refuses_numbers(void) {
 /* ---- Texts and types, and each read by its type. */
 
 static void reads_texts(void) {
-    static const char name[] = "\xe3\x83\x9e\xe3\x83\x88\xe3\x83\xaa\xe3\x83\x83\xe3\x82\xaf\xe3\x82\xb9";
+    static const char name[] =
+        "\xe3\x83\x9e\xe3\x83\x88\xe3\x83\xaa\xe3\x83\x83\xe3\x82\xaf\xe3\x82\xb9";
     size_t length = 7;
     CHECK(stunp_find_text(BYTES(request), STUNP_SOFTWARE, &length), 24);
     CHECK(length == 16 && memcmp(request + 24, "STUN test client", 16) == 0, 1);

@@ -140,7 +140,8 @@ static void find(struct bytes m, int64_t parsed) {
         require(at > 0 || length == 77, "a refused find writes");
     }
     size_t length;
-    require(stunp_find(m.at, m.length, 65536, &length) == STUNP_BAD_ARGUMENT, "a type that is none");
+    require(stunp_find(m.at, m.length, 65536, &length) == STUNP_BAD_ARGUMENT,
+            "a type that is none");
 }
 
 static void read_header(struct bytes m, int64_t parsed) {
@@ -306,7 +307,8 @@ static void check_fingerprint(struct bytes m, int64_t parsed) {
 }
 
 static void read_unknown(struct bytes m, int64_t parsed, uint8_t setting) {
-    static const uint16_t known[] = {STUNP_USERNAME, STUNP_MESSAGE_INTEGRITY, STUNP_REALM, STUNP_NONCE};
+    static const uint16_t known[] = {STUNP_USERNAME, STUNP_MESSAGE_INTEGRITY, STUNP_REALM,
+                                     STUNP_NONCE};
     uint16_t types[MOST_ATTRIBUTES + 1];
     memset(types, PATTERN, sizeof types);
     size_t room = setting % (MOST_ATTRIBUTES + 1), wanted = 0;
@@ -514,7 +516,8 @@ static void write_more(struct bytes m, uint8_t setting) {
         if (which == SIGNATURE)
             require(stunp_verify(out, length, TEXT("key")) == (int64_t)more.algorithm, "a digest");
         if (which == CHECKSUM)
-            require(stunp_check_fingerprint(out, length) == STUNP_RIGHT_FINGERPRINT, "a FINGERPRINT");
+            require(stunp_check_fingerprint(out, length) == STUNP_RIGHT_FINGERPRINT,
+                    "a FINGERPRINT");
     }
     require(add(PLAINLY, length, length + 1, &more) == STUNP_BAD_ARGUMENT,
             "a message longer than its room");
@@ -675,7 +678,8 @@ static int64_t server_hears(const uint8_t *message, size_t length, const stunp_a
             ? stunp_server_validate_of_keys(&world.server, message, length, from, world.now, words,
                                             STORED)
         : by == BY_PASSWORD
-            ? stunp_server_validate_of(&world.server, message, length, from, world.now, words, HANDED)
+            ? stunp_server_validate_of(&world.server, message, length, from, world.now, words,
+                                       HANDED)
             : stunp_server_validate(&world.server, message, length, from, world.now, words));
     require(verdict != 0 && verdict <= STUNP_SHA256, "another verdict of the server");
     if (is_full && is_address(from) && parsed == 0)
@@ -771,7 +775,8 @@ static void agent_sends(struct bytes m, uint8_t setting) {
     int64_t parsed = stunp_parse(m.at, m.length), kind = stunp_class(m.at, m.length);
     bool is_full = world.agent.is_full, is_allowed = world.remote == NULL || world.remote == peer;
     int64_t was =
-        parsed < 0 ? 0 : stunp_agent_is_outstanding(&world.agent, m.at + ID_AT, STUNP_ID_LENGTH, &to);
+        parsed < 0 ? 0
+        : stunp_agent_is_outstanding(&world.agent, m.at + ID_AT, STUNP_ID_LENGTH, &to);
     int64_t answer = named(stunp_agent_send_request(&world.agent, m.at, m.length, peer, world.now));
     require(answer <= 0, "another answer of stunp_agent_send_request");
     if (!is_full || !is_address(peer)) {
@@ -814,7 +819,8 @@ static void agent_hears(struct bytes m, uint8_t setting) {
                                         : kind < STUNP_SUCCESS || is_asked),
             "another answer of stunp_agent_handle");
     if (answer < 0) return;
-    int64_t now_asked = stunp_agent_is_outstanding(&world.agent, m.at + ID_AT, STUNP_ID_LENGTH, &to);
+    int64_t now_asked = stunp_agent_is_outstanding(&world.agent, m.at + ID_AT, STUNP_ID_LENGTH,
+                                                   &to);
     require(now_asked == (kind >= STUNP_SUCCESS && is_asked ? 0 : asked), "another request ends");
     if (answer == 1) require(stunp_agent_is_validated_peer(&world.agent, from) == 1, "not a peer");
 }
@@ -909,7 +915,8 @@ static void set_client(struct bytes m, uint8_t setting) {
     named(stunp_client_set_algorithms(&world.client, setting % 5));
     named(stunp_client_set_anonymous_username(&world.client, setting / 5 % 4));
     if (setting & 1)
-        named(stunp_client_set_credentials(&world.client, m.at, half, m.at + half, m.length - half));
+        named(stunp_client_set_credentials(&world.client, m.at, half, m.at + half,
+                                           m.length - half));
     else
         named(stunp_client_set_credentials(&world.client, TEXT("name"), TEXT("word")));
     require(named(stunp_client_signing_algorithm(&world.client)) <= STUNP_SHA256,
@@ -973,7 +980,8 @@ static void make_handles(struct bytes m, uint8_t setting) {
     if (answers[0] == 0) world.most = SIZE_MAX;
     if (answers[2] == 0) world.remote = setting & 16 ? address_of(setting) : NULL;
     for (int i = 0; i < 3; i++) {
-        require(were_full[i] == (named(answers[i]) == STUNP_FULL_HANDLE), "a full handle is filled");
+        require(were_full[i] == (named(answers[i]) == STUNP_FULL_HANDLE),
+                "a full handle is filled");
         require(are_full[i] == (were_full[i] || answers[i] == 0),
                 "a handle is not what the answer says");
     }

@@ -1,4 +1,5 @@
-//! Whole conversations, written as a program for the Rust crate writes them: by its paths, builders and attributes.
+//! Whole conversations, written as a program for the Rust crate writes them: by its paths, builders
+//! and attributes.
 use IntegrityAlgorithm::{Sha1, Sha256};
 use seatcrane_stun as stun_proto;
 use std::net::SocketAddr;
@@ -569,7 +570,8 @@ fn a_slice_is_written_to() {
     );
 }
 
-/// A writer of a program's own: what is written comes after a length of two bytes, as over TCP in other protocols.
+/// A writer of a program's own: what is written comes after a length of two bytes, as over TCP in
+/// other protocols.
 #[derive(Default)]
 struct Framed {
     message: MessageWriteVec,

@@ -71,7 +71,10 @@
  *     }
  *
  * An agent of ICE writes a check, and tells whether a request is one that knows its password, and
- * of which priority (RFC 8445, sections 7.2.2 and 7.3):
+ * of which priority (RFC 8445, sections 7.2.2 and 7.3). `name` is "their fragment:ours", and the
+ * first `password` is theirs, the second ours. That USERNAME is the one expected is for the caller
+ * to see; examples/c/ice.c has answers and roles too. 0x6e0001ff is the priority of a peer
+ * reflexive candidate (section 5.1.2):
  *
  *     size_t write_check(const char *name, const char *password, uint64_t controlling,
  *                        const uint8_t id[12], uint8_t *out, size_t room) {

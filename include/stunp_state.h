@@ -120,6 +120,9 @@
  *         }
  *     }
  *
+ * A server that asks for no credentials answers by an unsigned success, which this client drops as
+ * forged: ask such a server without a stunp_client (examples/c/udp_client.c).
+ *
  * stunp_agent_poll_transmit comes before stunp_agent_poll. In a loop that asks the latter alone
  * nothing is sent again and nothing times out, and from the moment on at which something is due
  * it does not wait either: it returns 0 each time, with `*until` not after `now`. Where many
@@ -128,7 +131,10 @@
  * A server tells the users of a realm at which address it sees them: send what `serve` writes, if
  * anything. It judges, asks who it was, signs each answer but a 400, and forgets who it was. Each
  * request has its own credentials, so nobody need be kept; and where somebody is, a client that
- * starts anew at that address is told no algorithms, and gives up.
+ * starts anew at that address is told no algorithms, and gives up. It begins with
+ * stunp_server_new, stunp_server_set_algorithms and stunp_server_add_user; examples/c/udp_server.c
+ * is the whole of it, and serves two sockets by epoll. A TURN server takes its other methods where
+ * BINDING stands, and writes its own attributes into a success.
  *
  *     // what a request draws: 200 for a success, 0 for no answer
  *     uint32_t judge(stunp_server *server, const uint8_t *bytes, size_t received,
@@ -159,10 +165,14 @@
  *         if (header.message_class != STUNP_REQUEST) return 0; // wants no answer
  *         if (header.method != STUNP_BINDING) return 0;
  *         uint32_t code = judge(server, bytes, received, from);
- *         // `name` is who is served, whatever USERNAME the message has.
+ *         // `name` is who is served, whatever USERNAME the message has. Here a server also looks
+ *         // for attributes that it does not know, and answers 420 (stunp_unknown_types).
  *         if (code == 200
  *             && stunp_server_client(server, from, name, sizeof name, &name_length) <= 0) code = 0;
- *         if (code == 0) return 0;
+ *         if (code == 0) {
+ *             stunp_server_remove_client(server, from); // else the address would stay
+ *             return 0;
+ *         }
  *         stunp_writer answer = stunp_write(code == 200 ? STUNP_SUCCESS : STUNP_ERROR,
  *                                           STUNP_BINDING, header.id, out, room);
  *         if (code == 200)

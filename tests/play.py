@@ -1,6 +1,6 @@
 #!/usr/bin/env python3
-"""play.py PLAY FILE ..: plays transcripts (docs/TRANSCRIPTS.md) over the archives for C, by the
-program tests/c/play.c.
+"""play.py PLAY FILE ..: plays transcripts (docs/maintainers/TRANSCRIPTS.md) over the archives for
+C, by the program tests/c/play.c.
 
 Messages and their digests are spelled here (spelling.py), so they come from outside the library.
 Each answer is compared with the one that is written. Then each allocation of each line is refused,

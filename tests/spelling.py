@@ -1,5 +1,5 @@
-"""Words of transcripts (docs/TRANSCRIPTS.md), and the messages that they spell, byte by byte.
-Digests are Python's own."""
+"""Words of transcripts (docs/maintainers/TRANSCRIPTS.md), and the messages that they spell, byte by
+byte. Digests are Python's own."""
 
 import hashlib
 import hmac

@@ -116,8 +116,8 @@ def main():
     header = read("include/stunp.h", "include/stunp_state.h")
     crates = read(*(f"crates/stun_c/src/{name}.rt" for name in ("lib", "header", "walk")),
                   *(f"crates/stun_state/src/{name}.rt"
-                    for name in ("calls/agent", "calls/server", "calls/client", "calls/release",
-                                 "address", "agent")))
+                    for name in ("calls/agent", "calls/server", "calls/handed", "calls/client",
+                                 "calls/release", "address", "agent")))
     enums = enums_of_header(header)
     # An enum that is passed has the size of a u32: no number is below zero or above an int.
     passed = {name: numbers for name, numbers in enums.items() if name in ENUMS.values()}

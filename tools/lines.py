@@ -18,13 +18,13 @@ import sys
 import ratchet
 
 AT_MOST = {
-    "antt lines": 6284,
-    "c lines": 497,
-    "md lines": 405,
-    "py lines": 508,
-    "rs lines": 83,
-    "rt lines": 618,
-    "sh lines": 60,
+    "antt lines": 14,
+    "c lines": 0,
+    "md lines": 11,
+    "py lines": 0,
+    "rs lines": 0,
+    "rt lines": 80,
+    "sh lines": 0,
     "antt files": 1,
     "c files": 5,
     "md files": 0,

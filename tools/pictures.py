@@ -1,6 +1,6 @@
 #!/usr/bin/env python3
 """Draws the pictures of docs/pictures: a message, a request's time line, a negotiation, a server's
-record of an address.
+record of an address, three ways.
 
 Checks that the files are what it draws. With the word `write` it writes them.
 
@@ -177,8 +177,38 @@ def address():
     return picture
 
 
+def ways():
+    """What README.md calls trusted, by the way in which the library is used."""
+    picture = Picture(960, 300, "The three ways to use the library, and what is trusted in each")
+    picture.text(20, 28, "The three ways to use it, and what is trusted in each", 14, "start",
+                 bold=True)
+    picture.box(20, 110, 150, 70, ["crates/", "sources, each", "function proved"])
+    rows = (
+        (75, "rt lib", "archives for C", "libstunp.a, libstunp_state.a",
+         "toolchain, clang, the C library; what a program",
+         "passes; its three functions that give memory", INK),
+        (145, "rt run", "programs", "stun_tool, stun_inspect",
+         "toolchain, clang, the C library; what is read and", "printed is tested", INK),
+        (215, "tools/export.py", "plain Rust, not proved", "seatcrane-stun, calls for C",
+         "the exporter, src/kit, rustc, RustCrypto, and in C",
+         "what a program passes; all of it is tested", MARK),
+    )
+    for y, way, name, files, first, second, color in rows:
+        picture.line(170, 145, 300, y, color, arrow=True)
+        picture.text(306, y - 30, way, 11, "start", SOFT)
+        picture.box(306, y - 24, 220, 48, [name, files], color=color)
+        picture.text(546, y - 4, "trusted: " + first, 12, "start", color)
+        picture.text(546, y + 12, second, 12, "start", color)
+    picture.text(20, 270, "In each: that the definitions in specs/ say what the RFC says, and that "
+                          "the toolchain's check and its definitions of SHA-1, SHA-256, MD5,", 12,
+                 "start", SOFT)
+    picture.text(20, 287, "base64, UTF-8 and finite maps are right. The socket, the clock and the "
+                          "random numbers are the caller's.", 12, "start", SOFT)
+    return picture
+
+
 PICTURES = {"message.svg": message, "request.svg": time_line, "negotiation.svg": negotiation,
-            "address.svg": address}
+            "address.svg": address, "ways.svg": ways}
 
 
 def main():

@@ -37,7 +37,7 @@ KEPT = (
     ("docs/stun_tool.1", "man/stun_tool.1"),
     ("docs/stun_inspect.1", "man/stun_inspect.1"),
     ("crates/transcripts/data", "transcripts"),
-    ("docs/TRANSCRIPTS.md", "transcripts/README.md"),
+    ("docs/maintainers/TRANSCRIPTS.md", "transcripts/README.md"),
     ("CHANGELOG.md", "CHANGELOG.md"),
     ("README.md", "README.md"),
     ("SECURITY.md", "SECURITY.md"),

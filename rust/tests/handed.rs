@@ -4,6 +4,7 @@ use seatcrane_stun::Instant;
 use seatcrane_stun::auth::*;
 use seatcrane_stun::types::attribute::Userhash;
 use seatcrane_stun::types::message::*;
+use seatcrane_stun::types::prelude::*;
 use std::net::SocketAddr;
 
 mod common;

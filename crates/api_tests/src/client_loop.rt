@@ -33,7 +33,12 @@ enum End {
     Refused(Reason),
     /// No answer came in time.
     NoAnswer,
+    /// As many requests as may be sent were challenged.
+    Unanswered,
 }
+
+/// How many requests are sent at the most, each after a challenge to the one before.
+const MOST_REQUESTS: u32 = 4;
 
 /// Asks a server for the address that it sees, and answers its challenges (RFC 8489, sections 6 and
 /// 9.2).
@@ -45,10 +50,16 @@ fn ask(
     rng: &mut WordSource,
 ) -> Result<End, Fail> {
     let mut agent = StunAgent::builder(alloc, TransportType::Udp, local()).build();
+    let mut requests_left = MOST_REQUESTS;
     let mut is_to_ask = true;
     for _ in 0..u64::MAX {
         let now = socket.now();
         if is_to_ask {
+            // A 401 may be forged: never ask without an end.
+            if requests_left == 0 {
+                return Ok(End::Unanswered);
+            }
+            requests_left -= 1;
             let request = request(alloc, auth, rng)?;
             let sent = agent.send_request(request, server, now)?;
             socket.send(sent.data, sent.to)?;

@@ -182,8 +182,9 @@ const CHALLENGE_AGAIN: &str =
     0015001d 6f624d61744a6f73327741414141414141414141414141414141414141000000 00140005 7265616c6d000000
     80020008 0002000000010000";
 
-/// An address whose nonce ended an hour ago is forgotten: a request that repeats what it was offered
-/// is told a new nonce, and validated with it. Who starts anew there is challenged as the first was.
+/// An address whose nonce ended an hour ago is forgotten: a request that repeats what it was
+/// offered is told a new nonce, and validated with it. Who starts anew there is challenged as the
+/// first was.
 #[test]
 fn a_server_forgets(rt: HostRuntime) -> Result<(), Fail> {
     const COMING: &[(u64, &str)] = &[

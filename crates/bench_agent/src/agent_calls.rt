@@ -14,6 +14,9 @@ const FIRST_TIMEOUT: u32 = 500_000;
 /// When requests end that are sent once, likewise.
 const LAST_WAIT: u32 = 8_000_000;
 
+/// The bytes that there is room for where a request is sent again.
+const ROOM: usize = 2048;
+
 /// A call, and the state that it meets.
 #[derive(Clone, Copy, Debug, PartialEq, Eq)]
 pub enum Call {
@@ -25,6 +28,9 @@ pub enum Call {
     NextAwaited,
     /// `poll_transmit`, where one request more is due each time.
     TransmitsOne,
+    /// `poll_transmit_within` of an agent that counts, where one request more is due each time: the
+    /// call that the export for C makes.
+    TransmitsOneWithin,
     /// `poll_transmit`, where all requests are due.
     TransmitsOfAll,
     /// `poll`, where one request more is at its end each time.
@@ -37,6 +43,8 @@ pub enum Call {
     SendsFirst,
     /// A response to an outstanding request.
     Responds,
+    /// The same of an agent that counts, at a moment: the call that the export for C makes.
+    RespondsWithTime,
     /// A response to no request.
     RespondsToNone,
     /// A request from a new peer.
@@ -58,12 +66,14 @@ pub fn call_named(name: &str) -> Option<Call> {
         "poll_transmit" => Some(Call::PollTransmit),
         "next_awaited" => Some(Call::NextAwaited),
         "transmits_one" => Some(Call::TransmitsOne),
+        "transmits_one_within" => Some(Call::TransmitsOneWithin),
         "transmits_of_all" => Some(Call::TransmitsOfAll),
         "ends_one" => Some(Call::EndsOne),
         "ends_of_all" => Some(Call::EndsOfAll),
         "sends_last" => Some(Call::SendsLast),
         "sends_first" => Some(Call::SendsFirst),
         "responds" => Some(Call::Responds),
+        "responds_with_time" => Some(Call::RespondsWithTime),
         "responds_to_none" => Some(Call::RespondsToNone),
         "receives" => Some(Call::Receives),
         "cancels" => Some(Call::Cancels),
@@ -74,12 +84,12 @@ pub fn call_named(name: &str) -> Option<Call> {
     }
 }
 
-/// How many of so many calls did what they were to do, at an agent with so many outstanding requests.
+/// How many of so many calls did what they were to do, at an agent with so many outstanding
+/// requests.
 pub fn count_of(alloc: Global, call: Call, size: u32, times: u32) -> Option<u32> {
-    let is_sent_once = matches!(call, Call::EndsOne | Call::EndsOfAll);
-    let mut agent = agent_of(alloc, is_sent_once, size)?;
+    let mut agent = agent_of(alloc, call, size)?;
     let (class, first) = match call {
-        Call::Responds => (MessageClass::Success, 0),
+        Call::Responds | Call::RespondsWithTime => (MessageClass::Success, 0),
         Call::RespondsToNone => (MessageClass::Success, size),
         _ => (MessageClass::Request, size),
     };
@@ -98,9 +108,10 @@ pub fn count_of(alloc: Global, call: Call, size: u32, times: u32) -> Option<u32>
 }
 
 /// An agent that has sent a request in each microsecond.
-fn agent_of(alloc: Global, is_sent_once: bool, size: u32) -> Option<StunAgent> {
-    let mut builder = StunAgent::builder(alloc, TransportType::Udp, address(1));
-    if is_sent_once {
+fn agent_of(alloc: Global, call: Call, size: u32) -> Option<StunAgent> {
+    let counts = matches!(call, Call::TransmitsOneWithin | Call::RespondsWithTime);
+    let mut builder = StunAgent::builder(alloc, TransportType::Udp, address(1)).stats(counts);
+    if matches!(call, Call::EndsOne | Call::EndsOfAll) {
         let (initial, last) = (Duration::from_millis(500), Duration::from_secs(8));
         builder = builder.request_retransmits(initial, Duration::MAX, 1, last);
     }
@@ -122,12 +133,17 @@ fn is_done(agent: &mut StunAgent, call: Call, size: u32, turn: u32, bytes: &[u8]
         Call::PollTransmit => agent.poll_transmit(moment(size)).is_none(),
         Call::NextAwaited => agent.next_awaited().is_some(),
         Call::TransmitsOne => agent.poll_transmit(after(FIRST_TIMEOUT, turn)).is_some(),
+        Call::TransmitsOneWithin => {
+            let sent = agent.poll_transmit_within(after(FIRST_TIMEOUT, turn), ROOM);
+            matches!(sent, Ok(Some(_)))
+        }
         Call::TransmitsOfAll => agent.poll_transmit(after(FIRST_TIMEOUT, size)).is_some(),
         Call::EndsOne => !is_waiting(agent.poll(after(LAST_WAIT, turn))),
         Call::EndsOfAll => !is_waiting(agent.poll(after(LAST_WAIT, size))),
         Call::SendsLast => agent.send_request(bytes, address(0), moment(size)).is_ok(),
         Call::SendsFirst => agent.send_request(bytes, address(0), Instant::ZERO).is_ok(),
         Call::Responds => receives(agent, bytes, 0),
+        Call::RespondsWithTime => receives_at(agent, bytes, moment(size)),
         Call::RespondsToNone => !receives(agent, bytes, 0),
         Call::Receives => receives(agent, bytes, turn),
         _ => changes(agent, call, turn),
@@ -142,6 +158,14 @@ fn is_waiting(answer: StunAgentPollRet) -> bool {
 fn receives(agent: &mut StunAgent, bytes: &[u8], from: u32) -> bool {
     match Message::from_bytes(bytes) {
         Ok(message) => agent.handle_stun_message(&message, address(from)) == Ok(true),
+        Err(_) => false,
+    }
+}
+
+/// Shows the agent a message of its server, at a moment.
+fn receives_at(agent: &mut StunAgent, bytes: &[u8], now: Instant) -> bool {
+    match Message::from_bytes(bytes) {
+        Ok(message) => agent.handle_stun_message_with_time(&message, address(0), now) == Ok(true),
         Err(_) => false,
     }
 }

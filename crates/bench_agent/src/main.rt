@@ -1,4 +1,5 @@
-//! Makes one call of an agent or a server many times: the program whose instructions bench/agent.py counts.
+//! Makes one call of an agent or a server many times: the program whose instructions bench/agent.py
+//! counts.
 #![tactic(auto)]
 
 mod agent_calls;
@@ -9,8 +10,8 @@ use std::alloc::Global;
 use std::env;
 use std::process::ExitCode;
 
-/// Runs `CALL SIZE TIMES` and prints how many of the calls did what the row says: the call, how many requests are
-/// outstanding (or addresses known), and how often it is made.
+/// Runs `CALL SIZE TIMES` and prints how many of the calls did what the row says: the call, how
+/// many requests are outstanding (or addresses known), and how often it is made.
 fn main(rt: HostRuntime) -> ExitCode {
     let Some(done) = count_of(&rt, rt.alloc()) else {
         return ExitCode::FAILURE;

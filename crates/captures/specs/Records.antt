@@ -11,8 +11,8 @@ RECORD_LENGTH = 16
 abbrev pub BLOCK_LENGTH : ℕ
 BLOCK_LENGTH = 12
 
--- of a file of libpcap: the bytes of a packet follow the four numbers of its record, of which the third counts
--- them
+-- of a file of libpcap: the bytes of a packet follow the four numbers of its record, of which the
+-- third counts them
 abbrev pub packet_bytes : Order → List ℕ → List ℕ
 packet_bytes order bytes = take (number_in order 4 (drop 8 bytes)) (drop 16 bytes)
 

@@ -54,7 +54,8 @@ pub struct Block<'a> {
     pub rest: &'a [u8],
 }
 
-/// The order of the numbers of the block at the front: the section's, or its own where it begins one.
+/// The order of the numbers of the block at the front: the section's, or its own where it begins
+/// one.
 pub fn order_of(order: Order, bytes: &[u8]) -> Result<Order, Fault> {
     if number_32(order, bytes, 0) != Some(SECTION) {
         return Ok(order);

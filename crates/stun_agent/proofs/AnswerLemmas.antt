@@ -9,10 +9,13 @@ use Rattle.stun_agent.specs.Transactions.{Transaction, at}
 use Rattle.stun_agent.proofs.PeerLemmas.{same_address-exact}
 
 -- it is the one at its id
-pub answered_there : (bytes : List ℕ) (from : SocketAddr) (a : Agent) (t : Transaction) → answered bytes from a ≡ Some t → at (transaction_id_field bytes) a.transactions ≡ Some t
+pub answered_there : (bytes : List ℕ) (from : SocketAddr) (a : Agent) (t : Transaction)
+    → answered bytes from a ≡ Some t → at (transaction_id_field bytes) a.transactions ≡ Some t
 answered_there bytes from a t h = by (at (transaction_id_field bytes) a.transactions) h
   where
-    by_sender : (b : Bool) (u : Transaction) → ◌≡◌ {A = Option Transaction} (cond b (Some u) None) (Some t) → ◌≡◌ {A = Option Transaction} (Some u) (Some t)
+    by_sender : (b : Bool) (u : Transaction)
+        → ◌≡◌ {A = Option Transaction} (cond b (Some u) None) (Some t)
+        → ◌≡◌ {A = Option Transaction} (Some u) (Some t)
     by_sender true u h = h
     by_sender false u h = cc
 
@@ -21,13 +24,18 @@ answered_there bytes from a t h = by (at (transaction_id_field bytes) a.transact
     by (Some u) h = by_sender (same_address from u.to) u h
 
 -- an unknown transaction is not answered
-pub unknown_unanswered : (bytes : List ℕ) (from : SocketAddr) (a : Agent) → at (transaction_id_field bytes) a.transactions ≡ None → answered bytes from a ≡ None
+pub unknown_unanswered : (bytes : List ℕ) (from : SocketAddr) (a : Agent)
+    → at (transaction_id_field bytes) a.transactions ≡ None → answered bytes from a ≡ None
 unknown_unanswered bytes from a none = ap (went_to from) none
 
 -- nor one whose request went elsewhere
-pub elsewhere_unanswered : (bytes : List ℕ) (from : SocketAddr) (a : Agent) (t : Transaction) → at (transaction_id_field bytes) a.transactions ≡ Some t → from ≢ t.to → answered bytes from a ≡ None
-elsewhere_unanswered bytes from a t there apart = ap (went_to from) there ∙ by (same_address from t.to) refl
+pub elsewhere_unanswered : (bytes : List ℕ) (from : SocketAddr) (a : Agent) (t : Transaction)
+    → at (transaction_id_field bytes) a.transactions ≡ Some t → from ≢ t.to
+    → answered bytes from a ≡ None
+elsewhere_unanswered bytes from a t there apart =
+    ap (went_to from) there ∙ by (same_address from t.to) refl
   where
-    by : (b : Bool) → same_address from t.to ≡ b → ◌≡◌ {A = Option Transaction} (cond b (Some t) None) None
+    by : (b : Bool) → same_address from t.to ≡ b
+        → ◌≡◌ {A = Option Transaction} (cond b (Some t) None) None
     by true same = absurd (apart (same_address-exact from t.to same))
     by false other = refl

@@ -16,7 +16,8 @@ use Rattle.stun_agent.specs.Peers.{Peers, is_peer, with_peer, without_peer}
 use Rattle.stun_agent.proofs.AddressLemmas.{address_total, address_exact}
 
 -- what `insert` answers where the address was there
-pub same_peers : (was added : Bool) (peers new : Peers) → added ≡ not was → OnFalse added (new ≡ peers) → IsTrue was → new ≡ peers
+pub same_peers : (was added : Bool) (peers new : Peers) → added ≡ not was
+    → OnFalse added (new ≡ peers) → IsTrue was → new ≡ peers
 same_peers true true peers new is stays there = cc
 same_peers true false peers new is stays there = stays
 same_peers false added peers new is stays there = cc
@@ -35,18 +36,26 @@ turned false false r = refl
 -- addresses that tie are told from others alike
 same_to : (a x b : SocketAddr) → address_cmp a x ≡ Equal → same_address b a ≡ same_address b x
 same_to a x b tie =
-    ap is_eq (address_total.antisymm b a ∙ ap ordering_reverse (address_total.congr a x b tie) ∙ sym (address_total.antisymm b x))
+    ap is_eq
+    (address_total.antisymm b a ∙ ap ordering_reverse (address_total.congr a x b tie)
+    ∙ sym (address_total.antisymm b x))
 
 -- an address is there once it is put in, and no other comes
-pub is_peer-with_peer : (a b : SocketAddr) (peers : Peers) → is_peer b (with_peer a peers) ≡ (same_address b a || is_peer b peers)
+pub is_peer-with_peer : (a b : SocketAddr) (peers : Peers)
+    → is_peer b (with_peer a peers) ≡ (same_address b a || is_peer b peers)
 is_peer-with_peer a b [] = refl
 is_peer-with_peer a b (x ∷ xs) = by (address_cmp a x) refl (is_peer-with_peer a b xs)
   where
-    by : (r : Ordering) → address_cmp a x ≡ r → is_peer b (with_peer a xs) ≡ (same_address b a || is_peer b xs)
-        → is_peer b (match_ordering r (a ∷ x ∷ xs) (x ∷ xs) (x ∷ with_peer a xs)) ≡ (same_address b a || (same_address b x || is_peer b xs))
+    by : (r : Ordering) → address_cmp a x ≡ r
+        → is_peer b (with_peer a xs) ≡ (same_address b a || is_peer b xs)
+        → is_peer b (match_ordering r (a ∷ x ∷ xs) (x ∷ xs) (x ∷ with_peer a xs))
+        ≡ (same_address b a || (same_address b x || is_peer b xs))
     by Less is rest = refl
-    by Equal is rest = ap (λ s. s || is_peer b xs) (sym (same_to a x b is)) ∙ twice (same_address b a) (is_peer b xs) ∙ ap (λ s. same_address b a || (s || is_peer b xs)) (same_to a x b is)
-    by Greater is rest = ap (λ r. same_address b x || r) rest ∙ turned (same_address b x) (same_address b a) (is_peer b xs)
+    by Equal is rest = ap (λ s. s || is_peer b xs) (sym (same_to a x b is))
+        ∙ twice (same_address b a) (is_peer b xs)
+        ∙ ap (λ s. same_address b a || (s || is_peer b xs)) (same_to a x b is)
+    by Greater is rest = ap (λ r. same_address b x || r) rest
+        ∙ turned (same_address b x) (same_address b a) (is_peer b xs)
 
 pub same_address-exact : (a b : SocketAddr) → same_address a b ≡ true → a ≡ b
 same_address-exact a b h = by (address_cmp a b) refl h
@@ -71,7 +80,8 @@ same_address-told b x y told = by b (same_address x y) refl told
     by : (c s : Bool) → same_address x y ≡ s → (IsTrue c ↔ (x ≡ y)) → c ≡ s
     by true true is h = refl
     by false false is h = refl
-    by true false is h = let own : same_address x y ≡ true = subst (λ z. same_address x z ≡ true) (h.0 refl) (same_address-own x) in cc
+    by true false is h = let own : same_address x y ≡ true =
+        subst (λ z. same_address x z ≡ true) (h.0 refl) (same_address-own x) in cc
     by false true is h = let no : false ≡ true = h.1 (same_address-exact x y is) in cc
 
 -- ---- forgetting
@@ -88,7 +98,8 @@ pub is_peer-without_peer : (a b : SocketAddr) (peers : Peers)
     → is_peer b (without_peer a peers) ≡ (not (same_address b a) && is_peer b peers)
 is_peer-without_peer a b peers =
     any-filter_same (same_address b) (λ x. not (same_address a x)) (not (same_address b a))
-    (λ x is. ap (λ y. not (same_address a y)) (sym (same_address-exact b x is)) ∙ ap not (same_address-turned a b)) peers
+    (λ x is. ap (λ y. not (same_address a y)) (sym (same_address-exact b x is))
+    ∙ ap not (same_address-turned a b)) peers
 
 -- a test that no key passes takes none away
 all_kept : (t : SocketAddr → Bool) (peers : Peers) → list_any t peers ≡ false
@@ -112,12 +123,14 @@ remove_key-filter t [] none = refl
 remove_key-filter t (x ∷ xs) none = by (t x) refl (remove_key-filter t xs) none
   where
     by : (b : Bool) → t x ≡ b
-        → (list_any t (remove_key t xs) ≡ false → remove_key t xs ≡ filter (λ peer. not (t peer)) xs)
+        → (list_any t (remove_key t xs) ≡ false
+        → remove_key t xs ≡ filter (λ peer. not (t peer)) xs)
         → list_any t (cond b xs (x ∷ remove_key t xs)) ≡ false
         → cond b xs (x ∷ remove_key t xs)
         ≡ cond (not b) (x ∷ filter (λ peer. not (t peer)) xs) (filter (λ peer. not (t peer)) xs)
     by true is rest none = sym (all_kept t xs none)
-    by false is rest none = ap (λ ys. x ∷ ys) (rest (ap (λ b. b || list_any t (remove_key t xs)) (sym is) ∙ none))
+    by false is rest none =
+        ap (λ ys. x ∷ ys) (rest (ap (λ b. b || list_any t (remove_key t xs)) (sym is) ∙ none))
 
 -- the order that `SocketAddr` derives
 abbrev pub derived : SocketAddr → SocketAddr → Ordering
@@ -134,5 +147,7 @@ pub without_peer-removed : (a : SocketAddr) (old new : Peers)
     → new ≡ remove_key (λ x. is_eq (derived a x)) old
     → list_any (λ x. is_eq (derived a x)) new ≡ false → new ≡ without_peer a old
 without_peer-removed a old new removed none =
-    removed ∙ remove_key-filter (λ x. is_eq (derived a x)) old (ap (list_any (λ x. is_eq (derived a x))) (sym removed) ∙ none)
-    ∙ ap (λ (R : SocketAddr → SocketAddr → Ordering). filter (λ x. not (is_eq (R a x))) old) (λ i a b. by_cases a b i)
+    removed ∙ remove_key-filter (λ x. is_eq (derived a x)) old
+    (ap (list_any (λ x. is_eq (derived a x))) (sym removed) ∙ none)
+    ∙ ap (λ (R : SocketAddr → SocketAddr → Ordering). filter (λ x. not (is_eq (R a x))) old)
+    (λ i a b. by_cases a b i)

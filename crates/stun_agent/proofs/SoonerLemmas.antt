@@ -38,6 +38,7 @@ one_of (Some l) m n h = by (let same : min l m ≡ n = ap (λ o. option_map_or (
     ]
 
 -- the lesser one itself
-pub sooner_is : (c : Option ℕ) (m r : ℕ) → Some r ≡ sooner c m → r ≡ option_map_or (λ l. min l m) c m
+pub sooner_is : (c : Option ℕ) (m r : ℕ) → Some r ≡ sooner c m
+    → r ≡ option_map_or (λ l. min l m) c m
 sooner_is None m r h = ap (λ o. option_map_or (λ x. x) o r) h
 sooner_is (Some l) m r h = ap (λ o. option_map_or (λ x. x) o r) h

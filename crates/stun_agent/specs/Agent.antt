@@ -1,23 +1,33 @@
 -- An agent, and what each call makes of it (RFC 8489, sections 6.2 and 6.3).
-use Rattle.std.specs.Prelude.{ℕ, Bool, true, false, not, List, [], length, if◌then◌else◌, Option, Some, None}
+use Rattle.std.specs.Prelude.{ℕ, Bool, true, false, not, List, []}
+use Rattle.std.specs.Prelude.{length, if◌then◌else◌, Option, Some, None}
 use Rattle.std.specs.Option.{option_map_or, option_map, option_or, is_some}
 use Rattle.std.specs.declared.net.socket_addr.SocketAddr.{SocketAddr}
 use Rattle.stun_base.specs.declared.wire.message_type.MessageClass.{MessageClass}
-use Rattle.stun_base.specs.declared.wire.message_type.MessageClass.TheVariants.{Request, Indication, Success, Error}
+use Rattle.stun_base.specs.declared.wire.message_type.MessageClass.TheVariants.{Request, Indication}
+use Rattle.stun_base.specs.declared.wire.message_type.MessageClass.TheVariants.{Success, Error}
 use Rattle.stun_base.specs.declared.wire.transport.TransportType.{TransportType}
 use Rattle.stun_base.specs.Address.{same_address}
 use Rattle.stun_base.specs.Header.{transaction_id_field, header_refusal}
 use Rattle.stun_base.specs.MessageType.{class_in, is_request}
 use Rattle.stun_agent.specs.declared.agent.StunAgentPollRet.{StunAgentPollRet}
-use Rattle.stun_agent.specs.declared.agent.StunAgentPollRet.TheVariants.{TransactionTimedOut, TransactionCancelled, WaitUntil}
+use Rattle.stun_agent.specs.declared.agent.StunAgentPollRet.TheVariants.{TransactionTimedOut}
+use Rattle.stun_agent.specs.declared.agent.StunAgentPollRet.TheVariants.{TransactionCancelled}
+use Rattle.stun_agent.specs.declared.agent.StunAgentPollRet.TheVariants.{WaitUntil}
 use Rattle.stun_agent.specs.declared.error.StunError.{StunError}
-use Rattle.stun_agent.specs.declared.error.StunError.TheVariants.{AlreadyInProgress, ProtocolViolation, ParseError}
+use Rattle.stun_agent.specs.declared.error.StunError.TheVariants.{AlreadyInProgress}
+use Rattle.stun_agent.specs.declared.error.StunError.TheVariants.{ProtocolViolation, ParseError}
 use Rattle.stun_agent.specs.Datagrams.{Datagram}
 use Rattle.stun_agent.specs.Integrity.{signing_algorithm}
 use Rattle.stun_agent.specs.Peers.{Peers, with_peer, without_peer}
-use Rattle.stun_agent.specs.Statistics.{Statistics, Tally, new_statistics, counted, request_sent, request_sent_again, response_sent, indication_sent, request_received, response_received, indication_received, timed_out as one_timed_out, cancelled as one_cancelled}
+use Rattle.stun_agent.specs.Statistics.{Statistics, Tally, new_statistics, counted, request_sent}
+use Rattle.stun_agent.specs.Statistics.{request_sent_again, response_sent, indication_sent}
+use Rattle.stun_agent.specs.Statistics.{request_received, response_received, indication_received}
+use Rattle.stun_agent.specs.Statistics.{timed_out as one_timed_out, cancelled as one_cancelled}
 use Rattle.stun_agent.specs.Timing.{Settings, default_settings}
-use Rattle.stun_agent.specs.Transactions.{Transaction, Transactions, repeats, new_transaction, at, with, without, first_over, wake_up, next_sent, after_slots, round_trip}
+use Rattle.stun_agent.specs.Transactions.{Transaction, Transactions, repeats}
+use Rattle.stun_agent.specs.Transactions.{new_transaction, at, with, without, first_over}
+use Rattle.stun_agent.specs.Transactions.{wake_up, next_sent, after_slots, round_trip}
 
 -- an agent. It counts where it has statistics
 pub record Agent : Type 0 where
@@ -98,18 +108,21 @@ request_refusal agent bytes to =
     option_map_or (λ error. Some (ParseError error)) (header_refusal bytes)
     (if is_request (class_in bytes) then
     (if is_elsewhere agent to then Some ProtocolViolation else
-    (if is_some (at (transaction_id_field bytes) agent.transactions) then Some AlreadyInProgress else None))
+    (if is_some (at (transaction_id_field bytes) agent.transactions) then Some AlreadyInProgress
+    else None))
     else Some ProtocolViolation)
 
 -- the transaction of a request
 abbrev pub request_of : Agent → List ℕ → SocketAddr → ℕ → Transaction
-request_of agent bytes to now = new_transaction bytes to (signing_algorithm bytes) agent.settings now
+request_of agent bytes to now =
+    new_transaction bytes to (signing_algorithm bytes) agent.settings now
 
 -- the agent after it has sent a request, which is then outstanding
 abbrev pub after_send_request : Agent → List ℕ → SocketAddr → ℕ → Agent
 after_send_request agent bytes to now =
     tallied (request_sent (length bytes))
-    (with_transactions agent (with (transaction_id_field bytes) (request_of agent bytes to now) agent.transactions))
+    (with_transactions agent
+    (with (transaction_id_field bytes) (request_of agent bytes to now) agent.transactions))
 
 -- what is sent of a transaction: bytes, transport, and the addresses from and to
 abbrev pub datagram_of : Agent → Transaction → Datagram
@@ -121,16 +134,19 @@ abbrev pub went_to : SocketAddr → Option Transaction → Option Transaction
 went_to address None = None
 went_to address (Some t) = if same_address address t.to then Some t else None
 
--- the outstanding request that a response answers: that of its transaction, where it went to the sender
+-- the outstanding request that a response answers: that of its transaction, where it went to the
+-- sender
 abbrev pub answered : List ℕ → SocketAddr → Agent → Option Transaction
 answered bytes from agent = went_to from (at (transaction_id_field bytes) agent.transactions)
 
--- a response ends the request that it answers and validates its sender, and changes nothing where it answers none
+-- a response ends the request that it answers and validates its sender, and changes nothing where
+-- it answers none
 abbrev pub after_response : Option ℕ → List ℕ → SocketAddr → Agent → Agent
 after_response moment bytes from agent =
     option_map_or
     (λ t. tallied (response_received (length bytes) (round_trip moment t))
-    (with_validated from (with_transactions agent (without (transaction_id_field bytes) agent.transactions))))
+    (with_validated from
+    (with_transactions agent (without (transaction_id_field bytes) agent.transactions))))
     (answered bytes from agent)
     agent
 
@@ -143,8 +159,10 @@ takes Error bytes from agent = is_some (answered bytes from agent)
 
 -- the agent after a message, by its class
 abbrev pub after_class : MessageClass → Option ℕ → List ℕ → SocketAddr → Agent → Agent
-after_class Request moment bytes from agent = tallied (request_received (length bytes)) (with_validated from agent)
-after_class Indication moment bytes from agent = tallied (indication_received (length bytes)) (with_validated from agent)
+after_class Request moment bytes from agent =
+    tallied (request_received (length bytes)) (with_validated from agent)
+after_class Indication moment bytes from agent =
+    tallied (indication_received (length bytes)) (with_validated from agent)
 after_class Success moment bytes from agent = after_response moment bytes from agent
 after_class Error moment bytes from agent = after_response moment bytes from agent
 
@@ -157,7 +175,8 @@ abbrev pub after_message : Option ℕ → List ℕ → SocketAddr → Agent → 
 after_message moment bytes from agent = after_class (class_in bytes) moment bytes from agent
 
 -- ---- ends
--- how a transaction ends that no response took: cancelled where its user has stopped its retransmissions or itself
+-- how a transaction ends that no response took: cancelled where its user has stopped its
+-- retransmissions or itself
 abbrev pub end_of : ℕ × Transaction → StunAgentPollRet
 end_of e = if repeats e.1.sending then TransactionTimedOut e.0 else TransactionCancelled e.0
 
@@ -172,12 +191,15 @@ ended_by_poll now agent = first_over agent.transport now agent.transactions
 -- what a poll answers: the end, or until when to wait
 abbrev pub poll_answer : ℕ → Agent → StunAgentPollRet
 poll_answer now agent =
-    option_map_or end_of (ended_by_poll now agent) (WaitUntil (wake_up agent.transport now agent.transactions))
+    option_map_or end_of (ended_by_poll now agent)
+    (WaitUntil (wake_up agent.transport now agent.transactions))
 
 -- the agent after a poll
 abbrev pub after_poll : ℕ → Agent → Agent
 after_poll now agent =
-    option_map_or (λ e. tallied (tally_of_end e.1) (with_transactions agent (without e.0 agent.transactions))) (ended_by_poll now agent) agent
+    option_map_or
+    (λ e. tallied (tally_of_end e.1) (with_transactions agent (without e.0 agent.transactions)))
+    (ended_by_poll now agent) agent
 
 -- ---- retransmission
 -- the one that is sent again: of the least id among those that are due and repeat
@@ -186,10 +208,13 @@ sent_by_poll now agent = next_sent agent.transport now agent.transactions
 
 -- what sending again counts
 abbrev pub tally_of_sent : Option (ℕ × Transaction) → Agent → Agent
-tally_of_sent sent agent = option_map_or (λ e. tallied (request_sent_again (length e.1.bytes)) agent) sent agent
+tally_of_sent sent agent =
+    option_map_or (λ e. tallied (request_sent_again (length e.1.bytes)) agent) sent agent
 
 -- the agent after a poll for transmissions
 abbrev pub after_poll_transmit : ℕ → Agent → Agent
 after_poll_transmit now agent =
     tally_of_sent (sent_by_poll now agent)
-    (with_transactions agent (after_slots agent.transport now (option_map (λ e. e.0) (sent_by_poll now agent)) agent.transactions))
+    (with_transactions agent
+    (after_slots agent.transport now (option_map (λ e. e.0) (sent_by_poll now agent))
+    agent.transactions))

@@ -10,13 +10,20 @@ use Rattle.stun_agent.specs.contracts.stats.StunAgentStats.{the_row as stats_row
 
 -- the agent that was lent ends as `after`
 abbrev pub ends_as : (A : RattleType) → alloc.Ghosts A.Denot → MutBor Agent → Agent → Fml
-ends_as A heap agent after = follows_so (the_row A heap) (the_row A heap) agent.ghost_name none (λ _ _. ⊤) (λ n. n ≡ after)
+ends_as A heap agent after =
+    follows_so (the_row A heap) (the_row A heap) agent.ghost_name none (λ _ _. ⊤) (λ n. n ≡ after)
 
 -- the same after an `Ok`, and as before after an `Err`
-abbrev pub ends_if_ok_as : {T E : Type 0} → (A : RattleType) → alloc.Ghosts A.Denot → MutBor Agent → Result T E → Agent → Fml
+abbrev pub ends_if_ok_as : {T E : Type 0} → (A : RattleType) → alloc.Ghosts A.Denot → MutBor Agent
+    → Result T E → Agent → Fml
 ends_if_ok_as A heap agent answer after =
-    follows_so (the_row A heap) (the_row A heap) agent.ghost_name none (λ _ _. ⊤) (λ n. MatchResult answer (λ _. n ≡ after) (λ _. n ≡ agent.now))
+    follows_so (the_row A heap) (the_row A heap) agent.ghost_name none (λ _ _. ⊤)
+    (λ n. MatchResult answer (λ _. n ≡ after) (λ _. n ≡ agent.now))
 
--- the agent ends with the statistics that are left after what it lent, and as it was where it has none
-abbrev pub lends_statistics : (A : RattleType) → alloc.Ghosts A.Denot → MutBor Agent → Option (MutBor Statistics) → Fml
-lends_statistics A heap agent lent = LendsIf (the_row A heap) stats_row agent lent (λ stats. record agent.now { statistics = Some stats }) agent.now
+-- the agent ends with the statistics that are left after what it lent, and as it was where it has
+-- none
+abbrev pub lends_statistics : (A : RattleType) → alloc.Ghosts A.Denot → MutBor Agent
+    → Option (MutBor Statistics) → Fml
+lends_statistics A heap agent lent =
+    LendsIf (the_row A heap) stats_row agent lent
+    (λ stats. record agent.now { statistics = Some stats }) agent.now

@@ -29,5 +29,6 @@ datagram t = (data_bytes t.«data», t.transport, t.from, t.to)
 -- the text of so many bytes that a transport carries between two addresses
 abbrev pub text_of_datagram : TransportType → SocketAddr → SocketAddr → ℕ → List ℕ
 text_of_datagram transport from to count =
-    codes "Transmit(" ++ name_of transport ++ codes ": " ++ socket_text from ++ codes " -> " ++ socket_text to ++ codes " of "
+    codes "Transmit(" ++ name_of transport ++ codes ": " ++ socket_text from ++ codes " -> "
+    ++ socket_text to ++ codes " of "
     ++ decimal count ++ codes " bytes)"

@@ -12,7 +12,8 @@ abbrev pub early_requests : TransportType → ℕ → Transactions → ℕ
 early_requests transport now all = count_by (λ e. is_early transport now e.1) all
 
 -- how often a poll reads at most, however many requests there are: the index itself, and a path in
--- each of two trees. A path halves the ids at each node: one for each of their 96 bits, and one more
+-- each of two trees. A path halves the ids at each node: one for each of their 96 bits, and one
+-- more
 abbrev pub most_reads : ℕ
 most_reads = 1 + 2 * (96 + 1)
 

@@ -1,14 +1,19 @@
--- What holds of an agent whatever is done to it, moments that go back included (RFC 8489, section 6.2).
-use Rattle.std.specs.Prelude.{◌≡◌, ◌≢◌, ◌≤◌, ◌<◌, ◌+◌, ℕ, false, max, List, [], Option, Some, None, IfSome, length}
+-- What holds of an agent whatever is done to it, moments that go back included (RFC 8489, section
+-- 6.2).
+use Rattle.std.specs.Prelude.{◌≡◌, ◌≢◌, ◌≤◌, ◌<◌, ◌+◌, ℕ, false, max, List}
+use Rattle.std.specs.Prelude.{[], Option, Some, None, IfSome, length}
 use Rattle.std.specs.declared.net.socket_addr.SocketAddr.{SocketAddr}
 use Rattle.stun_base.specs.Header.{transaction_id_field}
 use Rattle.stun_base.specs.MessageType.{IsResponse, class_in}
 use Rattle.stun_base.specs.Moments.{moment_after}
 use Rattle.stun_base.specs.declared.wire.transport.TransportType.TheVariants.{Udp, Tcp}
 use Rattle.stun_agent.specs.declared.agent.StunAgentPollRet.TheVariants.{WaitUntil}
-use Rattle.stun_agent.specs.Agent.{Agent, takes_message, after_message, poll_answer, after_poll, ended_by_poll, sent_by_poll, request_refusal, after_send_request}
+use Rattle.stun_agent.specs.Agent.{Agent, takes_message, after_message, poll_answer, after_poll}
+use Rattle.stun_agent.specs.Agent.{ended_by_poll, sent_by_poll, request_refusal, after_send_request}
 use Rattle.stun_agent.specs.Statistics.{LeavesOutstanding, IsNotFull}
-use Rattle.stun_agent.specs.Calls.{AgentCall, after_agent_call, after_agent_calls, is_outstanding, begins, ends, once, count, repetitions_until_end, most_transmissions_allowed}
+use Rattle.stun_agent.specs.Calls.{AgentCall, after_agent_call, after_agent_calls}
+use Rattle.stun_agent.specs.Calls.{is_outstanding, begins, ends, once, count}
+use Rattle.stun_agent.specs.Calls.{repetitions_until_end, most_transmissions_allowed}
 use Rattle.stun_agent.specs.Timing.{Settings, timeout, planned_end}
 use Rattle.stun_agent.specs.Transactions.{Transaction, at, an_hour}
 
@@ -46,24 +51,28 @@ IgnoresUnknown =
 abbrev pub IgnoresElsewhere : Type 0
 IgnoresElsewhere =
     (moment : Option ℕ) (bytes : List ℕ) (from : SocketAddr) (agent : Agent) (t : Transaction)
-    → IsResponse (class_in bytes) → at (transaction_id_field bytes) agent.transactions ≡ Some t → from ≢ t.to
+    → IsResponse (class_in bytes) → at (transaction_id_field bytes) agent.transactions ≡ Some t
+    → from ≢ t.to
     → (takes_message bytes from agent ≡ false) × (after_message moment bytes from agent ≡ agent)
 
 -- a request ends over UDP and over TCP at the same moment
 abbrev pub EndsAlike : Type 0
-EndsAlike = (settings : Settings) (start : ℕ) → planned_end Udp settings start ≡ planned_end Tcp settings start
+EndsAlike = (settings : Settings) (start : ℕ)
+    → planned_end Udp settings start ≡ planned_end Tcp settings start
 
 -- over any calls, each request that was taken is outstanding or has ended once
 abbrev pub EndsOnce : Type 0
 EndsOnce =
     (id : ℕ) (calls : List AgentCall) (start : Agent) → start.transactions ≡ []
-    → count begins id calls start ≡ count ends id calls start + once (is_outstanding id (after_agent_calls calls start))
+    → count begins id calls start
+    ≡ count ends id calls start + once (is_outstanding id (after_agent_calls calls start))
 
--- from a request that is sent at a moment over any calls until it ends, it is transmitted no more often than its settings
--- ever allow, and over TCP once
+-- from a request that is sent at a moment over any calls until it ends, it is transmitted no more
+-- often than its settings ever allow, and over TCP once
 abbrev pub IsTransmittedAtMost : Type 0
 IsTransmittedAtMost =
-    (earlier later : List AgentCall) (start : Agent) (bytes : List ℕ) (to : SocketAddr) (now : ℕ) → start.transactions ≡ []
+    (earlier later : List AgentCall) (start : Agent) (bytes : List ℕ) (to : SocketAddr) (now : ℕ)
+    → start.transactions ≡ []
     → request_refusal (after_agent_calls earlier start) bytes to ≡ None
     → let begun = after_send_request (after_agent_calls earlier start) bytes to now in
     let id = transaction_id_field bytes in
@@ -75,4 +84,6 @@ abbrev pub KeepsCount : Type 0
 KeepsCount =
     (call : AgentCall) (agent : Agent)
     → IfSome agent.statistics (λ stats. LeavesOutstanding stats (length agent.transactions))
-    → IfSome (after_agent_call call agent).statistics (λ stats. IsNotFull stats → LeavesOutstanding stats (length (after_agent_call call agent).transactions))
+    → IfSome (after_agent_call call agent).statistics
+    (λ stats. IsNotFull stats
+    → LeavesOutstanding stats (length (after_agent_call call agent).transactions))

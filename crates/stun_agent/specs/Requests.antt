@@ -24,11 +24,14 @@ pub record StaysWith {A : Type 0} (old new : StunRequestMut A) (all : Transactio
   pub integrity : new.integrity ≡ old.integrity
 
 -- the agent ends as the request leaves it, and as it was where there is none
-abbrev pub rests : (A : RattleType) → alloc.Ghosts A.Denot → MutBor Agent → Option (StunRequestMut A.Denot) → Fml
-rests A heap agent request = RestsIfNone (the_row A heap) agent (λ r. r.agent.ghost_name) request (λ n. n ≡ agent.now)
+abbrev pub rests : (A : RattleType) → alloc.Ghosts A.Denot → MutBor Agent
+    → Option (StunRequestMut A.Denot) → Fml
+rests A heap agent request =
+    RestsIfNone (the_row A heap) agent (λ r. r.agent.ghost_name) request (λ n. n ≡ agent.now)
 
 -- the request ends with the agent that is left after the one that it lent
-abbrev pub lends_agent : (A : RattleType) → alloc.Ghosts A.Denot → MutBor (StunRequestMut A.Denot) → MutBor Agent → Fml
+abbrev pub lends_agent : (A : RattleType) → alloc.Ghosts A.Denot → MutBor (StunRequestMut A.Denot)
+    → MutBor Agent → Fml
 lends_agent A heap request lent =
     Lends (request_row (record { mir = named 1; lft = [] }) A heap) (the_row A heap) request lent
     (λ agent. record request.now { agent = record request.now.agent { now = agent } })

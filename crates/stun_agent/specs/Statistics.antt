@@ -1,5 +1,7 @@
 -- What an agent counts: messages, bytes, ends of requests (RFC 8489, section 6.2) and round trips.
-use Rattle.std.specs.Prelude.{ℕ, ◌+◌, ◌-◌, ◌/◌, ◌^◌, ◌<◌, ◌≡◌, ◌==◌, if◌then◌else◌, List, [], ◌++◌, length, sum, sum_by, fold, min, max, Option, Some, None, option_to_list, ◌≤◌, MatchOption, Contains, All}
+use Rattle.std.specs.Prelude.{ℕ, ◌+◌, ◌-◌, ◌/◌, ◌^◌, ◌<◌, ◌≡◌, ◌==◌, if◌then◌else◌, List}
+use Rattle.std.specs.Prelude.{[], ◌++◌, length, sum, sum_by, fold, min, max, Option, Some}
+use Rattle.std.specs.Prelude.{None, option_to_list, ◌≤◌, MatchOption, Contains, All}
 use Rattle.std.specs.List.{flat_map}
 use Rattle.std.specs.Option.{option_map_or}
 
@@ -91,7 +93,11 @@ request_received bytes = record no_tally { requests_received = 1; bytes_received
 -- a response to an outstanding request, a success or an error, and the round trip where it is known
 abbrev pub response_received : ℕ → Option ℕ → Tally
 response_received bytes round_trip =
-    record no_tally { responses_received = 1; bytes_received = bytes; round_trips = option_to_list round_trip }
+    record no_tally {
+      responses_received = 1;
+      bytes_received = bytes;
+      round_trips = option_to_list round_trip;
+    }
 
 abbrev pub indication_received : ℕ → Tally
 indication_received bytes = record no_tally { indications_received = 1; bytes_received = bytes }
@@ -139,15 +145,18 @@ least first others = fold (λ found other. Some (option_map_or (min other) found
 
 -- the greatest among them
 abbrev pub greatest : Option ℕ → List ℕ → Option ℕ
-greatest first others = fold (λ found other. Some (option_map_or (max other) found other)) first others
+greatest first others =
+    fold (λ found other. Some (option_map_or (max other) found other)) first others
 
 -- the least of these, and nothing where there are none
 abbrev pub IsLeast : List ℕ → Option ℕ → Type 0
-IsLeast numbers found = MatchOption found (numbers ≡ []) (λ m. Contains numbers m × All (λ n. m ≤ n) numbers)
+IsLeast numbers found =
+    MatchOption found (numbers ≡ []) (λ m. Contains numbers m × All (λ n. m ≤ n) numbers)
 
 -- the greatest of these, and nothing where there are none
 abbrev pub IsGreatest : List ℕ → Option ℕ → Type 0
-IsGreatest numbers found = MatchOption found (numbers ≡ []) (λ m. Contains numbers m × All (λ n. n ≤ m) numbers)
+IsGreatest numbers found =
+    MatchOption found (numbers ≡ []) (λ m. Contains numbers m × All (λ n. n ≤ m) numbers)
 
 -- the statistics once this is counted too
 abbrev pub counted : Tally → Statistics → Statistics
@@ -171,19 +180,22 @@ counted tally old =
 
 -- the mean round trip in nanoseconds, rounded down, where there is one
 abbrev pub average : Statistics → Option ℕ
-average statistics = if statistics.rtt_count == 0 then None else Some (statistics.rtt_total / statistics.rtt_count)
+average statistics =
+    if statistics.rtt_count == 0 then None else Some (statistics.rtt_total / statistics.rtt_count)
 
 -- the requests that neither a response nor an end has met
 abbrev pub outstanding_requests : Statistics → ℕ
 outstanding_requests statistics =
     statistics.requests_sent
-    - (statistics.responses_received + statistics.transactions_timed_out + statistics.transactions_cancelled)
+    - (statistics.responses_received + statistics.transactions_timed_out
+    + statistics.transactions_cancelled)
 
 -- of the requests sent, n have met neither a response, nor a time-out, nor a cancellation
 abbrev pub LeavesOutstanding : Statistics → ℕ → Type 0
 LeavesOutstanding statistics n =
     statistics.requests_sent
-    ≡ statistics.responses_received + statistics.transactions_timed_out + statistics.transactions_cancelled + n
+    ≡ statistics.responses_received + statistics.transactions_timed_out
+    + statistics.transactions_cancelled + n
 
 -- none of the counters of requests and their ends is at its greatest
 pub record IsNotFull (statistics : Statistics) : Type 0 where

@@ -1,4 +1,5 @@
--- When a request is sent again, and when it ends (RFC 8489, sections 6.2.1 and 6.2.2). Spans are in nanoseconds.
+-- When a request is sent again, and when it ends (RFC 8489, sections 6.2.1 and 6.2.2). Spans are in
+-- nanoseconds.
 use Rattle.std.specs.Prelude.{ℕ, zero, suc, ◌+◌, ◌-◌, ◌*◌, ◌^◌, min, max}
 use Rattle.std.specs.Duration.{as_nanos, max_nanos}
 use Rattle.stun_base.specs.Moments.{moment_after}
@@ -13,14 +14,26 @@ pub record Settings : Type 0 where
   pub transmissions : ℕ
   pub last_wait : ℕ
 
--- the settings of a request whose user has set none (section 6.2.1): 500 ms, no maximum, 7 transmissions, and 8 s
+-- the settings of a request whose user has set none (section 6.2.1): 500 ms, no maximum, 7
+-- transmissions, and 8 s
 abbrev pub default_settings : Settings
-default_settings = record { initial = 500_000_000; maximum = max_nanos; transmissions = 7; last_wait = 8_000_000_000 }
+default_settings =
+    record {
+      initial = 500_000_000;
+      maximum = max_nanos;
+      transmissions = 7;
+      last_wait = 8_000_000_000;
+    }
 
 -- the settings that a `RequestRto` holds
 abbrev pub settings_of : RequestRto → Settings
 settings_of rto =
-    record { initial = as_nanos rto.initial; maximum = as_nanos rto.max; transmissions = rto.retransmits; last_wait = as_nanos rto.last_retransmit }
+    record {
+      initial = as_nanos rto.initial;
+      maximum = as_nanos rto.max;
+      transmissions = rto.retransmits;
+      last_wait = as_nanos rto.last_retransmit;
+    }
 
 -- the wait after transmission i, counted from 0: it doubles each time, up to the maximum
 abbrev pub timeout : Settings → ℕ → ℕ
@@ -43,10 +56,12 @@ slots Tcp settings = 0
 -- the wait after the last transmission. A reliable transport sends once, and waits as long in all
 abbrev pub final_wait : TransportType → Settings → ℕ
 final_wait Udp settings = settings.last_wait
-final_wait Tcp settings = min (settings.last_wait + sum_of_timeouts settings (repetitions settings)) max_nanos
+final_wait Tcp settings =
+    min (settings.last_wait + sum_of_timeouts settings (repetitions settings)) max_nanos
 
--- the end of a request that is sent at a moment and never answered, and whose agent is asked at each moment that it awaits: all
--- timeouts have passed, and the final wait
+-- the end of a request that is sent at a moment and never answered, and whose agent is asked at
+-- each moment that it awaits: all timeouts have passed, and the final wait
 abbrev pub planned_end : TransportType → Settings → ℕ → ℕ
 planned_end transport settings start =
-    moment_after start (sum_of_timeouts settings (slots transport settings) + final_wait transport settings)
+    moment_after start
+    (sum_of_timeouts settings (slots transport settings) + final_wait transport settings)

@@ -1,5 +1,7 @@
 -- Requests that wait for their responses (RFC 8489, section 6.2).
-use Rattle.std.specs.Prelude.{◌≡◌, ℕ, ◌+◌, ◌-◌, ◌*◌, ◌==◌, Bool, true, false, not, ◌&&◌, ◌||◌, nat_lt, nat_le, if◌then◌else◌, List, Option, Some, None, map, fold, find, filter, min, max}
+use Rattle.std.specs.Prelude.{◌≡◌, ℕ, ◌+◌, ◌-◌, ◌*◌, ◌==◌, Bool, true, false, not}
+use Rattle.std.specs.Prelude.{◌&&◌, ◌||◌, nat_lt, nat_le, if◌then◌else◌, List}
+use Rattle.std.specs.Prelude.{Option, Some, None, map, fold, find, filter, min, max}
 use Rattle.std.specs.Option.{option_map, option_map_or}
 use Rattle.std.specs.declared.net.socket_addr.SocketAddr.{SocketAddr}
 use Rattle.std.specs.Ordering.{nat_cmp}
@@ -12,11 +14,12 @@ use Rattle.stun_base.specs.Moments.{moment_after}
 use Rattle.stun_base.specs.declared.keys.algorithm.IntegrityAlgorithm.{IntegrityAlgorithm}
 use Rattle.stun_base.specs.declared.wire.transport.TransportType.{TransportType}
 use Rattle.stun_agent.specs.declared.state.transaction.Sending.{Sending}
-use Rattle.stun_agent.specs.declared.state.transaction.Sending.TheVariants.{Repeats, Silent, Cancelled}
+use Rattle.stun_agent.specs.declared.state.transaction.Sending.TheVariants.{Repeats, Silent}
+use Rattle.stun_agent.specs.declared.state.transaction.Sending.TheVariants.{Cancelled}
 use Rattle.stun_agent.specs.Timing.{Settings, timeout, slots, final_wait}
 
--- a request that waits for its response. `slot` counts the timeouts that have passed, `last` is the moment of the last
--- one, at first that of sending, and `sending` says what is still sent of it
+-- a request that waits for its response. `slot` counts the timeouts that have passed, `last` is the
+-- moment of the last one, at first that of sending, and `sending` says what is still sent of it
 pub record Transaction : Type 0 where
   pub bytes : List ℕ
   pub to : SocketAddr
@@ -47,9 +50,18 @@ after_silence Cancelled = Cancelled
 
 -- ---- one transaction
 -- a request that is sent for the first time
-abbrev pub new_transaction : List ℕ → SocketAddr → Option IntegrityAlgorithm → Settings → ℕ → Transaction
+abbrev pub new_transaction : List ℕ → SocketAddr → Option IntegrityAlgorithm → Settings → ℕ
+    → Transaction
 new_transaction bytes to integrity settings now =
-    record { bytes = bytes; to = to; integrity = integrity; settings = settings; slot = 0; last = now; sending = Repeats }
+    record {
+      bytes = bytes;
+      to = to;
+      integrity = integrity;
+      settings = settings;
+      slot = 0;
+      last = now;
+      sending = Repeats;
+    }
 
 -- it is not sent again
 abbrev pub silenced : Transaction → Transaction
@@ -73,15 +85,19 @@ has_slots transport t = nat_lt t.slot (slots transport t.settings)
 
 -- the moment at which it is sent again, or ends
 abbrev pub awaited : TransportType → Transaction → ℕ
-awaited transport t = moment_after t.last (if has_slots transport t then timeout t.settings t.slot else final_wait transport t.settings)
+awaited transport t =
+    moment_after t.last
+    (if has_slots transport t then timeout t.settings t.slot else final_wait transport t.settings)
 
 -- its next timeout has passed
 abbrev pub is_due : TransportType → ℕ → Transaction → Bool
-is_due transport now t = not (is_cancelled t.sending) && (has_slots transport t && nat_le (awaited transport t) now)
+is_due transport now t =
+    not (is_cancelled t.sending) && (has_slots transport t && nat_le (awaited transport t) now)
 
 -- it is over: it ends at the next poll that comes to it
 abbrev pub is_over : TransportType → ℕ → Transaction → Bool
-is_over transport now t = is_cancelled t.sending || (not (has_slots transport t) && nat_le (awaited transport t) now)
+is_over transport now t =
+    is_cancelled t.sending || (not (has_slots transport t) && nat_le (awaited transport t) now)
 
 -- the round trip of a response that is taken at a moment: only before any timeout has passed
 abbrev pub round_trip : Option ℕ → Transaction → Option ℕ
@@ -137,11 +153,13 @@ an_hour = 3600 * 1_000_000_000
 
 -- the least awaited moment, or in an hour, and never before `now`
 abbrev pub wake_up : TransportType → ℕ → Transactions → ℕ
-wake_up transport now all = max now (fold min (moment_after now an_hour) (map (λ e. awaited transport e.1) all))
+wake_up transport now all =
+    max now (fold min (moment_after now an_hour) (map (λ e. awaited transport e.1) all))
 
 -- the moments that those which are not cancelled await
 abbrev pub awaited_moments : TransportType → Transactions → List ℕ
-awaited_moments transport all = map (λ e. awaited transport e.1) (filter (λ e. not (is_cancelled e.1.sending)) all)
+awaited_moments transport all =
+    map (λ e. awaited transport e.1) (filter (λ e. not (is_cancelled e.1.sending)) all)
 
 -- the lesser of a moment that may be there and another one
 abbrev pub sooner : Option ℕ → ℕ → Option ℕ
@@ -163,7 +181,8 @@ is_reached sent id = option_map_or (λ last. nat_le id last) sent true
 
 -- a due one up to the one that is sent takes its slot
 abbrev pub slot_passed : TransportType → ℕ → Option ℕ → ℕ × Transaction → Transaction
-slot_passed transport now sent e = if is_reached sent e.0 && is_due transport now e.1 then after_slot now e.1 else e.1
+slot_passed transport now sent e =
+    if is_reached sent e.0 && is_due transport now e.1 then after_slot now e.1 else e.1
 
 -- all of them once the due slots are passed
 abbrev pub after_slots : TransportType → ℕ → Option ℕ → Transactions → Transactions

@@ -1,19 +1,27 @@
--- What calls add to the statistics of an agent: a tally a call, by what the agent held before it (RFC 8489, section 6.2).
+-- What calls add to the statistics of an agent: a tally a call, by what the agent held before it
+-- (RFC 8489, section 6.2).
 use Rattle.std.specs.Prelude.{ℕ, ◌≡◌, if◌then◌else◌, List, [], ◌∷◌, length, Option, Some, None}
 use Rattle.std.specs.Option.{option_map_or, is_some}
 use Rattle.std.specs.declared.net.socket_addr.SocketAddr.{SocketAddr}
 use Rattle.stun_base.specs.declared.wire.message_type.MessageClass.{MessageClass}
-use Rattle.stun_base.specs.declared.wire.message_type.MessageClass.TheVariants.{Request, Indication, Success, Error}
+use Rattle.stun_base.specs.declared.wire.message_type.MessageClass.TheVariants.{Request, Indication}
+use Rattle.stun_base.specs.declared.wire.message_type.MessageClass.TheVariants.{Success, Error}
 use Rattle.stun_base.specs.MessageType.{class_in}
-use Rattle.stun_agent.specs.Agent.{Agent, sending_refusal, sending_tally, request_refusal, answered, ended_by_poll, tally_of_end, sent_by_poll}
-use Rattle.stun_agent.specs.Statistics.{Tally, no_tally, request_sent, request_sent_again, request_received, response_received, indication_received, new_statistics, counted, total}
-use Rattle.stun_agent.specs.Calls.{AgentCall, send, send_request, receive, validate, forget, poll, poll_transmit, cancel_retransmissions, cancel, configure, after_agent_call, after_agent_calls}
+use Rattle.stun_agent.specs.Agent.{Agent, sending_refusal, sending_tally, request_refusal}
+use Rattle.stun_agent.specs.Agent.{answered, ended_by_poll, tally_of_end, sent_by_poll}
+use Rattle.stun_agent.specs.Statistics.{Tally, no_tally, request_sent, request_sent_again}
+use Rattle.stun_agent.specs.Statistics.{request_received, response_received}
+use Rattle.stun_agent.specs.Statistics.{indication_received, new_statistics, counted, total}
+use Rattle.stun_agent.specs.Calls.{AgentCall, send, send_request, receive, validate}
+use Rattle.stun_agent.specs.Calls.{forget, poll, poll_transmit, cancel_retransmissions}
+use Rattle.stun_agent.specs.Calls.{cancel, configure, after_agent_call, after_agent_calls}
 use Rattle.stun_agent.specs.Transactions.{round_trip}
 
 -- a response counts where it is taken
 abbrev pub tally_of_response : Option ℕ → List ℕ → SocketAddr → Agent → Tally
 tally_of_response moment bytes from agent =
-    option_map_or (λ t. response_received (length bytes) (round_trip moment t)) (answered bytes from agent) no_tally
+    option_map_or (λ t. response_received (length bytes) (round_trip moment t))
+    (answered bytes from agent) no_tally
 
 -- a message that comes, by its class
 abbrev pub tally_of_message : MessageClass → Option ℕ → List ℕ → SocketAddr → Agent → Tally
@@ -25,13 +33,17 @@ tally_of_message Error moment bytes from agent = tally_of_response moment bytes 
 -- one call. What is refused counts nothing
 abbrev pub tally_of : AgentCall → Agent → Tally
 tally_of (send bytes to) agent =
-    if is_some (sending_refusal agent bytes to) then no_tally else sending_tally (class_in bytes) (length bytes)
-tally_of (send_request bytes to now) agent = if is_some (request_refusal agent bytes to) then no_tally else request_sent (length bytes)
-tally_of (receive moment bytes from) agent = tally_of_message (class_in bytes) moment bytes from agent
+    if is_some (sending_refusal agent bytes to) then no_tally
+    else sending_tally (class_in bytes) (length bytes)
+tally_of (send_request bytes to now) agent =
+    if is_some (request_refusal agent bytes to) then no_tally else request_sent (length bytes)
+tally_of (receive moment bytes from) agent =
+    tally_of_message (class_in bytes) moment bytes from agent
 tally_of (validate address) agent = no_tally
 tally_of (forget address) agent = no_tally
 tally_of (poll now) agent = option_map_or (λ e. tally_of_end e.1) (ended_by_poll now agent) no_tally
-tally_of (poll_transmit now) agent = option_map_or (λ e. request_sent_again (length e.1.bytes)) (sent_by_poll now agent) no_tally
+tally_of (poll_transmit now) agent =
+    option_map_or (λ e. request_sent_again (length e.1.bytes)) (sent_by_poll now agent) no_tally
 tally_of (cancel_retransmissions id) agent = no_tally
 tally_of (cancel id) agent = no_tally
 tally_of (configure id settings) agent = no_tally
@@ -41,12 +53,15 @@ abbrev pub tallies : List AgentCall → Agent → List Tally
 tallies [] agent = []
 tallies (call ∷ calls) agent = tally_of call agent ∷ tallies calls (after_agent_call call agent)
 
--- over any calls since nothing was counted, each counter is the sum over their tallies, capped once, and the round trips are theirs
+-- over any calls since nothing was counted, each counter is the sum over their tallies, capped
+-- once, and the round trips are theirs
 abbrev pub CountsCalls : Type 0
 CountsCalls =
     (calls : List AgentCall) (agent : Agent) → agent.statistics ≡ Some new_statistics
-    → (after_agent_calls calls agent).statistics ≡ Some (counted (total (tallies calls agent)) new_statistics)
+    → (after_agent_calls calls agent).statistics
+    ≡ Some (counted (total (tallies calls agent)) new_statistics)
 
 -- an agent that does not count never begins to
 abbrev pub CountsNothing : Type 0
-CountsNothing = (calls : List AgentCall) (agent : Agent) → agent.statistics ≡ None → (after_agent_calls calls agent).statistics ≡ None
+CountsNothing = (calls : List AgentCall) (agent : Agent) → agent.statistics ≡ None
+    → (after_agent_calls calls agent).statistics ≡ None

@@ -1,4 +1,5 @@
-//! The agent: requests, their retransmissions and their ends, and the addresses that messages came from.
+//! The agent: requests, their retransmissions and their ends, and the addresses that messages came
+//! from.
 //!
 //! A whole loop around an agent and a long-term authenticator, from a request to its response:
 //!
@@ -48,8 +49,9 @@
 //! }
 //! ```
 //!
-//! Socket, clock and the source of random words are the caller's. After each call but the getters ask both polls again:
-//! `poll_transmit` until it answers `None`, then `poll`. The test `client_loop` of the crate `api_tests` runs this loop.
+//! Socket, clock and the source of random words are the caller's. After each call but the getters
+//! ask both polls again: `poll_transmit` until it answers `None`, then `poll`. The test
+//! `client_loop` of the crate `api_tests` runs this loop.
 ghost use Rattle.std.specs.Prelude.{◌≡◌};
 ghost use Rattle.std.specs.Borrow.{sem};
 ghost use Rattle.std.specs.Option.{option_copied, option_copied_mut};
@@ -84,7 +86,8 @@ pub enum StunAgentPollRet {
 
 /// A STUN agent: requests, their retransmissions and their ends.
 ///
-/// It has no socket and no clock: the caller tells moments, sends what is lent and hands in what is received.
+/// It has no socket and no clock: the caller tells moments, sends what is lent and hands in what is
+/// received.
 #[derive(Drop)]
 #[derive_where(Debug)]
 pub struct StunAgent<A: Allocator = Global> {
@@ -120,7 +123,8 @@ impl<A: Allocator + Copy> StunAgent<A> {
     ghost use Rattle.stun_agent.specs.AgentLends.{lends_statistics};
 
     /// A builder of an agent. Where nothing is set, the agent has no fixed peer, the timeouts of
-    /// `RequestRto::default()` and no statistics. Does not allocate; what the agent takes later it asks of `alloc`.
+    /// `RequestRto::default()` and no statistics. Does not allocate; what the agent takes later it
+    /// asks of `alloc`.
     pub fn builder(
         alloc: A,
         transport: TransportType,
@@ -152,8 +156,8 @@ impl<A: Allocator + Copy> StunAgent<A> {
         self.local_addr
     }
 
-    /// The address that the agent was told to speak to. Where it is set, nothing is sent to another one. Receiving does
-    /// not look at it.
+    /// The address that the agent was told to speak to. Where it is set, nothing is sent to another
+    /// one. Receiving does not look at it.
     pub fn remote_addr(&self) -> Option<SocketAddr>
         ensures { result ≡ self.now.remote_addr }
     {

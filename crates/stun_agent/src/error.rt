@@ -15,7 +15,8 @@ pub enum StunError {
     /// Kept from the Rust crate: no call of an agent answers it.
     #[error("An operation timed out")]
     TimedOut,
-    /// The message has a class that this call does not send, or the agent is to speak to another address.
+    /// The message has a class that this call does not send, or the agent is to speak to another
+    /// address.
     #[error("Unexpected data was received")]
     ProtocolViolation,
     /// Kept from the Rust crate: no call of an agent answers it.

@@ -2,8 +2,13 @@
 ghost use Rattle.std.specs.Prelude.{◌≡◌, ◌≤◌, ◌+◌, ℕ, List};
 ghost use Rattle.std.specs.Option.{option_map};
 ghost use Rattle.std.specs.Duration.{as_nanos};
-ghost use Rattle.stun_agent.specs.Statistics.{Statistics, Tally, new_statistics, counted, average, outstanding_requests, request_sent, request_sent_again, response_sent, indication_sent, request_received, response_received, indication_received, timed_out, cancelled};
-ghost use Rattle.stun_agent.specs.Statistics.{together, total, counted_in_turn, raised, last_count, IsLeast, IsGreatest, LeavesOutstanding, IsNotFull};
+ghost use Rattle.stun_agent.specs.Statistics.{Statistics, Tally, new_statistics, counted};
+ghost use Rattle.stun_agent.specs.Statistics.{average, outstanding_requests, request_sent};
+ghost use Rattle.stun_agent.specs.Statistics.{request_sent_again, response_sent, indication_sent};
+ghost use Rattle.stun_agent.specs.Statistics.{request_received, response_received};
+ghost use Rattle.stun_agent.specs.Statistics.{indication_received, timed_out, cancelled};
+ghost use Rattle.stun_agent.specs.Statistics.{together, total, counted_in_turn, raised, last_count};
+ghost use Rattle.stun_agent.specs.Statistics.{IsLeast, IsGreatest, LeavesOutstanding, IsNotFull};
 
 use std::marker::Model;
 use std::time::Duration;
@@ -120,7 +125,8 @@ impl StunAgentStats {
         self.bytes_received
     }
 
-    /// Round trips measured: of responses that came with a moment, to requests of which `poll_transmit` had passed no timeout.
+    /// Round trips measured: of responses that came with a moment, to requests of which
+    /// `poll_transmit` had passed no timeout.
     pub fn rtt_count(&self) -> u64
         ensures { result ≡ self.now.rtt_count }
     {

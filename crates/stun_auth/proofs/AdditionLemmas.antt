@@ -1,17 +1,30 @@
 -- What additions take, and why texts are refused.
-use Rattle.std.proofs.Common.{◌≡◌, ℕ, ◌+◌, ◌*◌, ◌<◌, ◌≤◌, List, [], ◌∷◌, ◌++◌, Err, true, refl, arith, length-append, lt-ltb}
+use Rattle.std.proofs.Common.{◌≡◌, ℕ, ◌+◌, ◌*◌, ◌<◌, ◌≤◌, List, [], ◌∷◌, ◌++◌}
+use Rattle.std.proofs.Common.{Err, true, refl, arith, length-append, lt-ltb}
 use Rattle.std.specs.Prelude.{length, map}
 use Rattle.std.proofs.lemmas.List.Sums.{sum_by-append}
 use Rattle.stun_base.specs.declared.keys.algorithm.IntegrityAlgorithm.{IntegrityAlgorithm}
 use Rattle.stun_base.specs.declared.keys.algorithm.IntegrityAlgorithm.TheVariants.{Sha1, Sha256}
 use Rattle.stun_base.specs.declared.wire.error.StunWriteError.{StunWriteError}
-use Rattle.stun_base.specs.declared.wire.error.StunWriteError.TheVariants.{NotAllowed, MessageIntegrityExists, AttributeExists, TooLarge, TooSmall, IntegrityFailed, OutOfMemory}
+use Rattle.stun_base.specs.declared.wire.error.StunWriteError.TheVariants.{NotAllowed}
+use Rattle.stun_base.specs.declared.wire.error.StunWriteError.TheVariants.{MessageIntegrityExists}
+use Rattle.stun_base.specs.declared.wire.error.StunWriteError.TheVariants.{AttributeExists}
+use Rattle.stun_base.specs.declared.wire.error.StunWriteError.TheVariants.{TooLarge, TooSmall}
+use Rattle.stun_base.specs.declared.wire.error.StunWriteError.TheVariants.{IntegrityFailed}
+use Rattle.stun_base.specs.declared.wire.error.StunWriteError.TheVariants.{OutOfMemory}
 use Rattle.stun_types.specs.Attribute.{TypedValue, attribute_length}
-use Rattle.stun_types.specs.PasswordAlgorithms.{integrity_of, password_algorithm_of, spelled_entries, spelled_entry}
-use Rattle.stun_types.specs.declared.attribute.password_algorithm.PasswordAlgorithmValue.{PasswordAlgorithmValue}
-use Rattle.stun_types.specs.declared.attribute.password_algorithm.PasswordAlgorithmValue.TheVariants.{MD5, SHA256}
+use Rattle.stun_types.specs.PasswordAlgorithms.{integrity_of, password_algorithm_of}
+use Rattle.stun_types.specs.PasswordAlgorithms.{spelled_entries, spelled_entry}
+use Rattle.stun_types.specs.declared.attribute.password_algorithm.PasswordAlgorithmValue.{
+  PasswordAlgorithmValue,
+}
+use Rattle.stun_types.specs.declared.attribute.password_algorithm.PasswordAlgorithmValue.TheVariants.{
+  MD5,
+  SHA256,
+}
 use Rattle.stun_auth.specs.AddedAttribute.{nonce, realm, username}
-use Rattle.stun_auth.specs.Additions.{Addition, attribute, Page, growth_of, growth, added_one, is_too_long}
+use Rattle.stun_auth.specs.Additions.{Addition, attribute, Page, growth_of}
+use Rattle.stun_auth.specs.Additions.{growth, added_one, is_too_long}
 use Rattle.stun_auth.specs.code.Additions.{IsAdded}
 use Rattle.stun_auth.specs.ClientSigning.{algorithm_choice}
 
@@ -20,23 +33,33 @@ pub growth-append : (xs ys : List Addition) → growth (xs ++ ys) ≡ growth xs 
 growth-append xs ys = sum_by-append growth_of xs ys
 
 -- a text past its limit is refused, whatever the writer
-pub too_long : (a : TypedValue) (page now : Page) (reserved reserved_now : ℕ) (reason : StunWriteError) → reason ≡ TooLarge → is_too_long a ≡ true
+pub too_long : (a : TypedValue) (page now : Page) (reserved reserved_now : ℕ)
+    (reason : StunWriteError) → reason ≡ TooLarge → is_too_long a ≡ true
     → IsAdded (attribute a ∷ []) page reserved (Err reason) now reserved_now
 unfolding added_one
-too_long a page now reserved reserved_now NotAllowed is long = absurd (let h : NotAllowed ≡ TooLarge = is in cc)
-too_long a page now reserved reserved_now MessageIntegrityExists is long = absurd (let h : MessageIntegrityExists ≡ TooLarge = is in cc)
-too_long a page now reserved reserved_now (AttributeExists kind) is long = absurd (let h : AttributeExists kind ≡ TooLarge = is in cc)
-too_long a page now reserved reserved_now TooLarge is long = record { outcome = rw long refl; kept = tt }
-too_long a page now reserved reserved_now TooSmall is long = absurd (let h : TooSmall ≡ TooLarge = is in cc)
-too_long a page now reserved reserved_now IntegrityFailed is long = absurd (let h : IntegrityFailed ≡ TooLarge = is in cc)
-too_long a page now reserved reserved_now OutOfMemory is long = absurd (let h : OutOfMemory ≡ TooLarge = is in cc)
+too_long a page now reserved reserved_now NotAllowed is long =
+    absurd (let h : NotAllowed ≡ TooLarge = is in cc)
+too_long a page now reserved reserved_now MessageIntegrityExists is long =
+    absurd (let h : MessageIntegrityExists ≡ TooLarge = is in cc)
+too_long a page now reserved reserved_now (AttributeExists kind) is long =
+    absurd (let h : AttributeExists kind ≡ TooLarge = is in cc)
+too_long a page now reserved reserved_now TooLarge is long =
+    record { outcome = rw long refl; kept = tt }
+too_long a page now reserved reserved_now TooSmall is long =
+    absurd (let h : TooSmall ≡ TooLarge = is in cc)
+too_long a page now reserved reserved_now IntegrityFailed is long =
+    absurd (let h : IntegrityFailed ≡ TooLarge = is in cc)
+too_long a page now reserved reserved_now OutOfMemory is long =
+    absurd (let h : OutOfMemory ≡ TooLarge = is in cc)
 
-named_again : (algorithm : PasswordAlgorithmValue) → password_algorithm_of (integrity_of algorithm) ≡ algorithm
+named_again : (algorithm : PasswordAlgorithmValue)
+    → password_algorithm_of (integrity_of algorithm) ≡ algorithm
 named_again MD5 = refl
 named_again SHA256 = refl
 
 -- each digest has one password algorithm
-pub all_named_again : (list : List PasswordAlgorithmValue) → map password_algorithm_of (map integrity_of list) ≡ list
+pub all_named_again : (list : List PasswordAlgorithmValue)
+    → map password_algorithm_of (map integrity_of list) ≡ list
 all_named_again [] = refl
 all_named_again (algorithm ∷ list) = rw (named_again algorithm, all_named_again list) refl
 
@@ -55,7 +78,8 @@ length-spelled_entry : (algorithm : PasswordAlgorithmValue) → length (spelled_
 length-spelled_entry MD5 = refl
 length-spelled_entry SHA256 = refl
 
-length-spelled_entries : (list : List PasswordAlgorithmValue) → length (spelled_entries list) ≡ 4 * length list
+length-spelled_entries : (list : List PasswordAlgorithmValue)
+    → length (spelled_entries list) ≡ 4 * length list
 length-spelled_entries [] = refl
 length-spelled_entries (algorithm ∷ list) =
     let first = length-spelled_entry algorithm in
@@ -63,14 +87,18 @@ length-spelled_entries (algorithm ∷ list) =
     let both = length-append (spelled_entry algorithm) (spelled_entries list) in
     omega (arith, first, others, both)
 
-growth-list : (list : List PasswordAlgorithmValue) → attribute_length (length (spelled_entries (map password_algorithm_of (map integrity_of list)))) ≡ 4 + 4 * length list
+growth-list : (list : List PasswordAlgorithmValue)
+    → attribute_length
+    (length (spelled_entries (map password_algorithm_of (map integrity_of list))))
+    ≡ 4 + 4 * length list
 growth-list list =
     let same = all_named_again list in
     let four = length-spelled_entries list in
     rw (same, four) (omega arith)
 
 -- what the choice of an algorithm from a list takes
-pub growth-choice : (list : List PasswordAlgorithmValue) (algorithm : IntegrityAlgorithm) → 1 ≤ length list
+pub growth-choice : (list : List PasswordAlgorithmValue) (algorithm : IntegrityAlgorithm)
+    → 1 ≤ length list
     → growth (algorithm_choice (map integrity_of list) algorithm) ≡ 4 * length list + 12
 growth-choice [] algorithm some = absurd (omega arith)
 growth-choice (first ∷ list) Sha1 some = omega (arith, growth-list (first ∷ list))

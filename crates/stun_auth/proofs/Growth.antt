@@ -1,5 +1,7 @@
 -- A message grows by what is added to it.
-use Rattle.std.proofs.Common.{◌≡◌, ℕ, ◌+◌, ◌<◌, ◌≤◌, Bool, true≢false, List, [], ◌∷◌, ◌++◌, length, Option, Some, None, Result, Ok, Err, refl, ap, sym, ◌∙◌, arith, length-append}
+use Rattle.std.proofs.Common.{◌≡◌, ℕ, ◌+◌, ◌<◌, ◌≤◌, Bool, true≢false, List, []}
+use Rattle.std.proofs.Common.{◌∷◌, ◌++◌, length, Option, Some, None, Result, Ok}
+use Rattle.std.proofs.Common.{Err, refl, ap, sym, ◌∙◌, arith, length-append}
 use Rattle.std.proofs.lemmas.List.{length-replicate}
 use Rattle.std.proofs.lemmas.List.Sums.{sum_by-cons}
 use Rattle.std.specs.Prelude.{IfOk, IsOk}
@@ -8,30 +10,42 @@ use Rattle.stun_base.specs.Algorithm.{digest_length}
 use Rattle.stun_base.specs.code.Algorithm.{length-digest}
 use Rattle.stun_base.specs.declared.keys.algorithm.IntegrityAlgorithm.{IntegrityAlgorithm}
 use Rattle.stun_base.specs.declared.wire.error.StunWriteError.{StunWriteError}
-use Rattle.stun_base.specs.declared.wire.error.StunWriteError.TheVariants.{NotAllowed, MessageIntegrityExists, AttributeExists, TooLarge, TooSmall, IntegrityFailed, OutOfMemory}
+use Rattle.stun_base.specs.declared.wire.error.StunWriteError.TheVariants.{NotAllowed}
+use Rattle.stun_base.specs.declared.wire.error.StunWriteError.TheVariants.{MessageIntegrityExists}
+use Rattle.stun_base.specs.declared.wire.error.StunWriteError.TheVariants.{AttributeExists}
+use Rattle.stun_base.specs.declared.wire.error.StunWriteError.TheVariants.{TooLarge, TooSmall}
+use Rattle.stun_base.specs.declared.wire.error.StunWriteError.TheVariants.{IntegrityFailed}
+use Rattle.stun_base.specs.declared.wire.error.StunWriteError.TheVariants.{OutOfMemory}
 use Rattle.stun_types.specs.Attribute.{TypedValue, attribute_length}
 use Rattle.stun_types.specs.Grammar.{spelled_attribute}
 use Rattle.stun_types.specs.Message.{with_length}
 use Rattle.stun_types.specs.Writing.{covered_at_end, integrity_attribute, with_integrity}
-use Rattle.stun_auth.specs.Additions.{Addition, attribute, integrity, Page, growth_of, growth, refusal_of, with_addition, unless_refused, added_one, after, added_all, UnlessMemory, WantsMemory, page_in, written}
+use Rattle.stun_auth.specs.Additions.{Addition, attribute, integrity, Page, growth_of, growth}
+use Rattle.stun_auth.specs.Additions.{refusal_of, with_addition, unless_refused, added_one, after}
+use Rattle.stun_auth.specs.Additions.{added_all, UnlessMemory, WantsMemory, page_in, written}
 use Rattle.stun_auth.specs.Registered.{Registered, key_at}
 use Rattle.stun_auth.specs.Seen.{ClientSeen, PlaceSeen}
 use Rattle.stun_auth.specs.Server.{Sight}
-use Rattle.stun_auth.specs.ServerSigning.{additions_at, attributes_for, digest_for, digest_under, growth_at, protected, protected_for, protection_growth, server_additions, server_growth, server_signed, signed_at}
+use Rattle.stun_auth.specs.ServerSigning.{additions_at, attributes_for, digest_for, digest_under}
+use Rattle.stun_auth.specs.ServerSigning.{growth_at, protected, protected_for, protection_growth}
+use Rattle.stun_auth.specs.ServerSigning.{server_additions, server_growth, server_signed, signed_at}
 use Rattle.stun_auth.proofs.AdditionLemmas.{growth-append}
 
-length-with_length : (bytes : List ℕ) (n : ℕ) → 20 ≤ length bytes → length (with_length bytes n) ≡ length bytes
+length-with_length : (bytes : List ℕ) (n : ℕ) → 20 ≤ length bytes
+    → length (with_length bytes n) ≡ length bytes
 length-with_length [] n long = absurd (omega (arith, long))
 length-with_length (x ∷ []) n long = absurd (omega (arith, long))
 length-with_length (x ∷ y ∷ []) n long = absurd (omega (arith, long))
 length-with_length (x ∷ y ∷ z ∷ []) n long = absurd (omega (arith, long))
 length-with_length (x ∷ y ∷ z ∷ w ∷ bytes) n long = refl
 
-length-spelled_attribute : (a : TypedValue) → length (spelled_attribute a) ≡ attribute_length (length a.value)
+length-spelled_attribute : (a : TypedValue)
+    → length (spelled_attribute a) ≡ attribute_length (length a.value)
 length-spelled_attribute a = simp (length-append, length-replicate) (omega arith)
 
 length-with_attribute : (message : List ℕ) (a : TypedValue) (n : ℕ) → 20 ≤ length message
-    → length (with_length message n ++ spelled_attribute a) ≡ length message + attribute_length (length a.value)
+    → length (with_length message n ++ spelled_attribute a)
+    ≡ length message + attribute_length (length a.value)
 length-with_attribute message a n long =
     let front = length-with_length message n long in
     let back = length-spelled_attribute a in
@@ -39,34 +53,46 @@ length-with_attribute message a n long =
     both ∙ (rw (front, back) refl)
 
 -- the integrity attribute is after the message with its length raised
-pub length-with_integrity : (message : List ℕ) (algorithm : IntegrityAlgorithm) (key : List ℕ) → 20 ≤ length message
-    → length (with_integrity message algorithm key) ≡ length message + attribute_length (digest_length algorithm)
+pub length-with_integrity : (message : List ℕ) (algorithm : IntegrityAlgorithm) (key : List ℕ)
+    → 20 ≤ length message
+    → length (with_integrity message algorithm key)
+    ≡ length message + attribute_length (digest_length algorithm)
 length-with_integrity message algorithm key long =
     length-with_attribute message (integrity_attribute message algorithm key) _ long
-    ∙ ap (λ (n : ℕ). length message + attribute_length n) (length-digest algorithm key (covered_at_end message algorithm))
+    ∙ ap (λ (n : ℕ). length message + attribute_length n)
+    (length-digest algorithm key (covered_at_end message algorithm))
 
 -- the same, as tactics find it
-pub length_of_signed : (message signed : List ℕ) (algorithm : IntegrityAlgorithm) (key : List ℕ) → 20 ≤ length message
-    → signed ≡ with_integrity message algorithm key → length signed ≡ length message + attribute_length (digest_length algorithm)
-length_of_signed message signed algorithm key long is = ap (λ (bytes : List ℕ). length bytes) is ∙ length-with_integrity message algorithm key long
+pub length_of_signed : (message signed : List ℕ) (algorithm : IntegrityAlgorithm) (key : List ℕ)
+    → 20 ≤ length message
+    → signed ≡ with_integrity message algorithm key
+    → length signed ≡ length message + attribute_length (digest_length algorithm)
+length_of_signed message signed algorithm key long is =
+    ap (λ (bytes : List ℕ). length bytes) is ∙ length-with_integrity message algorithm key long
 
-length-with_addition : (x : Addition) (message : List ℕ) → 20 ≤ length message → length (with_addition x message) ≡ length message + growth_of x
+length-with_addition : (x : Addition) (message : List ℕ) → 20 ≤ length message
+    → length (with_addition x message) ≡ length message + growth_of x
 length-with_addition (attribute a) message long = length-with_attribute message a _ long
-length-with_addition (integrity algorithm key) message long = length-with_integrity message algorithm key long
+length-with_addition (integrity algorithm key) message long =
+    length-with_integrity message algorithm key long
 
-not_refused : (refusal : Option StunWriteError) (page q : Page) → unless_refused refusal page ≡ Ok q → page ≡ q
+not_refused : (refusal : Option StunWriteError) (page q : Page) → unless_refused refusal page ≡ Ok q
+    → page ≡ q
 not_refused None page q h = cc
 not_refused (Some reason) page q h = cc
 
-grown_one : (x : Addition) (p q : Page) → 20 ≤ length p.bytes → added_one x p ≡ Ok q → length q.bytes ≡ length p.bytes + growth_of x
+grown_one : (x : Addition) (p q : Page) → 20 ≤ length p.bytes → added_one x p ≡ Ok q
+    → length q.bytes ≡ length p.bytes + growth_of x
 unfolding added_one
 grown_one x p q long h =
     let same = not_refused (refusal_of x p) _ q h in
     ap (λ (r : Page). length r.bytes) (sym same) ∙ length-with_addition x p.bytes long
 
 grown_after : (x : Addition) (list : List Addition) (p q : Page) → 20 ≤ length p.bytes
-    → ((m : Page) → 20 ≤ length m.bytes → added_all list m ≡ Ok q → length q.bytes ≡ length m.bytes + growth list)
-    → (first : Result Page StunWriteError) → added_one x p ≡ first → after first (added_all list) ≡ Ok q
+    → ((m : Page) → 20 ≤ length m.bytes → added_all list m ≡ Ok q
+    → length q.bytes ≡ length m.bytes + growth list)
+    → (first : Result Page StunWriteError) → added_one x p ≡ first
+    → after first (added_all list) ≡ Ok q
     → length q.bytes ≡ length p.bytes + growth (x ∷ list)
 grown_after x list p q long rest (Err reason) e h = absurd (let clash : Err reason ≡ Ok q = h in cc)
 grown_after x list p q long rest (Ok m) e h =
@@ -76,93 +102,132 @@ grown_after x list p q long rest (Ok m) e h =
     omega (arith, one, others, both)
 
 -- a message grows by what all additions take
-pub grown_all : (list : List Addition) (p q : Page) → 20 ≤ length p.bytes → added_all list p ≡ Ok q → length q.bytes ≡ length p.bytes + growth list
+pub grown_all : (list : List Addition) (p q : Page) → 20 ≤ length p.bytes → added_all list p ≡ Ok q
+    → length q.bytes ≡ length p.bytes + growth list
 grown_all [] p q long h =
     let same : p ≡ q = cc in
     omega (arith, ap (λ (r : Page). length r.bytes) same)
-grown_all (x ∷ list) p q long h = grown_after x list p q long (λ m. grown_all list m q) (added_one x p) refl h
+grown_all (x ∷ list) p q long h =
+    grown_after x list p q long (λ m. grown_all list m q) (added_one x p) refl h
 
 -- a writer that is answered holds so many bytes more
-pub grown_answer : {W : Type 0} (bytes : W → List ℕ) (room : W → ℕ) (list : List Addition) (before : W) (Q : Type 0) (result : Result W StunWriteError)
-    → 20 ≤ length (bytes before) → UnlessMemory result (written bytes room result ≡ added_all list (page_in bytes room before)) Q
+pub grown_answer : {W : Type 0} (bytes : W → List ℕ) (room : W → ℕ) (list : List Addition)
+    (before : W) (Q : Type 0) (result : Result W StunWriteError)
+    → 20 ≤ length (bytes before)
+    → UnlessMemory result (written bytes room result ≡ added_all list (page_in bytes room before)) Q
     → IfOk result (λ signed. length (bytes signed) ≡ length (bytes before) + growth list)
-grown_answer bytes room list before Q (Ok signed) long h = grown_all list (page_in bytes room before) (page_in bytes room signed) long (sym h)
+grown_answer bytes room list before Q (Ok signed) long h =
+    grown_all list (page_in bytes room before) (page_in bytes room signed) long (sym h)
 grown_answer bytes room list before Q (Err reason) long h = tt
 
 -- ---- the server
 
-grown_protected : (a : IntegrityAlgorithm) (key : Option (List ℕ)) (m q : Page) → 20 ≤ length m.bytes → protected a key m ≡ Ok q → length q.bytes ≡ length m.bytes + attribute_length (digest_length a)
+grown_protected : (a : IntegrityAlgorithm) (key : Option (List ℕ)) (m q : Page)
+    → 20 ≤ length m.bytes → protected a key m ≡ Ok q
+    → length q.bytes ≡ length m.bytes + attribute_length (digest_length a)
 grown_protected a None m q long h = absurd (let clash : Err IntegrityFailed ≡ Ok q = h in cc)
 grown_protected a (Some key) m q long h =
     let all = grown_all (integrity a key ∷ []) m q long h in
     let sum = sum_by-cons growth_of (integrity a key) [] in
     omega (arith, all, sum)
 
-grown_for : (users : Registered) (client : Option ClientSeen) (m q : Page) → 20 ≤ length m.bytes → protected_for users client m ≡ Ok q → length q.bytes ≡ length m.bytes + protection_growth client
+grown_for : (users : Registered) (client : Option ClientSeen) (m q : Page) → 20 ≤ length m.bytes
+    → protected_for users client m ≡ Ok q
+    → length q.bytes ≡ length m.bytes + protection_growth client
 grown_for users None m q long h =
     let same : m ≡ q = cc in
     omega (arith, ap (λ (r : Page). length r.bytes) same)
-grown_for users (Some c) m q long h = grown_protected c.algorithm (key_at users c.name c.algorithm) m q long h
+grown_for users (Some c) m q long h =
+    grown_protected c.algorithm (key_at users c.name c.algorithm) m q long h
 
-grown_then : (list : List Addition) (users : Registered) (client : Option ClientSeen) (p q : Page) → 20 ≤ length p.bytes → (first : Result Page StunWriteError) → added_all list p ≡ first
-    → after first (protected_for users client) ≡ Ok q → length q.bytes ≡ length p.bytes + (growth list + protection_growth client)
-grown_then list users client p q long (Err reason) e h = absurd (let clash : Err reason ≡ Ok q = h in cc)
+grown_then : (list : List Addition) (users : Registered) (client : Option ClientSeen) (p q : Page)
+    → 20 ≤ length p.bytes → (first : Result Page StunWriteError) → added_all list p ≡ first
+    → after first (protected_for users client) ≡ Ok q
+    → length q.bytes ≡ length p.bytes + (growth list + protection_growth client)
+grown_then list users client p q long (Err reason) e h =
+    absurd (let clash : Err reason ≡ Ok q = h in cc)
 grown_then list users client p q long (Ok m) e h =
     let before = grown_all list p m long e in
     let last = grown_for users client m q (omega (arith, before, long)) h in
     omega (arith, before, last)
 
-grown_at : (response : Bool) (users : Registered) (place : Option PlaceSeen) (p q : Page) → 20 ≤ length p.bytes → signed_at response users place p ≡ Ok q → length q.bytes ≡ length p.bytes + growth_at response users place
+grown_at : (response : Bool) (users : Registered) (place : Option PlaceSeen) (p q : Page)
+    → 20 ≤ length p.bytes → signed_at response users place p ≡ Ok q
+    → length q.bytes ≡ length p.bytes + growth_at response users place
 grown_at response users None p q long h =
     let same : p ≡ q = cc in
     omega (arith, ap (λ (r : Page). length r.bytes) same)
 grown_at response users (Some place) p q long h =
-    grown_then (attributes_for response users place.nonce place.client) users place.client p q long (added_all (attributes_for response users place.nonce place.client) p) refl h
+    grown_then (attributes_for response users place.nonce place.client) users place.client p q long
+    (added_all (attributes_for response users place.nonce place.client) p) refl h
 
 -- a message that a server signed is longer by what signing adds
-pub grown_by_server : (s : Sight) (response : Bool) (p q : Page) → 20 ≤ length p.bytes → server_signed s response p ≡ Ok q → length q.bytes ≡ length p.bytes + server_growth s response
+pub grown_by_server : (s : Sight) (response : Bool) (p q : Page) → 20 ≤ length p.bytes
+    → server_signed s response p ≡ Ok q → length q.bytes ≡ length p.bytes + server_growth s response
 grown_by_server s response p q long h = grown_at response s.registered s.place p q long h
 
 -- ---- no memory
 
-refused_not : {V : Type 0} (reason : StunWriteError) (page : Result Page StunWriteError) → Err reason ≡ page → IsOk page → V
+refused_not : {V : Type 0} (reason : StunWriteError) (page : Result Page StunWriteError)
+    → Err reason ≡ page → IsOk page → V
 refused_not reason page is ok = absurd (true≢false (sym (ap is_ok is ∙ ok)))
 
 -- where an allocation fails for additions, less than they take is reserved
-pub wants_short : (list : List Addition) (page : Page) (reserved : ℕ) → WantsMemory list page reserved → reserved < growth list
+pub wants_short : (list : List Addition) (page : Page) (reserved : ℕ)
+    → WantsMemory list page reserved → reserved < growth list
 wants_short list page reserved w =
     let all : growth list ≡ growth (w.first ++ w.others) = ap growth w.in_order in
     omega (arith, all, growth-append w.first w.others, w.not_reserved)
 
-digest_short : (a : IntegrityAlgorithm) (key : Option (List ℕ)) → growth (digest_under a key) ≤ attribute_length (digest_length a)
+digest_short : (a : IntegrityAlgorithm) (key : Option (List ℕ))
+    → growth (digest_under a key) ≤ attribute_length (digest_length a)
 digest_short a None = omega arith
-digest_short a (Some key) = let sum = sum_by-cons growth_of (integrity a key) [] in omega (arith, sum)
+digest_short a (Some key) = let sum =
+    sum_by-cons growth_of (integrity a key) [] in omega (arith, sum)
 
-digest_for_short : (users : Registered) (client : Option ClientSeen) → growth (digest_for users client) ≤ protection_growth client
+digest_for_short : (users : Registered) (client : Option ClientSeen)
+    → growth (digest_for users client) ≤ protection_growth client
 digest_for_short users None = omega arith
 digest_for_short users (Some c) = digest_short c.algorithm (key_at users c.name c.algorithm)
 
-place_wants_short : (response : Bool) (users : Registered) (place : Option PlaceSeen) (page : Page) (reserved : ℕ)
-    → WantsMemory (additions_at response users place) page reserved → reserved < growth_at response users place
+place_wants_short : (response : Bool) (users : Registered) (place : Option PlaceSeen) (page : Page)
+    (reserved : ℕ)
+    → WantsMemory (additions_at response users place) page reserved
+    → reserved < growth_at response users place
 place_wants_short response users None page reserved w = wants_short [] page reserved w
 place_wants_short response users (Some p) page reserved w =
     let attributes = attributes_for response users p.nonce p.client in
     let digest = digest_for users p.client in
-    omega (arith, wants_short (attributes ++ digest) page reserved w, growth-append attributes digest, digest_for_short users p.client)
+    omega (
+      arith,
+      wants_short (attributes ++ digest) page reserved w,
+      growth-append attributes digest,
+      digest_for_short users p.client,
+    )
 
 pub server_wants_short : (s : Sight) (response : Bool) (page : Page) (reserved : ℕ)
     → WantsMemory (server_additions s response) page reserved → reserved < server_growth s response
-server_wants_short s response page reserved w = place_wants_short response s.registered s.place page reserved w
+server_wants_short s response page reserved w =
+    place_wants_short response s.registered s.place page reserved w
 
 -- where nothing else refuses and what is taken was reserved, nothing is refused
-pub succeeds_reserved : {V : Type 0} (answer : Result V StunWriteError → Result Page StunWriteError) → ((reason : StunWriteError) → Err reason ≡ answer (Err reason))
-    → (page : Result Page StunWriteError) (reserved taken : ℕ) (Q : Type 0) → (Q → reserved < taken) → (result : Result V StunWriteError)
+pub succeeds_reserved : {V : Type 0} (answer : Result V StunWriteError → Result Page StunWriteError)
+    → ((reason : StunWriteError) → Err reason ≡ answer (Err reason))
+    → (page : Result Page StunWriteError) (reserved taken : ℕ) (Q : Type 0) → (Q → reserved < taken)
+    → (result : Result V StunWriteError)
     → UnlessMemory result (answer result ≡ page) Q → IsOk page → taken ≤ reserved → IsOk result
 succeeds_reserved answer passes page reserved taken Q short (Ok signed) h ok enough = refl
-succeeds_reserved answer passes page reserved taken Q short (Err NotAllowed) h ok enough = refused_not NotAllowed page (passes NotAllowed ∙ h) ok
-succeeds_reserved answer passes page reserved taken Q short (Err MessageIntegrityExists) h ok enough = refused_not MessageIntegrityExists page (passes MessageIntegrityExists ∙ h) ok
-succeeds_reserved answer passes page reserved taken Q short (Err (AttributeExists kind)) h ok enough = refused_not (AttributeExists kind) page (passes (AttributeExists kind) ∙ h) ok
-succeeds_reserved answer passes page reserved taken Q short (Err TooLarge) h ok enough = refused_not TooLarge page (passes TooLarge ∙ h) ok
-succeeds_reserved answer passes page reserved taken Q short (Err TooSmall) h ok enough = refused_not TooSmall page (passes TooSmall ∙ h) ok
-succeeds_reserved answer passes page reserved taken Q short (Err IntegrityFailed) h ok enough = refused_not IntegrityFailed page (passes IntegrityFailed ∙ h) ok
-succeeds_reserved answer passes page reserved taken Q short (Err OutOfMemory) h ok enough = absurd (let less = short h in omega (arith, less, enough))
+succeeds_reserved answer passes page reserved taken Q short (Err NotAllowed) h ok enough =
+    refused_not NotAllowed page (passes NotAllowed ∙ h) ok
+succeeds_reserved answer passes page reserved taken Q short (Err MessageIntegrityExists) h ok
+    enough = refused_not MessageIntegrityExists page (passes MessageIntegrityExists ∙ h) ok
+succeeds_reserved answer passes page reserved taken Q short (Err (AttributeExists kind)) h ok
+    enough = refused_not (AttributeExists kind) page (passes (AttributeExists kind) ∙ h) ok
+succeeds_reserved answer passes page reserved taken Q short (Err TooLarge) h ok enough =
+    refused_not TooLarge page (passes TooLarge ∙ h) ok
+succeeds_reserved answer passes page reserved taken Q short (Err TooSmall) h ok enough =
+    refused_not TooSmall page (passes TooSmall ∙ h) ok
+succeeds_reserved answer passes page reserved taken Q short (Err IntegrityFailed) h ok enough =
+    refused_not IntegrityFailed page (passes IntegrityFailed ∙ h) ok
+succeeds_reserved answer passes page reserved taken Q short (Err OutOfMemory) h ok enough =
+    absurd (let less = short h in omega (arith, less, enough))

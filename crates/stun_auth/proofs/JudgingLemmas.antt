@@ -9,12 +9,14 @@ use Rattle.stun_auth.specs.code.Places.{client_seen}
 use Rattle.stun_auth.specs.Seen.{PlaceSeen}
 
 -- no client is there where nobody else is accepted
-pub no_client : {A : Type 0} (judged : Judgement A) (o : Option (Client A)) → option_map client_seen o ≡ client_in judged → is_some o ≡ false → client_in judged ≡ None
+pub no_client : {A : Type 0} (judged : Judgement A) (o : Option (Client A))
+    → option_map client_seen o ≡ client_in judged → is_some o ≡ false → client_in judged ≡ None
 no_client judged None is empty = sym is
 no_client judged (Some c) is empty = cc
 
 -- where no client is new the place stays
-pub stays : {A : Type 0} (judged : Judgement A) → client_in judged ≡ None → (p : PlaceSeen) → place_left p judged ≡ p
+pub stays : {A : Type 0} (judged : Judgement A) → client_in judged ≡ None → (p : PlaceSeen)
+    → place_left p judged ≡ p
 stays (Refused e) none p = refl
 stays (Known a) none p = refl
 stays (New c) none p = cc

@@ -1,6 +1,7 @@
--- A message is judged by the one user whom it means: that user is found where nobody else is present,
--- and the verdict looks at no other.
-use Rattle.std.proofs.Common.{◌≡◌, ℕ, List, [], ◌∷◌, map, length, Option, Some, None, Bool, true, false, refl, sym, ◌∙◌, ap, arith}
+-- A message is judged by the one user whom it means: that user is found where nobody else is
+-- present, and the verdict looks at no other.
+use Rattle.std.proofs.Common.{◌≡◌, ℕ, List, [], ◌∷◌, map, length, Option, Some}
+use Rattle.std.proofs.Common.{None, Bool, true, false, refl, sym, ◌∙◌, ap, arith}
 use Rattle.std.specs.Prelude.{cond, not, ◌&&◌, ◌||◌}
 use Rattle.std.specs.Option.{is_none, option_and_then, option_map, option_map_or, unwrap_or, IfSome}
 use Rattle.std.specs.List.{find}
@@ -18,12 +19,18 @@ use Rattle.stun_auth.specs.declared.server.reason.Refusal.{Refusal}
 use Rattle.stun_auth.specs.declared.server.reason.Refusal.TheVariants.{Unauthorized, BadRequest}
 use Rattle.stun_base.specs.declared.keys.algorithm.IntegrityAlgorithm.TheVariants.{Sha1}
 use Rattle.stun_auth.specs.Feature.{is_possible}
-use Rattle.stun_auth.specs.Handed.{Named, by_name, by_hash, just, meant, named_at, named_in, only_user, user_of, with_users}
+use Rattle.stun_auth.specs.Handed.{Named, by_name, by_hash, just, meant, named_at}
+use Rattle.stun_auth.specs.Handed.{named_in, only_user, user_of, with_users}
 use Rattle.stun_auth.specs.Reading.{Reading, verified_under}
-use Rattle.stun_auth.specs.Registered.{Registered, RegisteredUser, UserSecret, key_of, name_cmp, user_named, user_with_hash}
+use Rattle.stun_auth.specs.Registered.{Registered, RegisteredUser, UserSecret}
+use Rattle.stun_auth.specs.Registered.{key_of, name_cmp, user_named, user_with_hash}
 use Rattle.stun_auth.specs.Seen.{ClientSeen, PlaceSeen}
-use Rattle.stun_auth.specs.Server.{Sight, agreed, named, named_by, nonce_refusal, or_refused, standing, their_nonce, verdict, verified_for}
-use Rattle.stun_auth.specs.Validation.{ServerSeen, after_message, answer, answer_to, client_verified, is_malformed, put_place, sight, validated_or_failed, verdict_at, verified_for_client, with_accepted}
+use Rattle.stun_auth.specs.Server.{Sight, agreed, named, named_by, nonce_refusal}
+use Rattle.stun_auth.specs.Server.{or_refused, standing, their_nonce, verdict, verified_for}
+use Rattle.stun_auth.specs.Validation.{ServerSeen, after_message, answer, answer_to}
+use Rattle.stun_auth.specs.Validation.{client_verified, is_malformed, put_place}
+use Rattle.stun_auth.specs.Validation.{sight, validated_or_failed, verdict_at}
+use Rattle.stun_auth.specs.Validation.{verified_for_client, with_accepted}
 
 -- ---- nobody, or one user
 
@@ -47,7 +54,8 @@ found : (name : List ℕ) (secret : UserSecret)
     → fin.get (fin.insert (fin.empty {R = name_cmp}) name secret) name ≡ Some secret
 found name secret =
     fin.get-insert nat_list_cmp_total fin.empty name secret name
-    ∙ ap (λ b. cond b (Some secret) (fin.get (fin.empty {R = name_cmp}) name)) ((eq_by_cmp_equiv nat_list_cmp_total).refl name)
+    ∙ ap (λ b. cond b (Some secret) (fin.get (fin.empty {R = name_cmp}) name))
+    ((eq_by_cmp_equiv nat_list_cmp_total).refl name)
 
 -- the user of a name is found alone
 pub named_alone : (users : Registered) (name : List ℕ)
@@ -75,7 +83,8 @@ passes test (name ∷ names) = by (test name) refl (passes test names)
 abbrev has_hash : Registered → List ℕ → List ℕ → Bool
 has_hash users hash name = bytes_eq (userhash name users.realm) hash
 
--- the first of these names that has a hash, as a user of a realm where one user is present or nobody
+-- the first of these names that has a hash, as a user of a realm where one user is present or
+-- nobody
 abbrev first_in : Registered → Option RegisteredUser → List ℕ → List (List ℕ × UserSecret)
     → Option RegisteredUser
 first_in users user hash es =
@@ -185,7 +194,8 @@ who_by s from r response =
     cond response (named_at (fin.get s.places from)) (named_in r.userhash r.username s.feature)
 
 verdict-meant : (s : ServerSeen) (from : SocketAddr) (place : PlaceSeen) (r : Reading)
-    → verdict_at (alone_at s from (who_by s from r false)) place r ≡ verdict_at (sight s from) place r
+    → verdict_at (alone_at s from (who_by s from r false)) place r
+    ≡ verdict_at (sight s from) place r
 verdict-meant s from place r =
     verdict-named s.registered _ s.feature place.nonce place.offered r
     (named_by-alone s.registered s.feature r.userhash r.username)

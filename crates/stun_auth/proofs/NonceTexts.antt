@@ -1,5 +1,6 @@
 -- The nonces of a server are texts, and those of the same settings have the same security bits.
-use Rattle.std.proofs.Common.{◌≡◌, ℕ, zero, suc, ◌+◌, ◌-◌, ◌<◌, ◌%◌, Bool, true, false, List, [], ◌∷◌, ◌++◌, map, refl, sym, ◌∙◌, ap, arith}
+use Rattle.std.proofs.Common.{◌≡◌, ℕ, zero, suc, ◌+◌, ◌-◌, ◌<◌, ◌%◌, Bool, true, false}
+use Rattle.std.proofs.Common.{List, [], ◌∷◌, ◌++◌, map, refl, sym, ◌∙◌, ap, arith}
 use Rattle.std.specs.Prelude.{cond, ◌==◌, ◌&&◌, ◌||◌, nat_lt, drop, IsUtf8}
 use Rattle.std.specs.Option.{is_some}
 use Rattle.std.specs.Str.{IsAscii}
@@ -13,7 +14,8 @@ use Rattle.stun_auth.specs.declared.algorithm_set.AlgorithmSet.{AlgorithmSet}
 use Rattle.stun_auth.specs.declared.feature.Feature.{Feature}
 use Rattle.stun_auth.specs.Algorithms.{contains}
 use Rattle.stun_auth.specs.Feature.{is_possible}
-use Rattle.stun_auth.specs.Nonces.{begins_with_cookie, front, letter, letter_at, nonce_of, security_bits, spelled_bits, without_cookie}
+use Rattle.stun_auth.specs.Nonces.{begins_with_cookie, front, letter, letter_at}
+use Rattle.stun_auth.specs.Nonces.{nonce_of, security_bits, spelled_bits, without_cookie}
 use Rattle.stun_auth.proofs.NonceBits.{bits-nonce_of, bits_with}
 
 -- ---- texts
@@ -39,7 +41,8 @@ from_small (b ∷ bytes) h =
 
 small_letter : (n : ℕ) → n < 62 → letter_at n < 128
 small_letter n h =
-    elim (nat_lt n 26) as (λ b. nat_lt n 26 ≡ b → cond b (65 + n) (cond (nat_lt n 52) (71 + n) (n - 4)) < 128) [
+    elim (nat_lt n 26) as (λ b. nat_lt n 26 ≡ b
+    → cond b (65 + n) (cond (nat_lt n 52) (71 + n) (n - 4)) < 128) [
       | true ↦ λ _. omega arith
       | false ↦ λ _.
           elim (nat_lt n 52) as (λ b. nat_lt n 52 ≡ b → cond b (71 + n) (n - 4) < 128) [
@@ -50,7 +53,9 @@ small_letter n h =
 
 letters : (words : List ℕ) → IsAscii (map letter words)
 letters [] = IsAscii-nil
-letters (word ∷ words) = in_front (letter word) (map letter words) (small_letter (word % 62) (mod-lt word (omega arith))) (letters words)
+letters (word ∷ words) =
+    in_front (letter word) (map letter words) (small_letter (word % 62) (mod-lt word (omega arith)))
+    (letters words)
 
 uncookied : (text : List ℕ) → IsAscii text → IsAscii (without_cookie text)
 uncookied text ascii =
@@ -75,15 +80,19 @@ abbrev byte_of : Bool → Bool → ℕ
 byte_of strong hashes = cond strong 0x80 0 + cond hashes 0x40 0
 
 ascii_by_cases : (strong hashes : Bool) (text : List ℕ) → IsAscii text
-    → IsAscii (cond (byte_of strong hashes == 0) (without_cookie text) (front (byte_of strong hashes) ++ text))
+    → IsAscii
+    (cond (byte_of strong hashes == 0) (without_cookie text)
+    (front (byte_of strong hashes) ++ text))
 ascii_by_cases true true text ascii = IsAscii-append (front 0xc0) text front_both ascii
 ascii_by_cases true false text ascii = IsAscii-append (front 0x80) text front_algorithms ascii
 ascii_by_cases false true text ascii = IsAscii-append (front 0x40) text front_userhash ascii
 ascii_by_cases false false text ascii = uncookied text ascii
 
-pub nonce_is_text : (set : AlgorithmSet) (feature : Feature) (words : List ℕ) → IsUtf8 (nonce_of set feature words)
+pub nonce_is_text : (set : AlgorithmSet) (feature : Feature) (words : List ℕ)
+    → IsUtf8 (nonce_of set feature words)
 nonce_is_text set feature words =
-    IsUtf8-from_ascii (nonce_of set feature words) (ascii_by_cases (contains Sha256 set) (is_possible feature) (map letter words) (letters words))
+    IsUtf8-from_ascii (nonce_of set feature words)
+    (ascii_by_cases (contains Sha256 set) (is_possible feature) (map letter words) (letters words))
 
 -- ---- bits
 
@@ -93,8 +102,14 @@ there_by_cases true false = refl
 there_by_cases false true = refl
 there_by_cases false false = refl
 
-pub bits_there : (set : AlgorithmSet) (feature : Feature) (words : List ℕ) → is_some (security_bits (nonce_of set feature words)) ≡ (contains Sha256 set || is_possible feature)
-bits_there set feature words = ap is_some (bits-nonce_of set feature words) ∙ there_by_cases (contains Sha256 set) (is_possible feature)
+pub bits_there : (set : AlgorithmSet) (feature : Feature) (words : List ℕ)
+    → is_some (security_bits (nonce_of set feature words))
+    ≡ (contains Sha256 set || is_possible feature)
+bits_there set feature words =
+    ap is_some (bits-nonce_of set feature words)
+    ∙ there_by_cases (contains Sha256 set) (is_possible feature)
 
-pub bits_alike : (set : AlgorithmSet) (feature : Feature) (words others : List ℕ) → security_bits (nonce_of set feature words) ≡ security_bits (nonce_of set feature others)
-bits_alike set feature words others = bits-nonce_of set feature words ∙ sym (bits-nonce_of set feature others)
+pub bits_alike : (set : AlgorithmSet) (feature : Feature) (words others : List ℕ)
+    → security_bits (nonce_of set feature words) ≡ security_bits (nonce_of set feature others)
+bits_alike set feature words others =
+    bits-nonce_of set feature words ∙ sym (bits-nonce_of set feature others)

@@ -1,5 +1,6 @@
 -- What a look-up and a change of the tree map are to the finite map of places.
-use Rattle.std.proofs.Common.{◌≡◌, ◌+◌, ℕ, suc, List, [], ◌∷◌, map, length, Bool, true, false, Option, Some, None, refl, sym, ◌∙◌, ap, subst, arith}
+use Rattle.std.proofs.Common.{◌≡◌, ◌+◌, ℕ, suc, List, [], ◌∷◌, map, length, Bool, true}
+use Rattle.std.proofs.Common.{false, Option, Some, None, refl, sym, ◌∙◌, ap, subst, arith}
 use Rattle.std.specs.Prelude.{cond}
 use Rattle.std.specs.List.{AllByRecursion, IsDistinct}
 use Rattle.std.specs.List.Sorted.{IsStrictlySortedBy}
@@ -35,40 +36,68 @@ by_cases (V6 a) (V6 b) = refl
 pub derived_is : derived ≡ address_cmp
 derived_is = λ i a b. by_cases a b i
 
-pub get-places_seen : {A : Type 0} (m : BTreeMap SocketAddr (Place A)) (q : SocketAddr) → option_map place_seen (tree.get_by (derived q) m) ≡ fin.get (places_seen m.entries) q
-get-places_seen m q = ap (λ R. option_map place_seen (tree.get_by (R q) m)) derived_is ∙ sym (get-seen address_total address_exact (λ a. a) place_seen m.entries q)
+pub get-places_seen : {A : Type 0} (m : BTreeMap SocketAddr (Place A)) (q : SocketAddr)
+    → option_map place_seen (tree.get_by (derived q) m) ≡ fin.get (places_seen m.entries) q
+get-places_seen m q =
+    ap (λ R. option_map place_seen (tree.get_by (R q) m)) derived_is
+    ∙ sym (get-seen address_total address_exact (λ a. a) place_seen m.entries q)
 
-pub places_seen-updated : {A : Type 0} (m n : BTreeMap SocketAddr (Place A)) (a : SocketAddr) (v : Place A) → UpdatesBy derived (derived a) m n (Some v) → places_seen n.entries ≡ fin.insert (places_seen m.entries) a (place_seen v)
+pub places_seen-updated : {A : Type 0} (m n : BTreeMap SocketAddr (Place A)) (a : SocketAddr)
+    (v : Place A) → UpdatesBy derived (derived a) m n (Some v)
+    → places_seen n.entries ≡ fin.insert (places_seen m.entries) a (place_seen v)
 places_seen-updated m n a v updates =
-    let changed = subst (λ (R : SocketAddr → SocketAddr → Ordering). (q : SocketAddr) → tree.get R n q ≡ cond (is_eq (R a q)) (Some v) (tree.get R m q)) derived_is updates.0 in
+    let changed =
+    subst (λ (R : SocketAddr → SocketAddr → Ordering). (q : SocketAddr)
+    → tree.get R n q ≡ cond (is_eq (R a q)) (Some v) (tree.get R m q)) derived_is updates.0 in
     seen_inserted address_total address_exact (λ x. x) place_seen m.entries n.entries a v changed
 
-pub places_seen-removed : {A : Type 0} (m n : BTreeMap SocketAddr (Place A)) (a : SocketAddr) → UpdatesBy derived (derived a) m n None → places_seen n.entries ≡ fin.remove (places_seen m.entries) a
+pub places_seen-removed : {A : Type 0} (m n : BTreeMap SocketAddr (Place A)) (a : SocketAddr)
+    → UpdatesBy derived (derived a) m n None
+    → places_seen n.entries ≡ fin.remove (places_seen m.entries) a
 places_seen-removed m n a updates =
-    let changed = subst (λ (R : SocketAddr → SocketAddr → Ordering). (q : SocketAddr) → tree.get R n q ≡ cond (is_eq (R a q)) None (tree.get R m q)) derived_is updates.0 in
+    let changed =
+    subst (λ (R : SocketAddr → SocketAddr → Ordering). (q : SocketAddr)
+    → tree.get R n q ≡ cond (is_eq (R a q)) None (tree.get R m q)) derived_is updates.0 in
     seen_removed address_total address_exact (λ x. x) place_seen m.entries n.entries a changed
 
 -- what the finite map has there, where the tree map has it so
-pub found_there : {A : Type 0} (m : BTreeMap SocketAddr (Place A)) (a : SocketAddr) (places : PlacesSeen) (o : Option (Place A)) → places_seen m.entries ≡ places → o ≡ tree.get_by (derived a) m → option_map place_seen o ≡ fin.get places a
-found_there m a places o is found = ap (option_map place_seen) found ∙ get-places_seen m a ∙ ap (λ s. fin.get s a) is
+pub found_there : {A : Type 0} (m : BTreeMap SocketAddr (Place A)) (a : SocketAddr)
+    (places : PlacesSeen) (o : Option (Place A)) → places_seen m.entries ≡ places
+    → o ≡ tree.get_by (derived a) m → option_map place_seen o ≡ fin.get places a
+found_there m a places o is found =
+    ap (option_map place_seen) found ∙ get-places_seen m a ∙ ap (λ s. fin.get s a) is
 
 -- a place that is a function of the one before
-pub places_seen-changed : {A : Type 0} (m n : BTreeMap SocketAddr (Place A)) (a : SocketAddr) (places : PlacesSeen) (o : Option (Place A)) (new : Place A) (change : Option PlaceSeen → PlaceSeen) → places_seen m.entries ≡ places → o ≡ tree.get_by (derived a) m → UpdatesBy derived (derived a) m n (Some new) → place_seen new ≡ change (option_map place_seen o) → places_seen n.entries ≡ fin.insert places a (change (fin.get places a))
+pub places_seen-changed : {A : Type 0} (m n : BTreeMap SocketAddr (Place A)) (a : SocketAddr)
+    (places : PlacesSeen) (o : Option (Place A)) (new : Place A)
+    (change : Option PlaceSeen → PlaceSeen) → places_seen m.entries ≡ places
+    → o ≡ tree.get_by (derived a) m → UpdatesBy derived (derived a) m n (Some new)
+    → place_seen new ≡ change (option_map place_seen o)
+    → places_seen n.entries ≡ fin.insert places a (change (fin.get places a))
 places_seen-changed m n a places o new change is found updates seen =
     places_seen-updated m n a new updates ∙ ap (λ s. fin.insert s a (place_seen new)) is
     ∙ ap (fin.insert places a) (seen ∙ ap change (found_there m a places o is found))
 
-pub is_found : {A : Type 0} (m : BTreeMap SocketAddr (Place A)) (a : SocketAddr) (p : Place A) → Some p ≡ tree.get_by (derived a) m → IsSome (tree.get_by (derived a) m)
+pub is_found : {A : Type 0} (m : BTreeMap SocketAddr (Place A)) (a : SocketAddr) (p : Place A)
+    → Some p ≡ tree.get_by (derived a) m → IsSome (tree.get_by (derived a) m)
 is_found m a p found = subst (λ o. IsSome o) found refl
 
 -- a change of the place, where there is one
-pub places_seen-at : {A : Type 0} (m n : BTreeMap SocketAddr (Place A)) (a : SocketAddr) (places : PlacesSeen) (old new : Place A) (change : PlaceSeen → PlaceSeen) → places_seen m.entries ≡ places → Some old ≡ tree.get_by (derived a) m → UpdatesBy derived (derived a) m n (Some new) → place_seen new ≡ change (place_seen old) → places_seen n.entries ≡ at_place (fin.get places a) places a change
+pub places_seen-at : {A : Type 0} (m n : BTreeMap SocketAddr (Place A)) (a : SocketAddr)
+    (places : PlacesSeen) (old new : Place A) (change : PlaceSeen → PlaceSeen)
+    → places_seen m.entries ≡ places → Some old ≡ tree.get_by (derived a) m
+    → UpdatesBy derived (derived a) m n (Some new) → place_seen new ≡ change (place_seen old)
+    → places_seen n.entries ≡ at_place (fin.get places a) places a change
 places_seen-at m n a places old new change is found updates seen =
-    places_seen-updated m n a new updates ∙ ap (λ s. fin.insert s a (place_seen new)) is ∙ ap (fin.insert places a) seen
+    places_seen-updated m n a new updates ∙ ap (λ s. fin.insert s a (place_seen new)) is
+    ∙ ap (fin.insert places a) seen
     ∙ ap (λ o. at_place o places a change) (found_there m a places (Some old) is found)
 
-pub places_seen-none : {A : Type 0} (m : BTreeMap SocketAddr (Place A)) (a : SocketAddr) (places : PlacesSeen) (change : PlaceSeen → PlaceSeen) → places_seen m.entries ≡ places → None ≡ tree.get_by (derived a) m → places ≡ at_place (fin.get places a) places a change
-places_seen-none m a places change is found = ap (λ o. at_place o places a change) (found_there m a places None is found)
+pub places_seen-none : {A : Type 0} (m : BTreeMap SocketAddr (Place A)) (a : SocketAddr)
+    (places : PlacesSeen) (change : PlaceSeen → PlaceSeen) → places_seen m.entries ≡ places
+    → None ≡ tree.get_by (derived a) m → places ≡ at_place (fin.get places a) places a change
+places_seen-none m a places change is found =
+    ap (λ o. at_place o places a change) (found_there m a places None is found)
 
 -- ---- how many there are
 none_found : {A : Type 0} (q : SocketAddr) (es : List (SocketAddr × Place A))
@@ -76,7 +105,10 @@ none_found : {A : Type 0} (q : SocketAddr) (es : List (SocketAddr × Place A))
     → is_some (fin.find address_cmp q (map (λ e. (e.0, place_seen e.1)) es)) ≡ false
 none_found q [] apart = refl
 none_found q (e ∷ es) apart =
-    ap (λ b. is_some (cond b (Some (place_seen e.1)) (fin.find address_cmp q (map (λ e. (e.0, place_seen e.1)) es)))) apart.0 ∙ none_found q es apart.1
+    ap (λ b.
+    is_some (cond b (Some (place_seen e.1))
+    (fin.find address_cmp q (map (λ e. (e.0, place_seen e.1)) es)))) apart.0
+    ∙ none_found q es apart.1
 
 one_more : (b : Bool) (n m : ℕ) → b ≡ false → n ≡ m → cond b n (n + 1) ≡ suc m
 one_more true n m there is = cc
@@ -88,11 +120,15 @@ len_distinct [] distinct = fin.len-empty address_cmp PlaceSeen
 len_distinct (e ∷ es) distinct =
     fin.len-insert address_total (places_seen es) e.0 (place_seen e.1)
     ∙ one_more _ _ _
-    (ap is_some (fin.get-from_entries address_total (map (λ e. (e.0, place_seen e.1)) es) e.0) ∙ none_found e.0 es (IsDistinct-head (eq_by_cmp address_cmp) e.0 (keys_of es) distinct))
+    (ap is_some (fin.get-from_entries address_total (map (λ e. (e.0, place_seen e.1)) es) e.0)
+    ∙ none_found e.0 es (IsDistinct-head (eq_by_cmp address_cmp) e.0 (keys_of es) distinct))
     (len_distinct es (IsDistinct-tail (eq_by_cmp address_cmp) e.0 (keys_of es) distinct))
 
 -- the finite map has as many addresses as the tree map has entries
 pub len-places_seen : {A : Type 0} (es : List (SocketAddr × Place A))
     → IsStrictlySortedBy derived (keys_of es) → fin.len (places_seen es) ≡ length es
 len-places_seen es sorted =
-    len_distinct es (IsDistinct-from_sorted address_cmp (keys_of es) (subst (λ (R : SocketAddr → SocketAddr → Ordering). IsStrictlySortedBy R (keys_of es)) derived_is sorted))
+    len_distinct es
+    (IsDistinct-from_sorted address_cmp (keys_of es)
+    (subst (λ (R : SocketAddr → SocketAddr → Ordering). IsStrictlySortedBy R (keys_of es))
+    derived_is sorted))

@@ -4,11 +4,15 @@ use Rattle.std.proofs.lemmas.List.{drop-map}
 use Rattle.std.specs.Prelude.{cond, ◌==◌}
 use Rattle.stun_auth.specs.declared.algorithm_set.AlgorithmSet.{AlgorithmSet}
 use Rattle.stun_auth.specs.declared.feature.Feature.{Feature}
-use Rattle.stun_auth.specs.Nonces.{begins_with_cookie, letter, security_byte, front, without_cookie, nonce_of}
+use Rattle.stun_auth.specs.Nonces.{begins_with_cookie, letter, security_byte}
+use Rattle.stun_auth.specs.Nonces.{front, without_cookie, nonce_of}
 
 -- the first letter is p, and the others stay
-pub renamed : (algorithms : AlgorithmSet) (feature : Feature) (words : List ℕ) → security_byte algorithms feature ≡ 0 → begins_with_cookie (map letter words) ≡ true → 112 ∷ map letter (drop 1 words) ≡ nonce_of algorithms feature words
+pub renamed : (algorithms : AlgorithmSet) (feature : Feature) (words : List ℕ)
+    → security_byte algorithms feature ≡ 0 → begins_with_cookie (map letter words) ≡ true
+    → 112 ∷ map letter (drop 1 words) ≡ nonce_of algorithms feature words
 renamed algorithms feature words plain spelled =
     ap (λ ws. 112 ∷ ws) (sym (drop-map letter 1 words))
     ∙ sym (ap (λ b. cond b (112 ∷ drop 1 (map letter words)) (map letter words)) spelled)
-    ∙ sym (ap (λ n. cond (n == 0) (without_cookie (map letter words)) (front n ++ map letter words)) plain)
+    ∙ sym (ap (λ n. cond (n == 0) (without_cookie (map letter words)) (front n ++ map letter words))
+    plain)

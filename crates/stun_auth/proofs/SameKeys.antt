@@ -1,6 +1,7 @@
 -- A server looks at nothing of its users but their names and keys: users of the same names with the
 -- same keys are judged and signed for alike.
-use Rattle.std.proofs.Common.{◌≡◌, ℕ, List, Option, Some, None, Bool, true, false, refl, sym, ◌∙◌, ap, Ok, Err}
+use Rattle.std.proofs.Common.{◌≡◌, ℕ, List, Option, Some, None, Bool}
+use Rattle.std.proofs.Common.{true, false, refl, sym, ◌∙◌, ap, Ok, Err}
 use Rattle.std.specs.Prelude.{◌++◌, cond, not}
 use Rattle.std.specs.Option.{is_some, option_and_then}
 use Rattle.std.specs.List.{find}
@@ -23,24 +24,32 @@ use Rattle.stun_auth.specs.Reading.{Reading, verified_under}
 use Rattle.stun_auth.specs.Registered.{Registered, UserSecret, key_at, name_cmp}
 use Rattle.stun_auth.specs.Seen.{ClientSeen, PlaceSeen}
 use Rattle.stun_auth.specs.Server.{agreed, nonce_refusal, standing, verdict}
-use Rattle.stun_auth.specs.ServerSigning.{additions_at, after_signing, attributes_for, digest_for, digest_under, protected, protected_for, server_additions, server_signed, signed_at}
-use Rattle.stun_auth.specs.Validation.{ServerSeen, after_message, answer, answer_to, client_verified, is_complete, needs_nonce, put_place, sight, validated_or_failed, verified_for_client, with_accepted}
+use Rattle.stun_auth.specs.ServerSigning.{additions_at, after_signing, attributes_for}
+use Rattle.stun_auth.specs.ServerSigning.{digest_for, digest_under, protected, protected_for}
+use Rattle.stun_auth.specs.ServerSigning.{server_additions, server_signed, signed_at}
+use Rattle.stun_auth.specs.Validation.{ServerSeen, after_message, answer, answer_to}
+use Rattle.stun_auth.specs.Validation.{client_verified, is_complete, needs_nonce, put_place, sight}
+use Rattle.stun_auth.specs.Validation.{validated_or_failed, verified_for_client, with_accepted}
 use Rattle.stun_auth.specs.code.Judging.{name_by, name_in}
 use Rattle.stun_auth.proofs.VerdictLemmas.{by_steps-verdict}
-use Rattle.stun_auth.proofs.VerdictSteps.{by_attributes, by_choice, by_digest, by_name, by_nonce, by_steps}
+use Rattle.stun_auth.proofs.VerdictSteps.{by_attributes, by_choice, by_digest}
+use Rattle.stun_auth.proofs.VerdictSteps.{by_name, by_nonce, by_steps}
 
 -- the users of a realm, each known by these secrets
 abbrev pub knowing : Registered → fin.FinMap name_cmp UserSecret → Registered
 knowing users secrets = record users { secrets = secrets }
 
-module _ (users : Registered) (x y : fin.FinMap name_cmp UserSecret) (names : fin.keys x ≡ fin.keys y)
-    (keys : (name : List ℕ) (a : IntegrityAlgorithm) → key_at (knowing users x) name a ≡ key_at (knowing users y) name a) where
+module _ (users : Registered) (x y : fin.FinMap name_cmp UserSecret)
+    (names : fin.keys x ≡ fin.keys y)
+    (keys : (name : List ℕ) (a : IntegrityAlgorithm)
+    → key_at (knowing users x) name a ≡ key_at (knowing users y) name a) where
   -- ---- the verdict
 
   digest-same : (r : Reading) (name : List ℕ) (a : IntegrityAlgorithm)
       → by_digest (knowing users x) r name a ≡ by_digest (knowing users y) r name a
   digest-same r name a =
-      ap (λ k. cond (is_some (option_and_then (verified_under r) k)) (Ok (record { name = name; algorithm = a })) (Err Refused.Unauthorized)) (keys name a)
+      ap (λ k. cond (is_some (option_and_then (verified_under r) k))
+      (Ok (record { name = name; algorithm = a })) (Err Refused.Unauthorized)) (keys name a)
 
   named-same : (r : Reading) (o : Option (List ℕ)) (a : IntegrityAlgorithm)
       → by_name (knowing users x) r o a ≡ by_name (knowing users y) r o a
@@ -52,15 +61,18 @@ module _ (users : Registered) (x y : fin.FinMap name_cmp UserSecret) (names : fi
       ≡ name_by hash username (knowing users y) feature
   name-same feature None username = refl
   name-same feature (Some hash) username =
-      ap (λ (ns : List (List ℕ)). cond (is_possible feature) (find (λ name. bytes_eq (userhash name users.realm) hash) ns) None) names
+      ap (λ (ns : List (List ℕ)). cond (is_possible feature)
+      (find (λ name. bytes_eq (userhash name users.realm) hash) ns) None) names
 
   module _ (feature : Feature) (ours : List ℕ) (offered : Option AlgorithmSet) (r : Reading) where
     nonce-same : (theirs : List ℕ) (a : IntegrityAlgorithm)
         → by_nonce (knowing users x) feature ours r theirs a
         ≡ by_nonce (knowing users y) feature ours r theirs a
     nonce-same theirs a =
-        ap (λ (v : Result ClientSeen Refusal). cond (bytes_eq theirs ours) v (Err (nonce_refusal ours theirs)))
-        (ap (λ o. by_name (knowing users x) r o a) (name-same feature r.userhash r.username) ∙ named-same r (name_in (knowing users y) feature r) a)
+        ap (λ (v : Result ClientSeen Refusal).
+        cond (bytes_eq theirs ours) v (Err (nonce_refusal ours theirs)))
+        (ap (λ o. by_name (knowing users x) r o a) (name-same feature r.userhash r.username)
+        ∙ named-same r (name_in (knowing users y) feature r) a)
 
     choice-same : (theirs : List ℕ) (o : Option IntegrityAlgorithm)
         → by_choice (knowing users x) feature ours r theirs o
@@ -77,7 +89,9 @@ module _ (users : Registered) (x y : fin.FinMap name_cmp UserSecret) (names : fi
     steps-same : by_steps (knowing users x) feature ours offered r
         ≡ by_steps (knowing users y) feature ours offered r
     steps-same =
-        ap (λ (v : Result ClientSeen Refusal). cond (not (is_some r.integrity)) (Err Refused.Unauthorized) (cond (not (is_complete r)) (Err Refused.BadRequest) v))
+        ap (λ (v : Result ClientSeen Refusal).
+        cond (not (is_some r.integrity)) (Err Refused.Unauthorized)
+        (cond (not (is_complete r)) (Err Refused.BadRequest) v))
         (attributes-same r.nonce)
 
     verdict-same : verdict (knowing users x) feature ours offered r
@@ -120,8 +134,10 @@ module _ (users : Registered) (x y : fin.FinMap name_cmp UserSecret) (names : fi
       ≡ signed_at response (knowing users y) place page
   signed-same response None page = refl
   signed-same response (Some p) page =
-      ap (λ (list : List Addition). after (added_all list page) (protected_for (knowing users x) p.client)) (attributes-alike response p.nonce p.client)
-      ∙ next-same p.client (added_all (attributes_for response (knowing users y) p.nonce p.client) page)
+      ap (λ (list : List Addition). after (added_all list page)
+      (protected_for (knowing users x) p.client)) (attributes-alike response p.nonce p.client)
+      ∙ next-same p.client
+      (added_all (attributes_for response (knowing users y) p.nonce p.client) page)
 
   digest-alike : (o : Option ClientSeen) → digest_for (knowing users x) o
       ≡ digest_for (knowing users y) o
@@ -132,12 +148,14 @@ module _ (users : Registered) (x y : fin.FinMap name_cmp UserSecret) (names : fi
       → additions_at response (knowing users x) place
       ≡ additions_at response (knowing users y) place
   additions-same response None = refl
-  additions-same response (Some p) = λ i. attributes-alike response p.nonce p.client i ++ digest-alike p.client i
+  additions-same response (Some p) =
+      λ i. attributes-alike response p.nonce p.client i ++ digest-alike p.client i
 
 -- ---- a server
 
 module _ (s : ServerSeen) (x y : fin.FinMap name_cmp UserSecret) (names : fin.keys x ≡ fin.keys y)
-    (keys : (name : List ℕ) (a : IntegrityAlgorithm) → key_at (knowing s.registered x) name a ≡ key_at (knowing s.registered y) name a) where
+    (keys : (name : List ℕ) (a : IntegrityAlgorithm)
+    → key_at (knowing s.registered x) name a ≡ key_at (knowing s.registered y) name a) where
   judged : (place : PlaceSeen) (r : Reading)
       → verdict (knowing s.registered x) s.feature place.nonce place.offered r
       ≡ verdict (knowing s.registered y) s.feature place.nonce place.offered r
@@ -147,30 +165,37 @@ module _ (s : ServerSeen) (x y : fin.FinMap name_cmp UserSecret) (names : fin.ke
       → answer (sight (with_users s (knowing s.registered x)) from) now words r
       ≡ answer (sight (with_users s (knowing s.registered y)) from) now words r
   answer-same from now words r = λ i.
-      cond (is_response r.class) (validated_or_failed (client-same s.registered x y names keys r (fin.get s.places from) i))
+      cond (is_response r.class)
+      (validated_or_failed (client-same s.registered x y names keys r (fin.get s.places from) i))
       (answer_to (judged (standing (sight s from) now words) r i))
 
   pub message-same : (from : SocketAddr) (now : ℕ) (words : List ℕ) (r : Reading)
-      → with_users (after_message (with_users s (knowing s.registered x)) from now words r) s.registered
-      ≡ with_users (after_message (with_users s (knowing s.registered y)) from now words r) s.registered
+      → with_users (after_message (with_users s (knowing s.registered x)) from now words r)
+      s.registered
+      ≡ with_users (after_message (with_users s (knowing s.registered y)) from now words r)
+      s.registered
   message-same from now words r =
       ap (λ (v : Result ClientSeen Refusal). record s {
         places = put_place s.places from
-            (cond (needs_nonce r) (Some (with_accepted (standing (sight s from) now words) v)) (fin.get s.places from));
+            (cond (needs_nonce r) (Some (with_accepted (standing (sight s from) now words) v))
+            (fin.get s.places from));
       }) (judged (standing (sight s from) now words) r)
 
   pub server_signed-same : (to : SocketAddr) (response : Bool) (page : Page)
       → server_signed (sight (with_users s (knowing s.registered x)) to) response page
       ≡ server_signed (sight (with_users s (knowing s.registered y)) to) response page
-  server_signed-same to response page = signed-same s.registered x y names keys response (fin.get s.places to) page
+  server_signed-same to response page =
+      signed-same s.registered x y names keys response (fin.get s.places to) page
 
   pub server_additions-same : (to : SocketAddr) (response : Bool)
       → server_additions (sight (with_users s (knowing s.registered x)) to) response
       ≡ server_additions (sight (with_users s (knowing s.registered y)) to) response
-  server_additions-same to response = additions-same s.registered x y names keys response (fin.get s.places to)
+  server_additions-same to response =
+      additions-same s.registered x y names keys response (fin.get s.places to)
 
 -- what signing keeps does not look at what users are known by
-pub signing-same : (s : ServerSeen) (x y : fin.FinMap name_cmp UserSecret) (to : SocketAddr) (response : Bool)
+pub signing-same : (s : ServerSeen) (x y : fin.FinMap name_cmp UserSecret) (to : SocketAddr)
+    (response : Bool)
     → with_users (after_signing (with_users s (knowing s.registered x)) to response) s.registered
     ≡ with_users (after_signing (with_users s (knowing s.registered y)) to response) s.registered
 signing-same s x y to true = refl

@@ -1,22 +1,45 @@
 -- What client and server add, by attribute.
-use Rattle.std.proofs.Common.{◌≡◌, Bool, true, false, List, [], ◌∷◌, ◌++◌, ℕ, Ok, Err, refl, sym, ◌∙◌, ap}
+use Rattle.std.proofs.Common.{◌≡◌, Bool, true, false, List, [], ◌∷◌}
+use Rattle.std.proofs.Common.{◌++◌, ℕ, Ok, Err, refl, sym, ◌∙◌, ap}
 use Rattle.std.specs.Prelude.{Option, Some, None, Result, IsOk}
 use Rattle.std.specs.Option.{IsSome, option_map}
 use Rattle.stun_base.specs.declared.keys.algorithm.IntegrityAlgorithm.{IntegrityAlgorithm}
 use Rattle.stun_base.specs.declared.keys.algorithm.IntegrityAlgorithm.TheVariants.{Sha1, Sha256}
 use Rattle.stun_base.specs.declared.wire.error.StunWriteError.{StunWriteError}
 use Rattle.stun_auth.specs.Additions.{Addition, Page, added_all, added_one, after, integrity}
-use Rattle.stun_auth.specs.Client.{Naming, plain, hashed, ClientState, initial, authenticating, authenticated}
+use Rattle.stun_auth.specs.Client.{Naming, plain, hashed, ClientState}
+use Rattle.stun_auth.specs.Client.{initial, authenticating, authenticated}
 use Rattle.stun_auth.specs.ClientSigning.{challenge_additions, client_additions}
 use Rattle.stun_auth.specs.Registered.{Registered, key_at}
 use Rattle.stun_auth.specs.Seen.{ClientSeen, PlaceSeen}
 use Rattle.stun_auth.specs.Server.{Sight}
-use Rattle.stun_auth.specs.ServerSigning.{attributes_for, protected, protected_for, server_signed, signed_at}
-use Rattle.stun_auth.specs.Signed.{Added, added_at, added_by_client, added_by_server, added_for, added_under, added_under_key, added_without_client, additions_of, nothing}
+use Rattle.stun_auth.specs.ServerSigning.{attributes_for, protected}
+use Rattle.stun_auth.specs.ServerSigning.{protected_for, server_signed, signed_at}
+use Rattle.stun_auth.specs.Signed.{Added, added_at, added_by_client, added_by_server}
+use Rattle.stun_auth.specs.Signed.{added_for, added_under, added_under_key}
+use Rattle.stun_auth.specs.Signed.{added_without_client, additions_of, nothing}
 
-challenge_parts : (request : Bool) (naming : Naming) (realm nonce : List ℕ) (algorithms : List IntegrityAlgorithm) (algorithm : IntegrityAlgorithm) (key : List ℕ)
-    → challenge_additions request (record { naming = naming; realm = realm; nonce = nonce; algorithms = algorithms; algorithm = algorithm; key = key })
-    ≡ additions_of (added_under request (record { naming = naming; realm = realm; nonce = nonce; algorithms = algorithms; algorithm = algorithm; key = key }))
+challenge_parts : (request : Bool) (naming : Naming) (realm nonce : List ℕ)
+    (algorithms : List IntegrityAlgorithm) (algorithm : IntegrityAlgorithm) (key : List ℕ)
+    → challenge_additions request
+    (record {
+      naming = naming;
+      realm = realm;
+      nonce = nonce;
+      algorithms = algorithms;
+      algorithm = algorithm;
+      key = key;
+    })
+    ≡ additions_of
+    (added_under request
+    (record {
+      naming = naming;
+      realm = realm;
+      nonce = nonce;
+      algorithms = algorithms;
+      algorithm = algorithm;
+      key = key;
+    }))
 challenge_parts true (plain name) realm nonce [] Sha1 key = refl
 challenge_parts true (plain name) realm nonce [] Sha256 key = refl
 challenge_parts true (plain name) realm nonce (a ∷ list) Sha1 key = refl
@@ -31,31 +54,41 @@ challenge_parts false naming realm nonce (a ∷ list) Sha1 key = refl
 challenge_parts false naming realm nonce (a ∷ list) Sha256 key = refl
 
 -- a client's additions
-pub client_same : (request : Bool) (state : ClientState) → client_additions request state ≡ additions_of (added_by_client request state)
+pub client_same : (request : Bool) (state : ClientState)
+    → client_additions request state ≡ additions_of (added_by_client request state)
 client_same request initial = refl
-client_same request (authenticating c) = challenge_parts request c.naming c.realm c.nonce c.algorithms c.algorithm c.key
-client_same request (authenticated c) = challenge_parts request c.naming c.realm c.nonce c.algorithms c.algorithm c.key
+client_same request (authenticating c) =
+    challenge_parts request c.naming c.realm c.nonce c.algorithms c.algorithm c.key
+client_same request (authenticated c) =
+    challenge_parts request c.naming c.realm c.nonce c.algorithms c.algorithm c.key
 
 -- additions in two steps
-added_all-append : (xs ys : List Addition) (page : Page) → added_all (xs ++ ys) page ≡ after (added_all xs page) (added_all ys)
+added_all-append : (xs ys : List Addition) (page : Page)
+    → added_all (xs ++ ys) page ≡ after (added_all xs page) (added_all ys)
 added_all-append [] ys page = refl
-added_all-append (x ∷ xs) ys page = elim (added_one x page) as (λ (r : Result Page StunWriteError). after r (added_all (xs ++ ys)) ≡ after (after r (added_all xs)) (added_all ys)) [
-  | Ok next ↦ added_all-append xs ys next
-  | Err reason ↦ refl
-]
+added_all-append (x ∷ xs) ys page =
+    elim (added_one x page) as (λ (r : Result Page StunWriteError). after r (added_all (xs ++ ys))
+    ≡ after (after r (added_all xs)) (added_all ys)) [
+      | Ok next ↦ added_all-append xs ys next
+      | Err reason ↦ refl
+    ]
 
 after_nothing : (r : Result Page StunWriteError) → after r (λ page. Ok page) ≡ r
 after_nothing (Ok page) = refl
 after_nothing (Err reason) = refl
 
 -- to an address without a client
-without_client : (response : Bool) (users : Registered) (nonce : List ℕ) → attributes_for response users nonce None ≡ additions_of (added_without_client response users nonce)
+without_client : (response : Bool) (users : Registered) (nonce : List ℕ)
+    → attributes_for response users nonce None
+    ≡ additions_of (added_without_client response users nonce)
 without_client true users nonce = refl
 without_client false users nonce = refl
 
 -- to a client, under a key
-under_key : (response : Bool) (users : Registered) (nonce name : List ℕ) (algorithm : IntegrityAlgorithm) (key : List ℕ)
-    → attributes_for response users nonce (Some (record { name = name; algorithm = algorithm })) ++ integrity algorithm key ∷ []
+under_key : (response : Bool) (users : Registered) (nonce name : List ℕ)
+    (algorithm : IntegrityAlgorithm) (key : List ℕ)
+    → attributes_for response users nonce (Some (record { name = name; algorithm = algorithm }))
+    ++ integrity algorithm key ∷ []
     ≡ additions_of (added_under_key response users nonce algorithm key)
 under_key true users nonce name Sha1 key = refl
 under_key true users nonce name Sha256 key = refl
@@ -65,49 +98,69 @@ under_key false users nonce name Sha256 key = refl
 there : {X : Type 0} (x y : X) → Some x ≡ Some y → x ≡ y
 there x y same = cc
 
-for_client : (response : Bool) (users : Registered) (nonce : List ℕ) (client : Option ClientSeen) (page : Page) (a : Added) → added_for response users nonce client ≡ Some a
-    → after (added_all (attributes_for response users nonce client) page) (protected_for users client) ≡ added_all (additions_of a) page
+for_client : (response : Bool) (users : Registered) (nonce : List ℕ) (client : Option ClientSeen)
+    (page : Page) (a : Added) → added_for response users nonce client ≡ Some a
+    → after (added_all (attributes_for response users nonce client) page)
+    (protected_for users client) ≡ added_all (additions_of a) page
 for_client response users nonce None page a is =
     after_nothing (added_all (attributes_for response users nonce None) page)
     ∙ (ap (λ list. added_all list page) (without_client response users nonce)
-    ∙ ap (λ (b : Added). added_all (additions_of b) page) (there (added_without_client response users nonce) a is))
+    ∙ ap (λ (b : Added). added_all (additions_of b) page)
+    (there (added_without_client response users nonce) a is))
 for_client response users nonce (Some c) page a is =
-    elim (key_at users c.name c.algorithm) as (λ (key : Option (List ℕ)). option_map (added_under_key response users nonce c.algorithm) key ≡ Some a
-    → after (added_all (attributes_for response users nonce (Some c)) page) (protected c.algorithm key) ≡ added_all (additions_of a) page) [
+    elim (key_at users c.name c.algorithm) as (λ (key : Option (List ℕ)).
+    option_map (added_under_key response users nonce c.algorithm) key ≡ Some a
+    → after (added_all (attributes_for response users nonce (Some c)) page)
+    (protected c.algorithm key) ≡ added_all (additions_of a) page) [
       | None ↦ λ is. absurd (cc)
       | Some key ↦ λ is.
-          sym (added_all-append (attributes_for response users nonce (Some c)) (integrity c.algorithm key ∷ []) page)
-          ∙ (ap (λ list. added_all list page) (under_key response users nonce c.name c.algorithm key)
-          ∙ ap (λ (b : Added). added_all (additions_of b) page) (there (added_under_key response users nonce c.algorithm key) a is))
+          sym (added_all-append (attributes_for response users nonce (Some c))
+          (integrity c.algorithm key ∷ []) page)
+          ∙ (ap (λ list. added_all list page)
+          (under_key response users nonce c.name c.algorithm key)
+          ∙ ap (λ (b : Added). added_all (additions_of b) page)
+          (there (added_under_key response users nonce c.algorithm key) a is))
     ] is
 
-at_place : (response : Bool) (users : Registered) (place : Option PlaceSeen) (page : Page) (a : Added) → added_at response users place ≡ Some a
+at_place : (response : Bool) (users : Registered) (place : Option PlaceSeen) (page : Page)
+    (a : Added) → added_at response users place ≡ Some a
     → signed_at response users place page ≡ added_all (additions_of a) page
-at_place response users None page a is = ap (λ (b : Added). added_all (additions_of b) page) (there nothing a is)
+at_place response users None page a is =
+    ap (λ (b : Added). added_all (additions_of b) page) (there nothing a is)
 at_place response users (Some p) page a is = for_client response users p.nonce p.client page a is
 
 -- a server's additions
-pub server_same : (s : Sight) (response : Bool) (page : Page) (a : Added) → added_by_server s response ≡ Some a → server_signed s response page ≡ added_all (additions_of a) page
+pub server_same : (s : Sight) (response : Bool) (page : Page) (a : Added)
+    → added_by_server s response ≡ Some a
+    → server_signed s response page ≡ added_all (additions_of a) page
 server_same s response page a is = at_place response s.registered s.place page a is
 
-refused_last : {X : Type 0} (algorithm : IntegrityAlgorithm) (r : Result Page StunWriteError) → IsOk (after r (protected algorithm None)) → X
+refused_last : {X : Type 0} (algorithm : IntegrityAlgorithm) (r : Result Page StunWriteError)
+    → IsOk (after r (protected algorithm None)) → X
 refused_last algorithm (Ok page) ok = absurd (cc)
 refused_last algorithm (Err reason) ok = absurd (cc)
 
 -- what is signed was there to be added
-client_there : (response : Bool) (users : Registered) (nonce : List ℕ) (client : Option ClientSeen) (page : Page)
-    → IsOk (after (added_all (attributes_for response users nonce client) page) (protected_for users client)) → IsSome (added_for response users nonce client)
+client_there : (response : Bool) (users : Registered) (nonce : List ℕ) (client : Option ClientSeen)
+    (page : Page)
+    → IsOk (after (added_all (attributes_for response users nonce client) page)
+    (protected_for users client)) → IsSome (added_for response users nonce client)
 client_there response users nonce None page ok = refl
 client_there response users nonce (Some c) page ok =
-    elim (key_at users c.name c.algorithm) as (λ (key : Option (List ℕ)). IsOk (after (added_all (attributes_for response users nonce (Some c)) page) (protected c.algorithm key))
+    elim (key_at users c.name c.algorithm) as (λ (key : Option (List ℕ)).
+    IsOk (after (added_all (attributes_for response users nonce (Some c)) page)
+    (protected c.algorithm key))
     → IsSome (option_map (added_under_key response users nonce c.algorithm) key)) [
-      | None ↦ λ ok. refused_last c.algorithm (added_all (attributes_for response users nonce (Some c)) page) ok
+      | None ↦ λ ok. refused_last c.algorithm
+          (added_all (attributes_for response users nonce (Some c)) page) ok
       | Some key ↦ λ ok. refl
     ] ok
 
-place_there : (response : Bool) (users : Registered) (place : Option PlaceSeen) (page : Page) → IsOk (signed_at response users place page) → IsSome (added_at response users place)
+place_there : (response : Bool) (users : Registered) (place : Option PlaceSeen) (page : Page)
+    → IsOk (signed_at response users place page) → IsSome (added_at response users place)
 place_there response users None page ok = refl
 place_there response users (Some p) page ok = client_there response users p.nonce p.client page ok
 
-pub server_there : (s : Sight) (response : Bool) (page : Page) → IsOk (server_signed s response page) → IsSome (added_by_server s response)
+pub server_there : (s : Sight) (response : Bool) (page : Page)
+    → IsOk (server_signed s response page) → IsSome (added_by_server s response)
 server_there s response page ok = place_there response s.registered s.place page ok

@@ -1,5 +1,7 @@
--- What steps of forgetting leave, address by address, and that all of them together leave what forgetting at once does.
-use Rattle.std.proofs.Common.{◌≡◌, ◌<◌, ◌+◌, ◌-◌, ℕ, zero, suc, List, [], ◌∷◌, Bool, true, false, Option, Some, None, refl, sym, ◌∙◌, ap, subst, true≢false, arith}
+-- What steps of forgetting leave, address by address, and that all of them together leave what
+-- forgetting at once does.
+use Rattle.std.proofs.Common.{◌≡◌, ◌<◌, ◌+◌, ◌-◌, ℕ, zero, suc, List, [], ◌∷◌, Bool, true, false}
+use Rattle.std.proofs.Common.{Option, Some, None, refl, sym, ◌∙◌, ap, subst, true≢false, arith}
 use Rattle.std.specs.Prelude.{cond, not, ◌&&◌, ◌||◌}
 use Rattle.std.specs.Option.{is_some, option_and_then, option_map, option_map_or, IsSome}
 use Rattle.std.specs.declared.cmp.Ordering.{Ordering}
@@ -17,7 +19,9 @@ use Rattle.std.specs.declared.ops.Bound.TheVariants.{Included, Excluded, Unbound
 use Rattle.std.specs.declared.net.socket_addr.SocketAddr.{SocketAddr}
 use Rattle.stun_base.specs.Address.{address_cmp, same_address}
 use Rattle.stun_auth.specs.Forgetting.{after_forgetting, is_forgotten, place_kept, places_kept}
-use Rattle.stun_auth.specs.ForgettingSteps.{after_step, after_steps, first_from, is_before, is_looked_at, next_address, next_from, places_kept_where, start_of}
+use Rattle.stun_auth.specs.ForgettingSteps.{after_step, after_steps, first_from}
+use Rattle.stun_auth.specs.ForgettingSteps.{is_before, is_looked_at, next_address}
+use Rattle.stun_auth.specs.ForgettingSteps.{next_from, places_kept_where, start_of}
 use Rattle.stun_auth.specs.Places.{PlacesSeen}
 use Rattle.stun_auth.specs.Seen.{PlaceSeen}
 use Rattle.stun_auth.specs.Validation.{ServerSeen}
@@ -37,9 +41,12 @@ is_less Equal h = absurd (true≢false (sym h))
 is_less Greater h = absurd (true≢false (sym h))
 
 -- what comes after an address that a start lets in is let in
-pub from_start-later : (start : Bound SocketAddr) (a q : SocketAddr) → is_from_start address_cmp start a ≡ true → address_cmp a q ≡ Less → is_from_start address_cmp start q ≡ true
+pub from_start-later : (start : Bound SocketAddr) (a q : SocketAddr)
+    → is_from_start address_cmp start a ≡ true → address_cmp a q ≡ Less
+    → is_from_start address_cmp start q ≡ true
 from_start-later Unbounded a q h later = refl
-from_start-later (Excluded s) a q h later = ap is_lt (address_total.trans s a q (is_less (address_cmp s a) h) later)
+from_start-later (Excluded s) a q h later =
+    ap is_lt (address_total.trans s a q (is_less (address_cmp s a) h) later)
 from_start-later (Included s) a q h later = by (address_cmp s a) refl h
   where
     by : (r : Ordering) → address_cmp s a ≡ r → is_le r ≡ true → is_le (address_cmp s q) ≡ true
@@ -53,11 +60,13 @@ turned Less = refl
 turned Equal = refl
 turned Greater = refl
 
-pub before-turned : (q b : SocketAddr) → is_before (Some b) q ≡ not (is_from_start address_cmp (Included b) q)
+pub before-turned : (q b : SocketAddr)
+    → is_before (Some b) q ≡ not (is_from_start address_cmp (Included b) q)
 before-turned q b = ap is_lt (address_total.antisymm q b) ∙ turned (address_cmp b q)
 
 -- an address that is not below another is that one, or comes after it
-pub apart : (a q : SocketAddr) → is_gt (address_cmp a q) ≡ false → same_address a q ≡ false → address_cmp a q ≡ Less
+pub apart : (a q : SocketAddr) → is_gt (address_cmp a q) ≡ false → same_address a q ≡ false
+    → address_cmp a q ≡ Less
 apart a q up other = by (address_cmp a q) up other
   where
     by : (r : Ordering) → is_gt r ≡ false → is_eq r ≡ false → r ≡ Less
@@ -67,53 +76,67 @@ apart a q up other = by (address_cmp a q) up other
 
 -- ---- places that are kept where a test holds
 
-chosen_place : (b : Bool) (now : ℕ) (o : Option PlaceSeen) → cond (not b || is_some (place_kept now o)) o None ≡ cond b (place_kept now o) o
+chosen_place : (b : Bool) (now : ℕ) (o : Option PlaceSeen)
+    → cond (not b || is_some (place_kept now o)) o None ≡ cond b (place_kept now o) o
 chosen_place false now o = refl
 chosen_place true now None = refl
 chosen_place true now (Some place) = by (is_forgotten now place)
   where
-    by : (b : Bool) → cond (is_some (cond b None (Some place))) (Some place) None ≡ cond b None (Some place)
+    by : (b : Bool)
+        → cond (is_some (cond b None (Some place))) (Some place) None ≡ cond b None (Some place)
     by true = refl
     by false = refl
 
 pub get-kept_where : (chosen : SocketAddr → Bool) (now : ℕ) (places : PlacesSeen) (q : SocketAddr)
-    → fin.get (places_kept_where chosen now places) q ≡ cond (chosen q) (place_kept now (fin.get places q)) (fin.get places q)
+    → fin.get (places_kept_where chosen now places) q
+    ≡ cond (chosen q) (place_kept now (fin.get places q)) (fin.get places q)
 get-kept_where chosen now places q =
-    fin.get-retain_keys places (λ a. not (chosen a) || is_some (place_kept now (fin.get places a))) q
-    (λ x tied. ap (λ a. not (chosen a) || is_some (place_kept now (fin.get places a))) (sym (address_exact q x tied)))
+    fin.get-retain_keys places
+    (λ a. not (chosen a) || is_some (place_kept now (fin.get places a))) q
+    (λ x tied. ap (λ a. not (chosen a) || is_some (place_kept now (fin.get places a)))
+    (sym (address_exact q x tied)))
     ∙ chosen_place (chosen q) now (fin.get places q)
 
 -- tests that agree wherever there is a place keep the same places
-same_chosen : (now : ℕ) (o : Option PlaceSeen) (b c : Bool) → (IsSome o → b ≡ c) → cond b (place_kept now o) o ≡ cond c (place_kept now o) o
+same_chosen : (now : ℕ) (o : Option PlaceSeen) (b c : Bool) → (IsSome o → b ≡ c)
+    → cond b (place_kept now o) o ≡ cond c (place_kept now o) o
 same_chosen now None true true h = refl
 same_chosen now None true false h = refl
 same_chosen now None false true h = refl
 same_chosen now None false false h = refl
-same_chosen now (Some place) b c h = ap (λ t. cond t (place_kept now (Some place)) (Some place)) (h refl)
+same_chosen now (Some place) b c h =
+    ap (λ t. cond t (place_kept now (Some place)) (Some place)) (h refl)
 
-pub kept_where-same : (chosen others : SocketAddr → Bool) (now : ℕ) (places : PlacesSeen) → ((q : SocketAddr) → IsSome (fin.get places q) → chosen q ≡ others q)
+pub kept_where-same : (chosen others : SocketAddr → Bool) (now : ℕ) (places : PlacesSeen)
+    → ((q : SocketAddr) → IsSome (fin.get places q) → chosen q ≡ others q)
     → places_kept_where chosen now places ≡ places_kept_where others now places
 kept_where-same chosen others now places same = fin.same_map address_total address_exact _ _ (λ q.
-    get-kept_where chosen now places q ∙ same_chosen now (fin.get places q) (chosen q) (others q) (same q) ∙ sym (get-kept_where others now places q))
+    get-kept_where chosen now places q
+    ∙ same_chosen now (fin.get places q) (chosen q) (others q) (same q)
+    ∙ sym (get-kept_where others now places q))
 
 -- what was kept once is kept again
 kept_again : (now : ℕ) (o : Option PlaceSeen) → place_kept now (place_kept now o) ≡ place_kept now o
 kept_again now None = refl
 kept_again now (Some place) = by (is_forgotten now place) refl
   where
-    by : (b : Bool) → is_forgotten now place ≡ b → place_kept now (cond b None (Some place)) ≡ cond b None (Some place)
+    by : (b : Bool) → is_forgotten now place ≡ b
+        → place_kept now (cond b None (Some place)) ≡ cond b None (Some place)
     by true is = refl
     by false is = ap (λ b. cond b None (Some place)) is
 
 -- one test after another chooses what either does
-twice : (now : ℕ) (o : Option PlaceSeen) (b c : Bool) → cond c (place_kept now (cond b (place_kept now o) o)) (cond b (place_kept now o) o) ≡ cond (b || c) (place_kept now o) o
+twice : (now : ℕ) (o : Option PlaceSeen) (b c : Bool)
+    → cond c (place_kept now (cond b (place_kept now o) o)) (cond b (place_kept now o) o)
+    ≡ cond (b || c) (place_kept now o) o
 twice now o true true = kept_again now o
 twice now o true false = refl
 twice now o false true = refl
 twice now o false false = refl
 
 pub kept_where-twice : (chosen others : SocketAddr → Bool) (now : ℕ) (places : PlacesSeen)
-    → places_kept_where others now (places_kept_where chosen now places) ≡ places_kept_where (λ a. chosen a || others a) now places
+    → places_kept_where others now (places_kept_where chosen now places)
+    ≡ places_kept_where (λ a. chosen a || others a) now places
 kept_where-twice chosen others now places = fin.same_map address_total address_exact _ _ (λ q.
     get-kept_where others now (places_kept_where chosen now places) q
     ∙ ap (λ o. cond (others q) (place_kept now o) o) (get-kept_where chosen now places q)
@@ -121,59 +144,78 @@ kept_where-twice chosen others now places = fin.same_map address_total address_e
     ∙ sym (get-kept_where (λ a. chosen a || others a) now places q))
 
 -- where one address alone is chosen, it is forgotten or nothing changes
-pub kept_if_expired : (a : SocketAddr) (now : ℕ) (places : PlacesSeen) → option_map_or (is_forgotten now) (fin.get places a) false ≡ true
+pub kept_if_expired : (a : SocketAddr) (now : ℕ) (places : PlacesSeen)
+    → option_map_or (is_forgotten now) (fin.get places a) false ≡ true
     → fin.remove places a ≡ places_kept_where (same_address a) now places
 kept_if_expired a now places expired = fin.same_map address_total address_exact _ _ (λ q.
     fin.get-remove address_total places a q
     ∙ ap (λ b. cond b None (fin.get places q)) ((eq_by_cmp_equiv address_total).symm q a)
-    ∙ (elim (same_address a q) as (λ b. same_address a q ≡ b → cond b None (fin.get places q) ≡ cond b (place_kept now (fin.get places q)) (fin.get places q)) [
+    ∙ (elim (same_address a q) as (λ b. same_address a q ≡ b → cond b None (fin.get places q)
+    ≡ cond b (place_kept now (fin.get places q)) (fin.get places q)) [
       | true ↦ λ same.
-          gone (fin.get places q) (ap (λ x. option_map_or (is_forgotten now) (fin.get places x) false) (sym (address_exact a q ((Equal-is (address_cmp a q)).0 same))) ∙ expired)
+          gone (fin.get places q)
+          (ap (λ x. option_map_or (is_forgotten now) (fin.get places x) false)
+          (sym (address_exact a q ((Equal-is (address_cmp a q)).0 same))) ∙ expired)
       | false ↦ λ _. refl
     ] refl)
     ∙ sym (get-kept_where (same_address a) now places q))
   where
-    gone : (o : Option PlaceSeen) → option_map_or (is_forgotten now) o false ≡ true → None ≡ place_kept now o
+    gone : (o : Option PlaceSeen) → option_map_or (is_forgotten now) o false ≡ true
+        → None ≡ place_kept now o
     gone None h = refl
     gone (Some place) h = sym (ap (λ b. cond b None (Some place)) h)
 
-pub kept_if_current : (a : SocketAddr) (now : ℕ) (places : PlacesSeen) → option_map_or (is_forgotten now) (fin.get places a) false ≡ false
+pub kept_if_current : (a : SocketAddr) (now : ℕ) (places : PlacesSeen)
+    → option_map_or (is_forgotten now) (fin.get places a) false ≡ false
     → places ≡ places_kept_where (same_address a) now places
 kept_if_current a now places current = fin.same_map address_total address_exact _ _ (λ q.
-    (elim (same_address a q) as (λ b. same_address a q ≡ b → fin.get places q ≡ cond b (place_kept now (fin.get places q)) (fin.get places q)) [
+    (elim (same_address a q) as (λ b. same_address a q ≡ b
+    → fin.get places q ≡ cond b (place_kept now (fin.get places q)) (fin.get places q)) [
       | true ↦ λ same.
-          stays (fin.get places q) (ap (λ x. option_map_or (is_forgotten now) (fin.get places x) false) (sym (address_exact a q ((Equal-is (address_cmp a q)).0 same))) ∙ current)
+          stays (fin.get places q)
+          (ap (λ x. option_map_or (is_forgotten now) (fin.get places x) false)
+          (sym (address_exact a q ((Equal-is (address_cmp a q)).0 same))) ∙ current)
       | false ↦ λ _. refl
     ] refl)
     ∙ sym (get-kept_where (same_address a) now places q))
   where
-    stays : (o : Option PlaceSeen) → option_map_or (is_forgotten now) o false ≡ false → o ≡ place_kept now o
+    stays : (o : Option PlaceSeen) → option_map_or (is_forgotten now) o false ≡ false
+        → o ≡ place_kept now o
     stays None h = refl
     stays (Some place) h = sym (ap (λ b. cond b None (Some place)) h)
 
 -- where nothing is chosen all stay, and where all are chosen it is forgetting at once
-pub kept_where-none : (now : ℕ) (places : PlacesSeen) → places_kept_where (λ a. false) now places ≡ places
-kept_where-none now places = fin.same_map address_total address_exact _ _ (λ q. get-kept_where (λ a. false) now places q)
+pub kept_where-none : (now : ℕ) (places : PlacesSeen)
+    → places_kept_where (λ a. false) now places ≡ places
+kept_where-none now places =
+    fin.same_map address_total address_exact _ _ (λ q. get-kept_where (λ a. false) now places q)
 
-pub kept_where-all : (now : ℕ) (places : PlacesSeen) → places_kept_where (λ a. true) now places ≡ places_kept now places
+pub kept_where-all : (now : ℕ) (places : PlacesSeen)
+    → places_kept_where (λ a. true) now places ≡ places_kept now places
 kept_where-all now places = fin.same_map address_total address_exact _ _ (λ q.
     get-kept_where (λ a. true) now places q ∙ sym (get-places_kept now places q))
 
 -- ---- the first address from a start on
 
-there : (places : PlacesSeen) (q : SocketAddr) → list_any (eq_by_cmp address_cmp q) (fin.keys places) ≡ true → IsSome (fin.get places q)
+there : (places : PlacesSeen) (q : SocketAddr)
+    → list_any (eq_by_cmp address_cmp q) (fin.keys places) ≡ true → IsSome (fin.get places q)
 there places q among = contains_key-keys places q ∙ among
 
-pub first_is : (places : PlacesSeen) (start : Bound SocketAddr) (o : Option SocketAddr) → IsFirstFrom places start o → first_from places start ≡ o
+pub first_is : (places : PlacesSeen) (start : Bound SocketAddr) (o : Option SocketAddr)
+    → IsFirstFrom places start o → first_from places start ≡ o
 first_is places start None none =
-    find-none address_total address_exact (is_from_start address_cmp start) (fin.entries places) (λ q among.
-    elim (is_from_start address_cmp start q) as (λ b. is_from_start address_cmp start q ≡ b → b ≡ false) [
+    find-none address_total address_exact (is_from_start address_cmp start) (fin.entries places)
+    (λ q among.
+    elim (is_from_start address_cmp start q) as (λ b. is_from_start address_cmp start q ≡ b
+    → b ≡ false) [
       | true ↦ λ within. sym (there places q among) ∙ ap is_some (none q within)
       | false ↦ λ _. refl
     ] refl)
 first_is places start (Some a) first =
-    find-least address_total address_exact (is_from_start address_cmp start) (fin.entries places) (entries_sorted places) a
-    (sym (contains_key-keys places a) ∙ first.0) first.1 (λ q among within. first.2 q within (there places q among))
+    find-least address_total address_exact (is_from_start address_cmp start) (fin.entries places)
+    (entries_sorted places) a
+    (sym (contains_key-keys places a) ∙ first.0) first.1
+    (λ q among within. first.2 q within (there places q among))
 
 -- ---- the first of a range of the tree map
 
@@ -187,21 +229,27 @@ not_below Less h = refl
 not_below Equal h = refl
 not_below Greater h = absurd (true≢false (sym h))
 
-as_fact : (start : Bound SocketAddr) (q : SocketAddr) → is_from_start address_cmp start q ≡ true → IsFromStart address_cmp start q
+as_fact : (start : Bound SocketAddr) (q : SocketAddr) → is_from_start address_cmp start q ≡ true
+    → IsFromStart address_cmp start q
 as_fact Unbounded q h = tt
 as_fact (Excluded s) q h = is_less (address_cmp s q) h
 as_fact (Included s) q h = not_below (address_cmp s q) h
 
-as_test : (start : Bound SocketAddr) (q : SocketAddr) → IsFromStart address_cmp start q → is_from_start address_cmp start q ≡ true
+as_test : (start : Bound SocketAddr) (q : SocketAddr) → IsFromStart address_cmp start q
+    → is_from_start address_cmp start q ≡ true
 as_test Unbounded q h = refl
 as_test (Excluded s) q h = ap is_lt h
 as_test (Included s) q h = not_above (address_cmp s q) h
 
-module _ {A : Type 0} (m : BTreeMap SocketAddr (Place A)) (start : Bound SocketAddr) (r : List (SocketAddr × Place A)) (range : IsRangeOf derived start Unbounded m r) where
+module _ {A : Type 0} (m : BTreeMap SocketAddr (Place A)) (start : Bound SocketAddr)
+    (r : List (SocketAddr × Place A)) (range : IsRangeOf derived start Unbounded m r) where
   in_order : IsRangeOf address_cmp start Unbounded m r
-  in_order = subst (λ (R : SocketAddr → SocketAddr → Ordering). IsRangeOf R start Unbounded m r) derived_is range
+  in_order =
+      subst (λ (R : SocketAddr → SocketAddr → Ordering). IsRangeOf R start Unbounded m r)
+      derived_is range
 
-  seen_at : (q : SocketAddr) → option_map place_seen (tree.get address_cmp m q) ≡ fin.get (places_seen m.entries) q
+  seen_at : (q : SocketAddr)
+      → option_map place_seen (tree.get address_cmp m q) ≡ fin.get (places_seen m.entries) q
   seen_at q = sym (get-seen address_total address_exact (λ a. a) place_seen m.entries q)
 
   seen_there : (o : Option (Place A)) → is_some (option_map place_seen o) ≡ is_some o
@@ -209,14 +257,17 @@ module _ {A : Type 0} (m : BTreeMap SocketAddr (Place A)) (start : Bound SocketA
   seen_there (Some p) = refl
 
   pub first_none : r ≡ [] → IsFirstFrom (places_seen m.entries) start None
-  first_none none = λ q within. sym (seen_at q) ∙ ap (option_map place_seen) (in_order.5 none q (as_fact start q within, tt))
+  first_none none = λ q within. sym (seen_at q)
+      ∙ ap (option_map place_seen) (in_order.5 none q (as_fact start q within, tt))
 
-  pub first_some : (e : SocketAddr × Place A) (t : List (SocketAddr × Place A)) → r ≡ e ∷ t → IsFirstFrom (places_seen m.entries) start (Some e.0)
+  pub first_some : (e : SocketAddr × Place A) (t : List (SocketAddr × Place A)) → r ≡ e ∷ t
+      → IsFirstFrom (places_seen m.entries) start (Some e.0)
   first_some e t is =
       let first = subst (IsRangeOf address_cmp start Unbounded m) is in_order in (
         ap is_some (sym (seen_at e.0) ∙ ap (option_map place_seen) first.1.1),
         as_test start e.0 first.1.0.0,
-        λ q within present. first.2 q (as_fact start q within, tt) (sym (seen_there (tree.get address_cmp m q)) ∙ ap is_some (seen_at q) ∙ present),
+        λ q within present. first.2 q (as_fact start q within, tt)
+            (sym (seen_there (tree.get address_cmp m q)) ∙ ap is_some (seen_at q) ∙ present),
       )
 
 -- ---- a step, an address after another
@@ -233,32 +284,42 @@ nothing_passed : (b : Bool) → (b && not b) ≡ false
 nothing_passed true = refl
 nothing_passed false = refl
 
-pub passed-none : (start : Bound SocketAddr) (now : ℕ) (places : PlacesSeen) → places_kept_where (is_passed start start) now places ≡ places
+pub passed-none : (start : Bound SocketAddr) (now : ℕ) (places : PlacesSeen)
+    → places_kept_where (is_passed start start) now places ≡ places
 passed-none start now places =
-    kept_where-same (is_passed start start) (λ a. false) now places (λ q there. nothing_passed (is_from_start address_cmp start q)) ∙ kept_where-none now places
+    kept_where-same (is_passed start start) (λ a. false) now places
+    (λ q there. nothing_passed (is_from_start address_cmp start q)) ∙ kept_where-none now places
 
 -- what is not passed is as it was
-pub get-passed : (start next : Bound SocketAddr) (now : ℕ) (places : PlacesSeen) (q : SocketAddr) → is_from_start address_cmp next q ≡ true
+pub get-passed : (start next : Bound SocketAddr) (now : ℕ) (places : PlacesSeen) (q : SocketAddr)
+    → is_from_start address_cmp next q ≡ true
     → fin.get (places_kept_where (is_passed start next) now places) q ≡ fin.get places q
 get-passed start next now places q within =
     get-kept_where (is_passed start next) now places q
-    ∙ ap (λ b. cond b (place_kept now (fin.get places q)) (fin.get places q)) (ap (λ b. is_from_start address_cmp start q && not b) within ∙ unpassed (is_from_start address_cmp start q))
+    ∙ ap (λ b. cond b (place_kept now (fin.get places q)) (fin.get places q))
+    (ap (λ b. is_from_start address_cmp start q && not b) within
+    ∙ unpassed (is_from_start address_cmp start q))
 
 -- so what comes first there is what came first
-pub first_as_before : (start next : Bound SocketAddr) (now : ℕ) (places left : PlacesSeen) (o : Option SocketAddr) → left ≡ places_kept_where (is_passed start next) now places
+pub first_as_before : (start next : Bound SocketAddr) (now : ℕ) (places left : PlacesSeen)
+    (o : Option SocketAddr) → left ≡ places_kept_where (is_passed start next) now places
     → IsFirstFrom left next o → IsFirstFrom places next o
 first_as_before start next now places left None is none = λ q within.
-    sym (get-passed start next now places q within) ∙ ap (λ (m : PlacesSeen). fin.get m q) (sym is) ∙ none q within
+    sym (get-passed start next now places q within) ∙ ap (λ (m : PlacesSeen). fin.get m q) (sym is)
+    ∙ none q within
 first_as_before start next now places left (Some a) is first =
-    let same : (q : SocketAddr) → is_from_start address_cmp next q ≡ true → fin.get places q ≡ fin.get left q =
-    λ q within. sym (get-passed start next now places q within) ∙ ap (λ (m : PlacesSeen). fin.get m q) (sym is) in (
+    let same : (q : SocketAddr) → is_from_start address_cmp next q ≡ true
+    → fin.get places q ≡ fin.get left q =
+    λ q within. sym (get-passed start next now places q within)
+    ∙ ap (λ (m : PlacesSeen). fin.get m q) (sym is) in (
       ap is_some (same a first.1) ∙ first.0,
       first.1,
       λ q within present. first.2 q within (sym (ap is_some (same q within)) ∙ present),
     )
 
 -- an address more is passed, where the next start lets in nothing that the first does not
-one_more : (lo hi here beyond : Bool) → (here ≡ true → (lo ≡ true) × (hi ≡ true) × (beyond ≡ false)) → (here ≡ false → hi ≡ true → beyond ≡ true)
+one_more : (lo hi here beyond : Bool) → (here ≡ true → (lo ≡ true) × (hi ≡ true) × (beyond ≡ false))
+    → (here ≡ false → hi ≡ true → beyond ≡ true)
     → (hi ≡ false → beyond ≡ false) → ((lo && not hi) || here) ≡ (lo && not beyond)
 one_more true true true true h o b = absurd (true≢false (h refl).2)
 one_more true true true false h o b = refl
@@ -269,13 +330,18 @@ one_more true false here false h o b = refl
 one_more false hi true beyond h o b = absurd (true≢false (sym (h refl).0))
 one_more false hi false beyond h o b = refl
 
-pub passed-more : (start next : Bound SocketAddr) (now : ℕ) (places : PlacesSeen) (a : SocketAddr) → IsFirstFrom places next (Some a)
-    → ((q : SocketAddr) → is_from_start address_cmp next q ≡ true → is_from_start address_cmp start q ≡ true)
-    → places_kept_where (same_address a) now (places_kept_where (is_passed start next) now places) ≡ places_kept_where (is_passed start (Excluded a)) now places
+pub passed-more : (start next : Bound SocketAddr) (now : ℕ) (places : PlacesSeen) (a : SocketAddr)
+    → IsFirstFrom places next (Some a)
+    → ((q : SocketAddr) → is_from_start address_cmp next q ≡ true
+    → is_from_start address_cmp start q ≡ true)
+    → places_kept_where (same_address a) now (places_kept_where (is_passed start next) now places)
+    ≡ places_kept_where (is_passed start (Excluded a)) now places
 passed-more start next now places a first within =
     kept_where-twice (is_passed start next) (same_address a) now places
-    ∙ kept_where-same (λ q. is_passed start next q || same_address a q) (is_passed start (Excluded a)) now places (λ q present.
-    one_more (is_from_start address_cmp start q) (is_from_start address_cmp next q) (same_address a q) (is_from_start address_cmp (Excluded a) q)
+    ∙ kept_where-same (λ q. is_passed start next q || same_address a q)
+    (is_passed start (Excluded a)) now places (λ q present.
+    one_more (is_from_start address_cmp start q) (is_from_start address_cmp next q)
+    (same_address a q) (is_from_start address_cmp (Excluded a) q)
     (λ here.
     let tied : address_cmp a q ≡ Equal = (Equal-is (address_cmp a q)).0 here in
     let is : a ≡ q = address_exact a q tied in (
@@ -286,100 +352,142 @@ passed-more start next now places a first within =
     (λ other from_next. ap is_lt (apart a q (first.2 q from_next present) other))
     (λ not_from. by_next q not_from (is_lt (address_cmp a q)) refl))
   where
-    by_next : (q : SocketAddr) → is_from_start address_cmp next q ≡ false → (b : Bool) → is_lt (address_cmp a q) ≡ b → b ≡ false
-    by_next q not_from true later = absurd (true≢false (sym (from_start-later next a q first.1 (is_less (address_cmp a q) later)) ∙ not_from))
+    by_next : (q : SocketAddr) → is_from_start address_cmp next q ≡ false → (b : Bool)
+        → is_lt (address_cmp a q) ≡ b → b ≡ false
+    by_next q not_from true later =
+        absurd (true≢false
+        (sym (from_start-later next a q first.1 (is_less (address_cmp a q) later)) ∙ not_from))
     by_next q not_from false later = refl
 
 -- what comes after the address comes from the first start on too
-pub still_within : (start next : Bound SocketAddr) (a : SocketAddr) → is_from_start address_cmp next a ≡ true
-    → ((q : SocketAddr) → is_from_start address_cmp next q ≡ true → is_from_start address_cmp start q ≡ true)
-    → (q : SocketAddr) → is_from_start address_cmp (Excluded a) q ≡ true → is_from_start address_cmp start q ≡ true
-still_within start next a from_next within q later = within q (from_start-later next a q from_next (is_less (address_cmp a q) later))
+pub still_within : (start next : Bound SocketAddr) (a : SocketAddr)
+    → is_from_start address_cmp next a ≡ true
+    → ((q : SocketAddr) → is_from_start address_cmp next q ≡ true
+    → is_from_start address_cmp start q ≡ true)
+    → (q : SocketAddr) → is_from_start address_cmp (Excluded a) q ≡ true
+    → is_from_start address_cmp start q ≡ true
+still_within start next a from_next within q later =
+    within q (from_start-later next a q from_next (is_less (address_cmp a q) later))
 
 -- at its end a step has looked at what is before the address that comes first then
-pub passed-end : (from : Option SocketAddr) (next : Bound SocketAddr) (now : ℕ) (places : PlacesSeen) (o : Option SocketAddr) → IsFirstFrom places next o
-    → places_kept_where (is_passed (start_of from) next) now places ≡ places_kept_where (is_looked_at from o) now places
+pub passed-end : (from : Option SocketAddr) (next : Bound SocketAddr) (now : ℕ)
+    (places : PlacesSeen) (o : Option SocketAddr) → IsFirstFrom places next o
+    → places_kept_where (is_passed (start_of from) next) now places
+    ≡ places_kept_where (is_looked_at from o) now places
 passed-end from next now places None none =
-    kept_where-same (is_passed (start_of from) next) (is_looked_at from None) now places (λ q present.
-    ap (λ b. is_from_start address_cmp (start_of from) q && not b) (by q present (is_from_start address_cmp next q) refl))
+    kept_where-same (is_passed (start_of from) next) (is_looked_at from None) now places
+    (λ q present.
+    ap (λ b. is_from_start address_cmp (start_of from) q && not b)
+    (by q present (is_from_start address_cmp next q) refl))
   where
-    by : (q : SocketAddr) → IsSome (fin.get places q) → (b : Bool) → is_from_start address_cmp next q ≡ b → b ≡ false
+    by : (q : SocketAddr) → IsSome (fin.get places q) → (b : Bool)
+        → is_from_start address_cmp next q ≡ b → b ≡ false
     by q present true within = sym present ∙ ap is_some (none q within)
     by q present false within = refl
 passed-end from next now places (Some end) first =
-    kept_where-same (is_passed (start_of from) next) (is_looked_at from (Some end)) now places (λ q present.
+    kept_where-same (is_passed (start_of from) next) (is_looked_at from (Some end)) now places
+    (λ q present.
     ap (λ b. is_from_start address_cmp (start_of from) q && b)
     (ap not (by q present (is_from_start address_cmp next q) refl) ∙ sym (before-turned q end)))
   where
-    by : (q : SocketAddr) → IsSome (fin.get places q) → (b : Bool) → is_from_start address_cmp next q ≡ b → b ≡ is_from_start address_cmp (Included end) q
+    by : (q : SocketAddr) → IsSome (fin.get places q) → (b : Bool)
+        → is_from_start address_cmp next q ≡ b → b ≡ is_from_start address_cmp (Included end) q
     by q present true within = sym (not_above (address_cmp end q) (first.2 q within present))
     by q present false within = below (address_cmp end q) refl
       where
         below : (r : Ordering) → address_cmp end q ≡ r → false ≡ is_le r
         below Less is = absurd (true≢false (sym (from_start-later next end q first.1 is) ∙ within))
-        below Equal is = absurd (true≢false (sym (ap (is_from_start address_cmp next) (sym (address_exact end q is)) ∙ first.1) ∙ within))
+        below Equal is =
+            absurd (true≢false
+            (sym (ap (is_from_start address_cmp next) (sym (address_exact end q is)) ∙ first.1)
+            ∙ within))
         below Greater is = refl
 
 -- ---- the loop
 
 -- nothing is passed at first
-pub begun_left : (from : Option SocketAddr) (start : Bound SocketAddr) (now : ℕ) (places : PlacesSeen) → start ≡ start_of from
+pub begun_left : (from : Option SocketAddr) (start : Bound SocketAddr) (now : ℕ)
+    (places : PlacesSeen) → start ≡ start_of from
     → places ≡ places_kept_where (is_passed (start_of from) start) now places
 begun_left from start now places is =
-    sym (passed-none (start_of from) now places) ∙ ap (λ (s : Bound SocketAddr). places_kept_where (is_passed (start_of from) s) now places) (sym is)
+    sym (passed-none (start_of from) now places)
+    ∙ ap (λ (s : Bound SocketAddr). places_kept_where (is_passed (start_of from) s) now places)
+    (sym is)
 
 pub begun_within : (from : Option SocketAddr) (start : Bound SocketAddr) → start ≡ start_of from
-    → (q : SocketAddr) → is_from_start address_cmp start q ≡ true → is_from_start address_cmp (start_of from) q ≡ true
-begun_within from start is q h = ap (λ (s : Bound SocketAddr). is_from_start address_cmp s q) (sym is) ∙ h
+    → (q : SocketAddr) → is_from_start address_cmp start q ≡ true
+    → is_from_start address_cmp (start_of from) q ≡ true
+begun_within from start is q h =
+    ap (λ (s : Bound SocketAddr). is_from_start address_cmp s q) (sym is) ∙ h
 
-pub begun_next : (from : Option SocketAddr) (start : Bound SocketAddr) (most : ℕ) (places : PlacesSeen) → start ≡ start_of from
+pub begun_next : (from : Option SocketAddr) (start : Bound SocketAddr) (most : ℕ)
+    (places : PlacesSeen) → start ≡ start_of from
     → next_from places (start_of from) most ≡ next_from places start (most - 0)
 begun_next from start most places is =
     let all : most ≡ most - 0 = omega arith in
-    ap (λ (s : Bound SocketAddr). next_from places s most) (sym is) ∙ ap (next_from places start) all
+    ap (λ (s : Bound SocketAddr). next_from places s most) (sym is)
+    ∙ ap (next_from places start) all
 
 -- an address is forgotten if it has expired, and the next start comes after it
-pub left_more : (start next : Bound SocketAddr) (now : ℕ) (places left after : PlacesSeen) (a : SocketAddr) → left ≡ places_kept_where (is_passed start next) now places
-    → ((q : SocketAddr) → is_from_start address_cmp next q ≡ true → is_from_start address_cmp start q ≡ true) → IsFirstFrom left next (Some a)
-    → after ≡ places_kept_where (same_address a) now left → after ≡ places_kept_where (is_passed start (Excluded a)) now places
+pub left_more : (start next : Bound SocketAddr) (now : ℕ) (places left after : PlacesSeen)
+    (a : SocketAddr) → left ≡ places_kept_where (is_passed start next) now places
+    → ((q : SocketAddr) → is_from_start address_cmp next q ≡ true
+    → is_from_start address_cmp start q ≡ true) → IsFirstFrom left next (Some a)
+    → after ≡ places_kept_where (same_address a) now left
+    → after ≡ places_kept_where (is_passed start (Excluded a)) now places
 left_more start next now places left after a is within first after_is =
-    after_is ∙ ap (places_kept_where (same_address a) now) is ∙ passed-more start next now places a (first_as_before start next now places left (Some a) is first) within
+    after_is ∙ ap (places_kept_where (same_address a) now) is
+    ∙ passed-more start next now places a
+    (first_as_before start next now places left (Some a) is first) within
 
 -- so that one address less comes before the one to go on at
-pub next_more : (start next : Bound SocketAddr) (now : ℕ) (places left : PlacesSeen) (a : SocketAddr) (goal : Option SocketAddr) (most looked : ℕ) → looked < most
-    → left ≡ places_kept_where (is_passed start next) now places → IsFirstFrom left next (Some a) → goal ≡ next_from places next (most - looked)
+pub next_more : (start next : Bound SocketAddr) (now : ℕ) (places left : PlacesSeen)
+    (a : SocketAddr) (goal : Option SocketAddr) (most looked : ℕ) → looked < most
+    → left ≡ places_kept_where (is_passed start next) now places → IsFirstFrom left next (Some a)
+    → goal ≡ next_from places next (most - looked)
     → goal ≡ next_from places (Excluded a) (most - (looked + 1))
 next_more start next now places left a goal most looked few is first next_is =
     let rest : most - looked ≡ suc (most - (looked + 1)) = omega arith in
     next_is ∙ ap (next_from places next) rest
-    ∙ ap (option_and_then (λ x. next_from places (Excluded x) (most - (looked + 1)))) (first_is places next (Some a) (first_as_before start next now places left (Some a) is first))
+    ∙ ap (option_and_then (λ x. next_from places (Excluded x) (most - (looked + 1))))
+    (first_is places next (Some a) (first_as_before start next now places left (Some a) is first))
 
 -- where no address is left there is none to go on at
-pub next_none : (start next : Bound SocketAddr) (now : ℕ) (places left : PlacesSeen) (goal : Option SocketAddr) (most looked : ℕ) → looked < most
-    → left ≡ places_kept_where (is_passed start next) now places → IsFirstFrom left next None → goal ≡ next_from places next (most - looked)
+pub next_none : (start next : Bound SocketAddr) (now : ℕ) (places left : PlacesSeen)
+    (goal : Option SocketAddr) (most looked : ℕ) → looked < most
+    → left ≡ places_kept_where (is_passed start next) now places → IsFirstFrom left next None
+    → goal ≡ next_from places next (most - looked)
     → None ≡ goal
 next_none start next now places left goal most looked few is none next_is =
     let rest : most - looked ≡ suc (most - (looked + 1)) = omega arith in
     sym (next_is ∙ ap (next_from places next) rest
-    ∙ ap (option_and_then (λ x. next_from places (Excluded x) (most - (looked + 1)))) (first_is places next None (first_as_before start next now places left None is none)))
+    ∙ ap (option_and_then (λ x. next_from places (Excluded x) (most - (looked + 1))))
+    (first_is places next None (first_as_before start next now places left None is none)))
 
 -- after the last turn it is the first that is left
-pub next_last : (start next : Bound SocketAddr) (now : ℕ) (places left : PlacesSeen) (o goal : Option SocketAddr) (most looked : ℕ) → looked ≡ most
-    → left ≡ places_kept_where (is_passed start next) now places → IsFirstFrom left next o → goal ≡ next_from places next (most - looked)
+pub next_last : (start next : Bound SocketAddr) (now : ℕ) (places left : PlacesSeen)
+    (o goal : Option SocketAddr) (most looked : ℕ) → looked ≡ most
+    → left ≡ places_kept_where (is_passed start next) now places → IsFirstFrom left next o
+    → goal ≡ next_from places next (most - looked)
     → o ≡ goal
 next_last start next now places left o goal most looked all is first next_is =
     let rest : most - looked ≡ 0 = omega arith in
-    sym (next_is ∙ ap (next_from places next) rest ∙ first_is places next o (first_as_before start next now places left o is first))
+    sym (next_is ∙ ap (next_from places next) rest
+    ∙ first_is places next o (first_as_before start next now places left o is first))
 
 -- and what was passed is what lies before it
-pub left_last : (from : Option SocketAddr) (next : Bound SocketAddr) (now : ℕ) (places left : PlacesSeen) (o : Option SocketAddr)
-    → left ≡ places_kept_where (is_passed (start_of from) next) now places → IsFirstFrom left next o → left ≡ places_kept_where (is_looked_at from o) now places
+pub left_last : (from : Option SocketAddr) (next : Bound SocketAddr) (now : ℕ)
+    (places left : PlacesSeen) (o : Option SocketAddr)
+    → left ≡ places_kept_where (is_passed (start_of from) next) now places → IsFirstFrom left next o
+    → left ≡ places_kept_where (is_looked_at from o) now places
 left_last from next now places left o is first =
-    is ∙ passed-end from next now places o (first_as_before (start_of from) next now places left o is first)
+    is ∙ passed-end from next now places o
+    (first_as_before (start_of from) next now places left o is first)
 
 -- ---- all steps
 
-found_passes : (test : SocketAddr → Bool) (list : List SocketAddr) (a : SocketAddr) → find test list ≡ Some a → test a ≡ true
+found_passes : (test : SocketAddr → Bool) (list : List SocketAddr) (a : SocketAddr)
+    → find test list ≡ Some a → test a ≡ true
 found_passes test [] a found = cc
 found_passes test (x ∷ list) a found =
     elim (test x) as (λ b. test x ≡ b → cond b (Some x) (find test list) ≡ Some a → test a ≡ true) [
@@ -388,13 +496,18 @@ found_passes test (x ∷ list) a found =
     ] refl found
 
 -- the next address comes from the start on
-pub next-within : (places : PlacesSeen) (start : Bound SocketAddr) (most : ℕ) (b : SocketAddr) → next_from places start most ≡ Some b → is_from_start address_cmp start b ≡ true
-next-within places start zero b is = found_passes (is_from_start address_cmp start) (fin.keys places) b is
+pub next-within : (places : PlacesSeen) (start : Bound SocketAddr) (most : ℕ) (b : SocketAddr)
+    → next_from places start most ≡ Some b → is_from_start address_cmp start b ≡ true
+next-within places start zero b is =
+    found_passes (is_from_start address_cmp start) (fin.keys places) b is
 next-within places start (suc more) b is =
-    elim (first_from places start) as (λ o. first_from places start ≡ o → option_and_then (λ a. next_from places (Excluded a) more) o ≡ Some b → is_from_start address_cmp start b ≡ true) [
+    elim (first_from places start) as (λ o. first_from places start ≡ o
+    → option_and_then (λ a. next_from places (Excluded a) more) o ≡ Some b
+    → is_from_start address_cmp start b ≡ true) [
       | None ↦ λ none is. cc
       | Some a ↦ λ first is.
-          from_start-later start a b (found_passes (is_from_start address_cmp start) (fin.keys places) a first)
+          from_start-later start a b
+          (found_passes (is_from_start address_cmp start) (fin.keys places) a first)
           (is_less (address_cmp a b) (next-within places (Excluded a) more b is))
     ] refl is
 
@@ -409,40 +522,61 @@ joined true false h = refl
 joined false true h = sym (h refl)
 joined false false h = refl
 
-looked_at-joined : (from : Option SocketAddr) (b q : SocketAddr) → is_from_start address_cmp (start_of from) b ≡ true
-    → (is_looked_at from (Some b) q || is_from_start address_cmp (Included b) q) ≡ is_from_start address_cmp (start_of from) q
+looked_at-joined : (from : Option SocketAddr) (b q : SocketAddr)
+    → is_from_start address_cmp (start_of from) b ≡ true
+    → (is_looked_at from (Some b) q || is_from_start address_cmp (Included b) q)
+    ≡ is_from_start address_cmp (start_of from) q
 looked_at-joined from b q within =
-    ap (λ t. (is_from_start address_cmp (start_of from) q && t) || is_from_start address_cmp (Included b) q) (before-turned q b)
-    ∙ joined (is_from_start address_cmp (start_of from) q) (is_from_start address_cmp (Included b) q) (by (address_cmp b q) refl)
+    ap (λ t. (is_from_start address_cmp (start_of from) q && t)
+    || is_from_start address_cmp (Included b) q) (before-turned q b)
+    ∙ joined (is_from_start address_cmp (start_of from) q)
+    (is_from_start address_cmp (Included b) q) (by (address_cmp b q) refl)
   where
-    by : (r : Ordering) → address_cmp b q ≡ r → is_le r ≡ true → is_from_start address_cmp (start_of from) q ≡ true
+    by : (r : Ordering) → address_cmp b q ≡ r → is_le r ≡ true
+        → is_from_start address_cmp (start_of from) q ≡ true
     by Less is h = from_start-later (start_of from) b q within is
-    by Equal is h = ap (is_from_start address_cmp (start_of from)) (sym (address_exact b q is)) ∙ within
+    by Equal is h = ap (is_from_start address_cmp (start_of from)) (sym (address_exact b q is))
+        ∙ within
     by Greater is h = absurd (true≢false (sym h))
 
 -- all that comes from a start on was looked at
 abbrev forgotten_from : ServerSeen → ℕ → Option SocketAddr → ServerSeen
-forgotten_from s now from = record s { places = places_kept_where (is_from_start address_cmp (start_of from)) now s.places }
+forgotten_from s now from =
+    record s { places = places_kept_where (is_from_start address_cmp (start_of from)) now s.places }
 
-all_steps : (s : ServerSeen) (now : ℕ) (from : Option SocketAddr) (sizes : List ℕ) (left : ServerSeen) → after_steps s now from sizes ≡ Some left → left ≡ forgotten_from s now from
+all_steps : (s : ServerSeen) (now : ℕ) (from : Option SocketAddr) (sizes : List ℕ)
+    (left : ServerSeen) → after_steps s now from sizes ≡ Some left
+    → left ≡ forgotten_from s now from
 all_steps s now from [] left is = cc
 all_steps s now from (most ∷ sizes) left is =
     elim (next_address s from most) as (λ o. next_address s from most ≡ o
-    → option_map_or (λ a. after_steps (after_step s now from most) now (Some a) sizes) o (Some (after_step s now from most)) ≡ Some left → left ≡ forgotten_from s now from) [
+    → option_map_or (λ a. after_steps (after_step s now from most) now (Some a) sizes) o
+    (Some (after_step s now from most)) ≡ Some left → left ≡ forgotten_from s now from) [
       | None ↦ λ none is.
           let last : left ≡ after_step s now from most = cc in
-          last ∙ ap (λ (o : Option SocketAddr). record s { places = places_kept_where (is_looked_at from o) now s.places }) none
+          last ∙ ap
+          (λ (o : Option SocketAddr).
+          record s { places = places_kept_where (is_looked_at from o) now s.places }) none
           ∙ ap (λ (m : PlacesSeen). record s { places = m })
-          (kept_where-same (is_looked_at from None) (is_from_start address_cmp (start_of from)) now s.places (λ q there. alone (is_from_start address_cmp (start_of from) q)))
+          (kept_where-same (is_looked_at from None) (is_from_start address_cmp (start_of from)) now
+          s.places (λ q there. alone (is_from_start address_cmp (start_of from) q)))
       | Some b ↦ λ next is.
           all_steps (after_step s now from most) now (Some b) sizes left is
           ∙ ap (λ (m : PlacesSeen). record s { places = m })
-          (ap (λ (o : Option SocketAddr). places_kept_where (is_from_start address_cmp (Included b)) now (places_kept_where (is_looked_at from o) now s.places)) next
-          ∙ kept_where-twice (is_looked_at from (Some b)) (is_from_start address_cmp (Included b)) now s.places
-          ∙ kept_where-same (λ q. is_looked_at from (Some b) q || is_from_start address_cmp (Included b) q) (is_from_start address_cmp (start_of from)) now s.places
+          (ap (λ (o : Option SocketAddr).
+          places_kept_where (is_from_start address_cmp (Included b)) now
+          (places_kept_where (is_looked_at from o) now s.places)) next
+          ∙ kept_where-twice (is_looked_at from (Some b)) (is_from_start address_cmp (Included b))
+          now s.places
+          ∙ kept_where-same
+          (λ q. is_looked_at from (Some b) q || is_from_start address_cmp (Included b) q)
+          (is_from_start address_cmp (start_of from)) now s.places
           (λ q there. looked_at-joined from b q (next-within s.places (start_of from) most b next)))
     ] refl is
 
 -- so after all steps the server is the one that forgetting at once leaves
-pub steps_forget_all : (s : ServerSeen) (now : ℕ) (sizes : List ℕ) (left : ServerSeen) → after_steps s now None sizes ≡ Some left → left ≡ after_forgetting s now
-steps_forget_all s now sizes left is = all_steps s now None sizes left is ∙ ap (λ (m : PlacesSeen). record s { places = m }) (kept_where-all now s.places)
+pub steps_forget_all : (s : ServerSeen) (now : ℕ) (sizes : List ℕ) (left : ServerSeen)
+    → after_steps s now None sizes ≡ Some left → left ≡ after_forgetting s now
+steps_forget_all s now sizes left is =
+    all_steps s now None sizes left is
+    ∙ ap (λ (m : PlacesSeen). record s { places = m }) (kept_where-all now s.places)

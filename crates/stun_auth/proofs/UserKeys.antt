@@ -1,5 +1,6 @@
 -- The keys of users who are added, removed, or handed in by stored keys.
-use Rattle.std.proofs.Common.{◌≡◌, ℕ, List, map, Option, Some, None, Bool, true, false, refl, sym, ◌∙◌, ap}
+use Rattle.std.proofs.Common.{◌≡◌, ℕ, List, map, Option, Some, None}
+use Rattle.std.proofs.Common.{Bool, true, false, refl, sym, ◌∙◌, ap}
 use Rattle.std.specs.Prelude.{◌≢◌, cond}
 use Rattle.std.specs.Cmp.{eq_by_cmp_equiv}
 use Rattle.std.specs.Cmp.Lexicographic.{nat_list_cmp_total}
@@ -14,12 +15,16 @@ use Rattle.stun_base.specs.declared.keys.algorithm.IntegrityAlgorithm.{Integrity
 use Rattle.stun_auth.specs.declared.server.stored_keys.StoredKeys.{StoredKeys}
 use Rattle.stun_auth.specs.Algorithms.{contains}
 use Rattle.stun_auth.specs.Handed.{AreKeysOf, just, only_user}
-use Rattle.stun_auth.specs.Registered.{Registered, RegisteredUser, UserSecret, key_at, key_if, key_of, name_cmp, of_keys, of_password, user_by_keys, user_by_password, with_user, without_user}
+use Rattle.stun_auth.specs.Registered.{Registered, RegisteredUser, UserSecret, key_at, key_if}
+use Rattle.stun_auth.specs.Registered.{key_of, name_cmp, of_keys, of_password, user_by_keys}
+use Rattle.stun_auth.specs.Registered.{user_by_password, with_user, without_user}
 use Rattle.stun_auth.proofs.MeantUser.{one}
 
 -- the key that a user of a name has by a secret, if any
 abbrev key_by : Registered → List ℕ → IntegrityAlgorithm → Option UserSecret → Option (List ℕ)
-key_by users name a o = option_and_then (λ (u : RegisteredUser). key_of users u a) (option_map (λ (secret : UserSecret). record { username = name; secret = secret }) o)
+key_by users name a o =
+    option_and_then (λ (u : RegisteredUser). key_of users u a)
+    (option_map (λ (secret : UserSecret). record { username = name; secret = secret }) o)
 
 -- a name is the same as itself
 same_name : (name : List ℕ) → eq_by_cmp name_cmp name name ≡ true
@@ -41,41 +46,50 @@ other_name name gone other v o = by (eq_by_cmp name_cmp name gone) refl
 
 pub key-added : (users : Registered) (user : NameAndPassword) (a : IntegrityAlgorithm)
     → key_at (with_user users user) user.username a
-    ≡ cond (contains a users.algorithms) (Some (long_term_key a user.username users.realm user.password)) None
+    ≡ cond (contains a users.algorithms)
+    (Some (long_term_key a user.username users.realm user.password)) None
 key-added users user a =
     ap (key_by users user.username a)
-    (fin.get-insert nat_list_cmp_total users.secrets user.username (of_password user.password) user.username
-    ∙ ap (λ b. cond b (Some (of_password user.password)) (fin.get users.secrets user.username)) (same_name user.username))
+    (fin.get-insert nat_list_cmp_total users.secrets user.username (of_password user.password)
+    user.username
+    ∙ ap (λ b. cond b (Some (of_password user.password)) (fin.get users.secrets user.username))
+    (same_name user.username))
 
 pub key-removed : (users : Registered) (name : List ℕ) (a : IntegrityAlgorithm)
     → key_at (without_user users name) name a ≡ None
 key-removed users name a =
     ap (key_by users name a)
-    (fin.get-remove nat_list_cmp_total users.secrets name name ∙ ap (λ b. cond b None (fin.get users.secrets name)) (same_name name))
+    (fin.get-remove nat_list_cmp_total users.secrets name name
+    ∙ ap (λ b. cond b None (fin.get users.secrets name)) (same_name name))
 
-pub key-by_others : (users : Registered) (user : NameAndPassword) (name : List ℕ) (a : IntegrityAlgorithm) → name ≢ user.username
+pub key-by_others : (users : Registered) (user : NameAndPassword) (name : List ℕ)
+    (a : IntegrityAlgorithm) → name ≢ user.username
     → key_at (with_user users user) name a ≡ key_at users name a
 key-by_others users user name a other =
     ap (key_by users name a)
     (fin.get-insert nat_list_cmp_total users.secrets user.username (of_password user.password) name
-    ∙ other_name name user.username other (Some (of_password user.password)) (fin.get users.secrets name))
+    ∙ other_name name user.username other (Some (of_password user.password))
+    (fin.get users.secrets name))
 
 pub key-of_others : (users : Registered) (gone name : List ℕ) (a : IntegrityAlgorithm)
     → name ≢ gone
     → key_at (without_user users gone) name a ≡ key_at users name a
 key-of_others users gone name a other =
     ap (key_by users name a)
-    (fin.get-remove nat_list_cmp_total users.secrets gone name ∙ other_name name gone other None (fin.get users.secrets name))
+    (fin.get-remove nat_list_cmp_total users.secrets gone name
+    ∙ other_name name gone other None (fin.get users.secrets name))
 
 -- ---- handed in
 
-module _ (users : Registered) (user : NameAndPassword) (keys : StoredKeys) (are : AreKeysOf users user keys) where
+module _ (users : Registered) (user : NameAndPassword) (keys : StoredKeys)
+    (are : AreKeysOf users user keys) where
   -- the names are the same: the one name
   pub same_names : fin.keys (only_user (Some (user_by_keys user.username keys)))
       ≡ fin.keys (only_user (Some (user_by_password user)))
   same_names =
       ap (λ (es : List (List ℕ × UserSecret)). map (λ e. e.0) es) (one user.username (of_keys keys))
-      ∙ sym (ap (λ (es : List (List ℕ × UserSecret)). map (λ e. e.0) es) (one user.username (of_password user.password)))
+      ∙ sym (ap (λ (es : List (List ℕ × UserSecret)). map (λ e. e.0) es)
+      (one user.username (of_password user.password)))
 
   key-if : (name : List ℕ) (a : IntegrityAlgorithm) → name ≡ user.username → (b : Bool)
       → contains a users.algorithms ≡ b
@@ -90,12 +104,17 @@ module _ (users : Registered) (user : NameAndPassword) (keys : StoredKeys) (are 
       → key_at (just users (Some (user_by_keys user.username keys))) name a
       ≡ key_at (just users (Some (user_by_password user))) name a
   same_keys name a =
-      ap (key_by users name a) (fin.get-insert nat_list_cmp_total fin.empty user.username (of_keys keys) name)
+      ap (key_by users name a)
+      (fin.get-insert nat_list_cmp_total fin.empty user.username (of_keys keys) name)
       ∙ by (eq_by_cmp name_cmp name user.username) refl
-      ∙ sym (ap (key_by users name a) (fin.get-insert nat_list_cmp_total fin.empty user.username (of_password user.password) name))
+      ∙ sym (ap (key_by users name a)
+      (fin.get-insert nat_list_cmp_total fin.empty user.username (of_password user.password) name))
     where
       by : (b : Bool) → eq_by_cmp name_cmp name user.username ≡ b
-          → key_by users name a (cond b (Some (of_keys keys)) (fin.get (fin.empty {X = UserSecret} {R = name_cmp}) name))
-          ≡ key_by users name a (cond b (Some (of_password user.password)) (fin.get (fin.empty {X = UserSecret} {R = name_cmp}) name))
+          → key_by users name a
+          (cond b (Some (of_keys keys)) (fin.get (fin.empty {X = UserSecret} {R = name_cmp}) name))
+          ≡ key_by users name a
+          (cond b (Some (of_password user.password))
+          (fin.get (fin.empty {X = UserSecret} {R = name_cmp}) name))
       by true h = key-if name a (tied name user.username h) (contains a users.algorithms) refl
       by false h = refl

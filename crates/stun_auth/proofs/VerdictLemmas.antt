@@ -1,7 +1,9 @@
 -- The verdict that the code comes to step by step is the one of the table.
-use Rattle.std.proofs.Common.{◌≡◌, ◌↔◌, ℕ, List, [], ◌∷◌, map, Option, Some, None, Bool, true, false, refl, sym, ◌∙◌, ap, Ok, Err}
+use Rattle.std.proofs.Common.{◌≡◌, ◌↔◌, ℕ, List, [], ◌∷◌, map, Option, Some, None}
+use Rattle.std.proofs.Common.{Bool, true, false, refl, sym, ◌∙◌, ap, Ok, Err}
 use Rattle.std.specs.Prelude.{cond, not, ◌||◌, ◌&&◌, IsTrue}
-use Rattle.std.specs.Option.{is_some, is_none, option_and_then, option_map, option_map_or, unwrap_or}
+use Rattle.std.specs.Option.{is_some, is_none, option_and_then}
+use Rattle.std.specs.Option.{option_map, option_map_or, unwrap_or}
 use Rattle.std.specs.List.{find}
 use Rattle.std.specs.FinMap as fin
 use Rattle.std.specs.Str.{bytes_eq}
@@ -10,8 +12,13 @@ use Rattle.std.specs.declared.result.Result.{Result}
 use Rattle.stun_base.specs.declared.keys.algorithm.IntegrityAlgorithm.{IntegrityAlgorithm}
 use Rattle.stun_base.specs.declared.keys.algorithm.IntegrityAlgorithm.TheVariants.{Sha1}
 use Rattle.stun_types.specs.PasswordAlgorithms.{integrity_of}
-use Rattle.stun_types.specs.declared.attribute.password_algorithm.PasswordAlgorithmValue.{PasswordAlgorithmValue}
-use Rattle.stun_types.specs.declared.attribute.password_algorithm.PasswordAlgorithmValue.TheVariants.{MD5, SHA256}
+use Rattle.stun_types.specs.declared.attribute.password_algorithm.PasswordAlgorithmValue.{
+  PasswordAlgorithmValue,
+}
+use Rattle.stun_types.specs.declared.attribute.password_algorithm.PasswordAlgorithmValue.TheVariants.{
+  MD5,
+  SHA256,
+}
 use Rattle.stun_auth.specs.declared.algorithm_set.AlgorithmSet.{AlgorithmSet}
 use Rattle.stun_auth.specs.declared.feature.Feature.{Feature}
 use Rattle.stun_auth.specs.declared.server.reason.Refusal.{Refusal}
@@ -19,9 +26,11 @@ use Rattle.stun_auth.specs.declared.server.reason.Refusal.TheVariants.{Unauthori
 use Rattle.stun_auth.specs.Algorithms.{same_list}
 use Rattle.stun_auth.specs.Feature.{is_possible}
 use Rattle.stun_auth.specs.Reading.{Reading, verified_under}
-use Rattle.stun_auth.specs.Registered.{Registered, RegisteredUser, UserSecret, key_of, name_with_hash, user_named, user_with_hash}
+use Rattle.stun_auth.specs.Registered.{Registered, RegisteredUser, UserSecret, key_of}
+use Rattle.stun_auth.specs.Registered.{name_with_hash, user_named, user_with_hash}
 use Rattle.stun_auth.specs.Seen.{ClientSeen}
-use Rattle.stun_auth.specs.Server.{agreed, client_of, named, named_by, nonce_refusal, or_refused, proven, verified_for, their_nonce, verdict}
+use Rattle.stun_auth.specs.Server.{agreed, client_of, named, named_by, nonce_refusal}
+use Rattle.stun_auth.specs.Server.{or_refused, proven, verified_for, their_nonce, verdict}
 use Rattle.stun_auth.specs.code.Judging.{name_by, name_in}
 use Rattle.stun_auth.proofs.VerdictSteps.{by_attributes, by_choice, by_name, by_steps}
 
@@ -34,28 +43,35 @@ same_value MD5 SHA256 = false
 same_value SHA256 MD5 = false
 
 -- lists are the same where the algorithms are
-pub same_list-from_same : (xs ys : List PasswordAlgorithmValue) → xs ≡ ys → same_list (map integrity_of xs) (map integrity_of ys) ≡ true
-same_list-from_same xs ys e = ap (λ zs. same_list (map integrity_of xs) (map integrity_of zs)) (sym e) ∙ itself xs
+pub same_list-from_same : (xs ys : List PasswordAlgorithmValue) → xs ≡ ys
+    → same_list (map integrity_of xs) (map integrity_of ys) ≡ true
+same_list-from_same xs ys e =
+    ap (λ zs. same_list (map integrity_of xs) (map integrity_of zs)) (sym e) ∙ itself xs
   where
-    itself : (zs : List PasswordAlgorithmValue) → same_list (map integrity_of zs) (map integrity_of zs) ≡ true
+    itself : (zs : List PasswordAlgorithmValue)
+        → same_list (map integrity_of zs) (map integrity_of zs) ≡ true
     itself [] = refl
     itself (MD5 ∷ zs) = itself zs
     itself (SHA256 ∷ zs) = itself zs
 
-pub same_from_same_list : (xs ys : List PasswordAlgorithmValue) → same_list (map integrity_of xs) (map integrity_of ys) ≡ true → xs ≡ ys
+pub same_from_same_list : (xs ys : List PasswordAlgorithmValue)
+    → same_list (map integrity_of xs) (map integrity_of ys) ≡ true → xs ≡ ys
 same_from_same_list [] [] h = refl
 same_from_same_list [] (y ∷ ys) h = cc
 same_from_same_list (x ∷ xs) [] h = cc
 same_from_same_list (MD5 ∷ xs) (MD5 ∷ ys) h = ap (λ zs. MD5 ∷ zs) (same_from_same_list xs ys h)
-same_from_same_list (SHA256 ∷ xs) (SHA256 ∷ ys) h = ap (λ zs. SHA256 ∷ zs) (same_from_same_list xs ys h)
+same_from_same_list (SHA256 ∷ xs) (SHA256 ∷ ys) h =
+    ap (λ zs. SHA256 ∷ zs) (same_from_same_list xs ys h)
 same_from_same_list (MD5 ∷ xs) (SHA256 ∷ ys) h = cc
 same_from_same_list (SHA256 ∷ xs) (MD5 ∷ ys) h = cc
 
 -- a test of equality gives the same as the list of the algorithms
-pub same_list-tested : (b : Bool) (xs ys : List PasswordAlgorithmValue) → IsTrue b ↔ (xs ≡ ys) → b ≡ same_list (map integrity_of xs) (map integrity_of ys)
+pub same_list-tested : (b : Bool) (xs ys : List PasswordAlgorithmValue) → IsTrue b ↔ (xs ≡ ys)
+    → b ≡ same_list (map integrity_of xs) (map integrity_of ys)
 same_list-tested true xs ys decides = sym (same_list-from_same xs ys (decides.0 refl))
 same_list-tested false xs ys decides =
-    elim (same_list (map integrity_of xs) (map integrity_of ys)) as (λ b. same_list (map integrity_of xs) (map integrity_of ys) ≡ b → false ≡ b) [
+    elim (same_list (map integrity_of xs) (map integrity_of ys)) as (λ b.
+    same_list (map integrity_of xs) (map integrity_of ys) ≡ b → false ≡ b) [
       | true ↦ λ h. decides.1 (same_from_same_list xs ys h)
       | false ↦ λ h. refl
     ] refl
@@ -72,24 +88,35 @@ bytes_eq-tested false xs ys decides =
 -- ---- the table
 
 -- the rows of the table, as tests and what is left where none of them holds
-abbrev pub by_rows : Bool → Bool → Bool → Bool → Bool → Bool → Refusal → ClientSeen → Result ClientSeen Refusal
+abbrev pub by_rows : Bool → Bool → Bool → Bool → Bool → Bool → Refusal → ClientSeen
+    → Result ClientSeen Refusal
 by_rows unprotected incomplete nameless disagreed other unproven other_nonce client =
-    cond unprotected (Err Unauthorized) (cond incomplete (Err BadRequest) (cond nameless (Err BadRequest)
-    (cond disagreed (Err BadRequest) (cond other (Err other_nonce) (cond unproven (Err Unauthorized) (Ok client))))))
+    cond unprotected (Err Unauthorized)
+    (cond incomplete (Err BadRequest) (cond nameless (Err BadRequest)
+    (cond disagreed (Err BadRequest)
+    (cond other (Err other_nonce) (cond unproven (Err Unauthorized) (Ok client))))))
 
-pub verdict-rows : (users : Registered) (feature : Feature) (ours : List ℕ) (offered : Option AlgorithmSet) (r : Reading)
+pub verdict-rows : (users : Registered) (feature : Feature) (ours : List ℕ)
+    (offered : Option AlgorithmSet) (r : Reading)
     → verdict users feature ours offered r
-    ≡ by_rows (is_none r.integrity) (is_none r.realm || is_none r.nonce) (is_none r.userhash && is_none r.username)
+    ≡ by_rows (is_none r.integrity) (is_none r.realm || is_none r.nonce)
+    (is_none r.userhash && is_none r.username)
     (is_none (agreed r (their_nonce r) offered)) (not (bytes_eq (their_nonce r) ours))
-    (is_none (proven users feature r (agreed r (their_nonce r) offered))) (nonce_refusal ours (their_nonce r)) (client_of users feature ours offered r)
+    (is_none (proven users feature r (agreed r (their_nonce r) offered)))
+    (nonce_refusal ours (their_nonce r)) (client_of users feature ours offered r)
 verdict-rows users feature ours offered r =
-    rows (is_none r.integrity) (is_none r.realm || is_none r.nonce) (is_none r.userhash && is_none r.username)
+    rows (is_none r.integrity) (is_none r.realm || is_none r.nonce)
+    (is_none r.userhash && is_none r.username)
     (is_none (agreed r (their_nonce r) offered)) (not (bytes_eq (their_nonce r) ours))
-    (is_none (proven users feature r (agreed r (their_nonce r) offered))) (nonce_refusal ours (their_nonce r)) (client_of users feature ours offered r)
+    (is_none (proven users feature r (agreed r (their_nonce r) offered)))
+    (nonce_refusal ours (their_nonce r)) (client_of users feature ours offered r)
   where
     rows : (a b c d e f : Bool) (n : Refusal) (client : ClientSeen)
-        → or_refused (option_map_or (λ (row : Bool × Refusal). Some row.1) (find (λ (row : Bool × Refusal). row.0)
-        ((a, Unauthorized) ∷ (b, BadRequest) ∷ (c, BadRequest) ∷ (d, BadRequest) ∷ (e, n) ∷ (f, Unauthorized) ∷ [])) None) client
+        → or_refused
+        (option_map_or (λ (row : Bool × Refusal). Some row.1)
+        (find (λ (row : Bool × Refusal). row.0)
+        ((a, Unauthorized) ∷ (b, BadRequest) ∷ (c, BadRequest) ∷ (d, BadRequest) ∷ (e, n)
+        ∷ (f, Unauthorized) ∷ [])) None) client
         ≡ by_rows a b c d e f n client
     rows true b c d e f n client = refl
     rows false true c d e f n client = refl
@@ -102,11 +129,13 @@ verdict-rows users feature ours offered r =
 -- ---- the steps
 
 pub user_of : (users : Registered) (feature : Feature) (hash username : Option (List ℕ))
-    → named_by hash username users feature ≡ option_and_then (user_named users) (name_by hash username users feature)
+    → named_by hash username users feature
+    ≡ option_and_then (user_named users) (name_by hash username users feature)
 user_of users feature None username = refl
 user_of users feature (Some hash) username = by (is_possible feature)
   where
-    by : (b : Bool) → cond b (user_with_hash users hash) None ≡ option_and_then (user_named users) (cond b (name_with_hash users hash) None)
+    by : (b : Bool) → cond b (user_with_hash users hash) None
+        ≡ option_and_then (user_named users) (cond b (name_with_hash users hash) None)
     by true = refl
     by false = refl
 
@@ -115,11 +144,13 @@ abbrev unless : Bool → ClientSeen → Result ClientSeen Refusal
 unless true client = Err Unauthorized
 unless false client = Ok client
 
-unless-is_some : (o : Option IntegrityAlgorithm) (client : ClientSeen) → cond (is_some o) (Ok client) (Err Unauthorized) ≡ unless (is_none o) client
+unless-is_some : (o : Option IntegrityAlgorithm) (client : ClientSeen)
+    → cond (is_some o) (Ok client) (Err Unauthorized) ≡ unless (is_none o) client
 unless-is_some None client = refl
 unless-is_some (Some a) client = refl
 
-unless-cond : (b : Bool) (client : ClientSeen) → unless b client ≡ cond b (Err Unauthorized) (Ok client)
+unless-cond : (b : Bool) (client : ClientSeen)
+    → unless b client ≡ cond b (Err Unauthorized) (Ok client)
 unless-cond true client = refl
 unless-cond false client = refl
 
@@ -130,64 +161,100 @@ name_or user = option_map_or (λ (u : RegisteredUser). u.username) user []
 -- the last two steps, of a name and an algorithm
 last_steps : (users : Registered) (r : Reading) (a : IntegrityAlgorithm) (name : Option (List ℕ))
     → by_name users r name a
-    ≡ unless (is_none (option_and_then (verified_for users r a) (option_and_then (user_named users) name)))
+    ≡ unless
+    (is_none (option_and_then (verified_for users r a) (option_and_then (user_named users) name)))
     (record { name = name_or (option_and_then (user_named users) name); algorithm = a })
 last_steps users r a None = refl
 last_steps users r a (Some name) = of_secret (fin.get users.secrets name)
   where
     of_secret : (o : Option UserSecret)
-        → cond (is_some (option_and_then (verified_under r) (option_and_then (λ (user : RegisteredUser). key_of users user a) (option_map (λ secret. record { username = name; secret = secret }) o))))
+        → cond (is_some
+        (option_and_then (verified_under r)
+        (option_and_then (λ (user : RegisteredUser). key_of users user a)
+        (option_map (λ secret. record { username = name; secret = secret }) o))))
         (Ok (record { name = name; algorithm = a })) (Err Unauthorized)
-        ≡ unless (is_none (option_and_then (verified_for users r a) (option_map (λ secret. record { username = name; secret = secret }) o)))
-        (record { name = name_or (option_map (λ secret. record { username = name; secret = secret }) o); algorithm = a })
+        ≡ unless
+        (is_none
+        (option_and_then (verified_for users r a)
+        (option_map (λ secret. record { username = name; secret = secret }) o)))
+        (record {
+          name = name_or (option_map (λ secret. record { username = name; secret = secret }) o);
+          algorithm = a;
+        })
     of_secret None = refl
     of_secret (Some secret) =
-        unless-is_some (option_and_then (verified_under r) (key_of users (record { username = name; secret = secret }) a)) (record { name = name; algorithm = a })
+        unless-is_some
+        (option_and_then (verified_under r)
+        (key_of users (record { username = name; secret = secret }) a))
+        (record { name = name; algorithm = a })
 
 -- the rows from the fourth on, where a nonce is named
-abbrev rows_from : Registered → Feature → List ℕ → Option AlgorithmSet → Reading → List ℕ → Option IntegrityAlgorithm → Result ClientSeen Refusal
+abbrev rows_from : Registered → Feature → List ℕ → Option AlgorithmSet → Reading → List ℕ
+    → Option IntegrityAlgorithm → Result ClientSeen Refusal
 rows_from users feature ours offered r theirs chosen =
-    cond (is_none chosen) (Err BadRequest) (cond (not (bytes_eq theirs ours)) (Err (nonce_refusal ours theirs))
+    cond (is_none chosen) (Err BadRequest)
+    (cond (not (bytes_eq theirs ours)) (Err (nonce_refusal ours theirs))
     (cond (is_none (proven users feature r chosen)) (Err Unauthorized)
     (Ok (record { name = name_or (named users feature r); algorithm = unwrap_or chosen Sha1 }))))
 
-by_choice-rows : (users : Registered) (feature : Feature) (ours : List ℕ) (offered : Option AlgorithmSet) (r : Reading) (theirs : List ℕ) (chosen : Option IntegrityAlgorithm)
-    → by_choice users feature ours r theirs chosen ≡ rows_from users feature ours offered r theirs chosen
+by_choice-rows : (users : Registered) (feature : Feature) (ours : List ℕ)
+    (offered : Option AlgorithmSet) (r : Reading) (theirs : List ℕ)
+    (chosen : Option IntegrityAlgorithm)
+    → by_choice users feature ours r theirs chosen
+    ≡ rows_from users feature ours offered r theirs chosen
 by_choice-rows users feature ours offered r theirs None = refl
 by_choice-rows users feature ours offered r theirs (Some a) = by (bytes_eq theirs ours)
   where
     judged : by_name users r (name_in users feature r) a
-        ≡ cond (is_none (option_and_then (verified_for users r a) (named users feature r))) (Err Unauthorized) (Ok (record { name = name_or (named users feature r); algorithm = a }))
+        ≡ cond (is_none (option_and_then (verified_for users r a) (named users feature r)))
+        (Err Unauthorized) (Ok (record { name = name_or (named users feature r); algorithm = a }))
     judged =
         last_steps users r a (name_in users feature r)
-        ∙ ap (λ (user : Option RegisteredUser). unless (is_none (option_and_then (verified_for users r a) user)) (record { name = name_or user; algorithm = a })) (sym (user_of users feature r.userhash r.username))
-        ∙ unless-cond (is_none (option_and_then (verified_for users r a) (named users feature r))) (record { name = name_or (named users feature r); algorithm = a })
+        ∙ ap (λ (user : Option RegisteredUser).
+        unless (is_none (option_and_then (verified_for users r a) user))
+        (record { name = name_or user; algorithm = a }))
+        (sym (user_of users feature r.userhash r.username))
+        ∙ unless-cond (is_none (option_and_then (verified_for users r a) (named users feature r)))
+        (record { name = name_or (named users feature r); algorithm = a })
 
     by : (b : Bool)
         → cond b (by_name users r (name_in users feature r) a) (Err (nonce_refusal ours theirs))
-        ≡ cond (not b) (Err (nonce_refusal ours theirs)) (cond (is_none (option_and_then (verified_for users r a) (named users feature r))) (Err Unauthorized)
+        ≡ cond (not b) (Err (nonce_refusal ours theirs))
+        (cond (is_none (option_and_then (verified_for users r a) (named users feature r)))
+        (Err Unauthorized)
         (Ok (record { name = name_or (named users feature r); algorithm = a })))
     by true = judged
     by false = refl
 
 -- the first three rows, of what is there
-first_rows : (users : Registered) (feature : Feature) (ours : List ℕ) (offered : Option AlgorithmSet) (r : Reading)
-    (integrity : Option (List ℕ → Option IntegrityAlgorithm)) (realm nonce hash username : Option (List ℕ))
-    → cond (not (is_some integrity)) (Err Unauthorized) (cond (not (is_some realm && is_some nonce && (is_some hash || is_some username))) (Err BadRequest)
+first_rows : (users : Registered) (feature : Feature) (ours : List ℕ)
+    (offered : Option AlgorithmSet) (r : Reading)
+    (integrity : Option (List ℕ → Option IntegrityAlgorithm))
+    (realm nonce hash username : Option (List ℕ))
+    → cond (not (is_some integrity)) (Err Unauthorized)
+    (cond (not (is_some realm && is_some nonce && (is_some hash || is_some username)))
+    (Err BadRequest)
     (by_attributes users feature ours offered r nonce))
-    ≡ cond (is_none integrity) (Err Unauthorized) (cond (is_none realm || is_none nonce) (Err BadRequest) (cond (is_none hash && is_none username) (Err BadRequest)
-    (rows_from users feature ours offered r (unwrap_or nonce []) (agreed r (unwrap_or nonce []) offered))))
+    ≡ cond (is_none integrity) (Err Unauthorized)
+    (cond (is_none realm || is_none nonce) (Err BadRequest)
+    (cond (is_none hash && is_none username) (Err BadRequest)
+    (rows_from users feature ours offered r (unwrap_or nonce [])
+    (agreed r (unwrap_or nonce []) offered))))
 first_rows users feature ours offered r None realm nonce hash username = refl
 first_rows users feature ours offered r (Some verify) None nonce hash username = refl
 first_rows users feature ours offered r (Some verify) (Some realm) None hash username = refl
 first_rows users feature ours offered r (Some verify) (Some realm) (Some nonce) None None = refl
-first_rows users feature ours offered r (Some verify) (Some realm) (Some nonce) (Some hash) username =
+first_rows users feature ours offered r (Some verify) (Some realm) (Some nonce) (Some hash)
+    username =
     by_choice-rows users feature ours offered r nonce (agreed r nonce offered)
-first_rows users feature ours offered r (Some verify) (Some realm) (Some nonce) None (Some username) =
+first_rows users feature ours offered r (Some verify) (Some realm) (Some nonce) None
+    (Some username) =
     by_choice-rows users feature ours offered r nonce (agreed r nonce offered)
 
 -- the steps come to the verdict of the table
-pub by_steps-verdict : (users : Registered) (feature : Feature) (ours : List ℕ) (offered : Option AlgorithmSet) (r : Reading)
+pub by_steps-verdict : (users : Registered) (feature : Feature) (ours : List ℕ)
+    (offered : Option AlgorithmSet) (r : Reading)
     → by_steps users feature ours offered r ≡ verdict users feature ours offered r
 by_steps-verdict users feature ours offered r =
-    first_rows users feature ours offered r r.integrity r.realm r.nonce r.userhash r.username ∙ sym (verdict-rows users feature ours offered r)
+    first_rows users feature ours offered r r.integrity r.realm r.nonce r.userhash r.username
+    ∙ sym (verdict-rows users feature ours offered r)

@@ -16,29 +16,38 @@ use Rattle.stun_auth.specs.Seen.{ClientSeen}
 use Rattle.stun_auth.specs.Server.{agreed, nonce_refusal}
 use Rattle.stun_auth.specs.Validation.{is_complete}
 
-abbrev pub by_digest : Registered → Reading → List ℕ → IntegrityAlgorithm → Result ClientSeen Refusal
+abbrev pub by_digest : Registered → Reading → List ℕ → IntegrityAlgorithm
+    → Result ClientSeen Refusal
 by_digest users r name a =
-    if is_some (option_and_then (verified_under r) (key_at users name a)) then Ok (record { name = name; algorithm = a })
+    if is_some (option_and_then (verified_under r) (key_at users name a))
+    then Ok (record { name = name; algorithm = a })
     else Err Unauthorized
 
-abbrev pub by_name : Registered → Reading → Option (List ℕ) → IntegrityAlgorithm → Result ClientSeen Refusal
+abbrev pub by_name : Registered → Reading → Option (List ℕ) → IntegrityAlgorithm
+    → Result ClientSeen Refusal
 by_name users r None a = Err Unauthorized
 by_name users r (Some name) a = by_digest users r name a
 
-abbrev pub by_nonce : Registered → Feature → List ℕ → Reading → List ℕ → IntegrityAlgorithm → Result ClientSeen Refusal
+abbrev pub by_nonce : Registered → Feature → List ℕ → Reading → List ℕ → IntegrityAlgorithm
+    → Result ClientSeen Refusal
 by_nonce users feature ours r theirs a =
-    if bytes_eq theirs ours then by_name users r (name_in users feature r) a else Err (nonce_refusal ours theirs)
+    if bytes_eq theirs ours then by_name users r (name_in users feature r) a
+    else Err (nonce_refusal ours theirs)
 
-abbrev pub by_choice : Registered → Feature → List ℕ → Reading → List ℕ → Option IntegrityAlgorithm → Result ClientSeen Refusal
+abbrev pub by_choice : Registered → Feature → List ℕ → Reading → List ℕ → Option IntegrityAlgorithm
+    → Result ClientSeen Refusal
 by_choice users feature ours r theirs None = Err BadRequest
 by_choice users feature ours r theirs (Some a) = by_nonce users feature ours r theirs a
 
-abbrev pub by_attributes : Registered → Feature → List ℕ → Option AlgorithmSet → Reading → Option (List ℕ) → Result ClientSeen Refusal
+abbrev pub by_attributes : Registered → Feature → List ℕ → Option AlgorithmSet → Reading
+    → Option (List ℕ) → Result ClientSeen Refusal
 by_attributes users feature ours offered r None = Err BadRequest
 by_attributes users feature ours offered r (Some theirs) =
     by_choice users feature ours r theirs (agreed r theirs offered)
 
-abbrev pub by_steps : Registered → Feature → List ℕ → Option AlgorithmSet → Reading → Result ClientSeen Refusal
+abbrev pub by_steps : Registered → Feature → List ℕ → Option AlgorithmSet → Reading
+    → Result ClientSeen Refusal
 by_steps users feature ours offered r =
     if not (is_some r.integrity) then Err Unauthorized
-    else (if not (is_complete r) then Err BadRequest else by_attributes users feature ours offered r r.nonce)
+    else (if not (is_complete r) then Err BadRequest
+    else by_attributes users feature ours offered r r.nonce)

@@ -1,36 +1,53 @@
 -- Want of memory for one addition and for one list after another.
-use Rattle.std.proofs.Common.{◌≡◌, ℕ, ◌+◌, ◌<◌, ◌≤◌, Bool, true, false, true≢false, List, [], ◌∷◌, ◌++◌, Option, Some, None, Result, Ok, Err, refl, sym, ◌∙◌, ap, subst, arith, append_assoc, inl, inr}
+use Rattle.std.proofs.Common.{◌≡◌, ℕ, ◌+◌, ◌<◌, ◌≤◌, Bool, true, false, true≢false}
+use Rattle.std.proofs.Common.{List, [], ◌∷◌, ◌++◌, Option, Some, None, Result, Ok, Err}
+use Rattle.std.proofs.Common.{refl, sym, ◌∙◌, ap, subst, arith, append_assoc, inl, inr}
 use Rattle.std.specs.Prelude.{◌-◌, IsOk, OnOk, if◌then◌else◌, length, map, nat_lt}
 use Rattle.std.proofs.lemmas.Bool.{cases_lt}
 use Rattle.std.proofs.lemmas.List.Sums.{sum_by-cons}
 use Rattle.stun_base.specs.declared.wire.error.StunWriteError.{StunWriteError}
-use Rattle.stun_base.specs.declared.wire.error.StunWriteError.TheVariants.{NotAllowed, MessageIntegrityExists, AttributeExists, TooLarge, TooSmall, IntegrityFailed, OutOfMemory}
+use Rattle.stun_base.specs.declared.wire.error.StunWriteError.TheVariants.{NotAllowed}
+use Rattle.stun_base.specs.declared.wire.error.StunWriteError.TheVariants.{MessageIntegrityExists}
+use Rattle.stun_base.specs.declared.wire.error.StunWriteError.TheVariants.{AttributeExists}
+use Rattle.stun_base.specs.declared.wire.error.StunWriteError.TheVariants.{TooLarge, TooSmall}
+use Rattle.stun_base.specs.declared.wire.error.StunWriteError.TheVariants.{IntegrityFailed}
+use Rattle.stun_base.specs.declared.wire.error.StunWriteError.TheVariants.{OutOfMemory}
 use Rattle.stun_base.specs.Algorithm.{digest_length}
 use Rattle.stun_base.specs.declared.keys.algorithm.IntegrityAlgorithm.{IntegrityAlgorithm}
 use Rattle.stun_types.specs.Attribute.{TypedValue, attribute_length}
 use Rattle.stun_types.specs.Visible.{has_kind}
 use Rattle.stun_types.specs.Walk.{walk}
-use Rattle.stun_types.specs.Writing.{RefusedBy, attribute_refusal, has_integrity, is_set_apart, length_with, max_length, signing_refusal, size_refusal, with_attribute, with_integrity}
+use Rattle.stun_types.specs.Writing.{RefusedBy, attribute_refusal, has_integrity}
+use Rattle.stun_types.specs.Writing.{is_set_apart, length_with, max_length, signing_refusal}
+use Rattle.stun_types.specs.Writing.{size_refusal, with_attribute, with_integrity}
 use Rattle.stun_types.specs.PasswordAlgorithms.{integrity_of}
-use Rattle.stun_types.specs.declared.attribute.password_algorithm.PasswordAlgorithmValue.{PasswordAlgorithmValue}
+use Rattle.stun_types.specs.declared.attribute.password_algorithm.PasswordAlgorithmValue.{
+  PasswordAlgorithmValue,
+}
 use Rattle.stun_auth.specs.AddedAttribute.{password_algorithm, password_algorithms}
 use Rattle.stun_auth.specs.ClientSigning.{algorithm_choice}
-use Rattle.stun_auth.specs.Additions.{Addition, Page, UnlessMemory, WantsMemory, added_all, added_one, after, growth, attribute, growth_of, integrity, is_too_long, page_in, refusal_of, unless_refused, with_addition}
+use Rattle.stun_auth.specs.Additions.{Addition, Page, UnlessMemory, WantsMemory}
+use Rattle.stun_auth.specs.Additions.{added_all, added_one, after, growth, attribute}
+use Rattle.stun_auth.specs.Additions.{growth_of, integrity, is_too_long, page_in}
+use Rattle.stun_auth.specs.Additions.{refusal_of, unless_refused, with_addition}
 use Rattle.stun_auth.specs.code.Additions.{IsAdded, IsOutcome, outcome_of}
 use Rattle.stun_auth.proofs.AdditionLemmas.{growth-append}
 
 -- what one list leaves is what the next begins on
-after_all : (xs ys : List Addition) (page : Page) → added_all (xs ++ ys) page ≡ after (added_all xs page) (added_all ys)
+after_all : (xs ys : List Addition) (page : Page)
+    → added_all (xs ++ ys) page ≡ after (added_all xs page) (added_all ys)
 after_all [] ys page = refl
 after_all (x ∷ xs) ys page = step (after_all xs ys) (added_one x page)
   where
-    step : ((next : Page) → added_all (xs ++ ys) next ≡ after (added_all xs next) (added_all ys)) → (first : Result Page StunWriteError)
+    step : ((next : Page) → added_all (xs ++ ys) next ≡ after (added_all xs next) (added_all ys))
+        → (first : Result Page StunWriteError)
         → after first (added_all (xs ++ ys)) ≡ after (after first (added_all xs)) (added_all ys)
     step rest (Err reason) = refl
     step rest (Ok next) = rest next
 
 -- memory that is wanting for a list is wanting for a longer one
-pub wants_longer : (xs ys : List Addition) (page : Page) (reserved : ℕ) → WantsMemory xs page reserved → WantsMemory (xs ++ ys) page reserved
+pub wants_longer : (xs ys : List Addition) (page : Page) (reserved : ℕ)
+    → WantsMemory xs page reserved → WantsMemory (xs ++ ys) page reserved
 wants_longer xs ys page reserved w = record {
   first = w.first;
   others = w.others ++ ys;
@@ -40,52 +57,86 @@ wants_longer xs ys page reserved w = record {
 }
 
 -- memory that is wanting after a list is wanting for both
-pub wants_later : (xs ys : List Addition) (page next : Page) (reserved left : ℕ) → Ok next ≡ added_all xs page → reserved ≤ left + growth xs
+pub wants_later : (xs ys : List Addition) (page next : Page) (reserved left : ℕ)
+    → Ok next ≡ added_all xs page → reserved ≤ left + growth xs
     → WantsMemory ys next left → WantsMemory (xs ++ ys) page reserved
 wants_later xs ys page next reserved left done kept w = record {
   first = xs ++ w.first;
   others = w.others;
   in_order = ap (λ list. xs ++ list) w.in_order ∙ sym (append_assoc xs w.first w.others);
-  not_refused = subst IsOk (ap (λ (r : Result Page StunWriteError). after r (added_all w.first)) done ∙ sym (after_all xs w.first page)) w.not_refused;
+  not_refused =
+      subst IsOk
+      (ap (λ (r : Result Page StunWriteError). after r (added_all w.first)) done
+      ∙ sym (after_all xs w.first page)) w.not_refused;
   not_reserved = omega (arith, growth-append xs w.first, kept, w.not_reserved);
 }
 
 -- an allocation fails for one addition that is not refused and takes more than is reserved
-pub wants_one : (x : Addition) (page next : Page) (reserved : ℕ) → added_one x page ≡ Ok next → reserved < growth_of x → WantsMemory (x ∷ []) page reserved
+pub wants_one : (x : Addition) (page next : Page) (reserved : ℕ) → added_one x page ≡ Ok next
+    → reserved < growth_of x → WantsMemory (x ∷ []) page reserved
 wants_one x page next reserved accepted short = record {
   first = x ∷ [];
   others = [];
   in_order = refl;
-  not_refused = subst IsOk (sym (ap (λ (r : Result Page StunWriteError). after r (added_all [])) accepted)) refl;
+  not_refused =
+      subst IsOk
+      (sym (ap (λ (r : Result Page StunWriteError). after r (added_all [])) accepted)) refl;
   not_reserved = omega (arith, sum_by-cons growth_of x [], short);
 }
 
 -- where a list is refused, a longer one is
-pub refused_first : (xs ys : List Addition) (page now end : Page) (reserved : ℕ) (reason : StunWriteError)
-    → IsOutcome xs page reserved (Err reason) now → IsOutcome (xs ++ ys) page reserved (Err reason) end
-refused_first xs ys page now end reserved NotAllowed h = ap (λ (r : Result Page StunWriteError). after r (added_all ys)) h ∙ sym (after_all xs ys page)
-refused_first xs ys page now end reserved MessageIntegrityExists h = ap (λ (r : Result Page StunWriteError). after r (added_all ys)) h ∙ sym (after_all xs ys page)
-refused_first xs ys page now end reserved (AttributeExists kind) h = ap (λ (r : Result Page StunWriteError). after r (added_all ys)) h ∙ sym (after_all xs ys page)
-refused_first xs ys page now end reserved TooLarge h = ap (λ (r : Result Page StunWriteError). after r (added_all ys)) h ∙ sym (after_all xs ys page)
-refused_first xs ys page now end reserved TooSmall h = ap (λ (r : Result Page StunWriteError). after r (added_all ys)) h ∙ sym (after_all xs ys page)
-refused_first xs ys page now end reserved IntegrityFailed h = ap (λ (r : Result Page StunWriteError). after r (added_all ys)) h ∙ sym (after_all xs ys page)
+pub refused_first : (xs ys : List Addition) (page now end : Page) (reserved : ℕ)
+    (reason : StunWriteError)
+    → IsOutcome xs page reserved (Err reason) now
+    → IsOutcome (xs ++ ys) page reserved (Err reason) end
+refused_first xs ys page now end reserved NotAllowed h =
+    ap (λ (r : Result Page StunWriteError). after r (added_all ys)) h ∙ sym (after_all xs ys page)
+refused_first xs ys page now end reserved MessageIntegrityExists h =
+    ap (λ (r : Result Page StunWriteError). after r (added_all ys)) h ∙ sym (after_all xs ys page)
+refused_first xs ys page now end reserved (AttributeExists kind) h =
+    ap (λ (r : Result Page StunWriteError). after r (added_all ys)) h ∙ sym (after_all xs ys page)
+refused_first xs ys page now end reserved TooLarge h =
+    ap (λ (r : Result Page StunWriteError). after r (added_all ys)) h ∙ sym (after_all xs ys page)
+refused_first xs ys page now end reserved TooSmall h =
+    ap (λ (r : Result Page StunWriteError). after r (added_all ys)) h ∙ sym (after_all xs ys page)
+refused_first xs ys page now end reserved IntegrityFailed h =
+    ap (λ (r : Result Page StunWriteError). after r (added_all ys)) h ∙ sym (after_all xs ys page)
 refused_first xs ys page now end reserved OutOfMemory h = wants_longer xs ys page reserved h
 
 -- what comes after a list that was added
-pub outcome_after : (xs ys : List Addition) (page next end : Page) (reserved left : ℕ) (result : Result (Unit {0}) StunWriteError)
-    → Ok next ≡ added_all xs page → reserved ≤ left + growth xs → IsOutcome ys next left result end → IsOutcome (xs ++ ys) page reserved result end
-outcome_after xs ys page next end reserved left (Ok value) done kept h = h ∙ (ap (λ (r : Result Page StunWriteError). after r (added_all ys)) done ∙ sym (after_all xs ys page))
-outcome_after xs ys page next end reserved left (Err NotAllowed) done kept h = h ∙ (ap (λ (r : Result Page StunWriteError). after r (added_all ys)) done ∙ sym (after_all xs ys page))
-outcome_after xs ys page next end reserved left (Err MessageIntegrityExists) done kept h = h ∙ (ap (λ (r : Result Page StunWriteError). after r (added_all ys)) done ∙ sym (after_all xs ys page))
-outcome_after xs ys page next end reserved left (Err (AttributeExists kind)) done kept h = h ∙ (ap (λ (r : Result Page StunWriteError). after r (added_all ys)) done ∙ sym (after_all xs ys page))
-outcome_after xs ys page next end reserved left (Err TooLarge) done kept h = h ∙ (ap (λ (r : Result Page StunWriteError). after r (added_all ys)) done ∙ sym (after_all xs ys page))
-outcome_after xs ys page next end reserved left (Err TooSmall) done kept h = h ∙ (ap (λ (r : Result Page StunWriteError). after r (added_all ys)) done ∙ sym (after_all xs ys page))
-outcome_after xs ys page next end reserved left (Err IntegrityFailed) done kept h = h ∙ (ap (λ (r : Result Page StunWriteError). after r (added_all ys)) done ∙ sym (after_all xs ys page))
-outcome_after xs ys page next end reserved left (Err OutOfMemory) done kept h = wants_later xs ys page next reserved left done kept h
+pub outcome_after : (xs ys : List Addition) (page next end : Page) (reserved left : ℕ)
+    (result : Result (Unit {0}) StunWriteError)
+    → Ok next ≡ added_all xs page → reserved ≤ left + growth xs → IsOutcome ys next left result end
+    → IsOutcome (xs ++ ys) page reserved result end
+outcome_after xs ys page next end reserved left (Ok value) done kept h =
+    h ∙ (ap (λ (r : Result Page StunWriteError). after r (added_all ys)) done
+    ∙ sym (after_all xs ys page))
+outcome_after xs ys page next end reserved left (Err NotAllowed) done kept h =
+    h ∙ (ap (λ (r : Result Page StunWriteError). after r (added_all ys)) done
+    ∙ sym (after_all xs ys page))
+outcome_after xs ys page next end reserved left (Err MessageIntegrityExists) done kept h =
+    h ∙ (ap (λ (r : Result Page StunWriteError). after r (added_all ys)) done
+    ∙ sym (after_all xs ys page))
+outcome_after xs ys page next end reserved left (Err (AttributeExists kind)) done kept h =
+    h ∙ (ap (λ (r : Result Page StunWriteError). after r (added_all ys)) done
+    ∙ sym (after_all xs ys page))
+outcome_after xs ys page next end reserved left (Err TooLarge) done kept h =
+    h ∙ (ap (λ (r : Result Page StunWriteError). after r (added_all ys)) done
+    ∙ sym (after_all xs ys page))
+outcome_after xs ys page next end reserved left (Err TooSmall) done kept h =
+    h ∙ (ap (λ (r : Result Page StunWriteError). after r (added_all ys)) done
+    ∙ sym (after_all xs ys page))
+outcome_after xs ys page next end reserved left (Err IntegrityFailed) done kept h =
+    h ∙ (ap (λ (r : Result Page StunWriteError). after r (added_all ys)) done
+    ∙ sym (after_all xs ys page))
+outcome_after xs ys page next end reserved left (Err OutOfMemory) done kept h =
+    wants_later xs ys page next reserved left done kept h
 
 -- so it is of lists that say what they leave reserved
-pub added_after : (xs ys : List Addition) (page next end : Page) (reserved left last : ℕ) (result : Result (Unit {0}) StunWriteError)
-    → Ok next ≡ added_all xs page → reserved ≤ left + growth xs → IsAdded ys next left result end last → IsAdded (xs ++ ys) page reserved result end last
+pub added_after : (xs ys : List Addition) (page next end : Page) (reserved left last : ℕ)
+    (result : Result (Unit {0}) StunWriteError)
+    → Ok next ≡ added_all xs page → reserved ≤ left + growth xs
+    → IsAdded ys next left result end last → IsAdded (xs ++ ys) page reserved result end last
 added_after xs ys page next end reserved left last (Ok value) done kept h = record {
   outcome = outcome_after xs ys page next end reserved left (Ok value) done kept h.outcome;
   kept = omega (arith, kept, h.kept, growth-append xs ys);
@@ -95,185 +146,276 @@ added_after xs ys page next end reserved left last (Err reason) done kept h = re
   kept = tt;
 }
 
-pub added_refused : (xs ys : List Addition) (page now end : Page) (reserved left last : ℕ) (reason : StunWriteError)
-    → IsAdded xs page reserved (Err reason) now left → IsAdded (xs ++ ys) page reserved (Err reason) end last
-added_refused xs ys page now end reserved left last reason h = record { outcome = refused_first xs ys page now end reserved reason h.outcome; kept = tt }
+pub added_refused : (xs ys : List Addition) (page now end : Page) (reserved left last : ℕ)
+    (reason : StunWriteError)
+    → IsAdded xs page reserved (Err reason) now left
+    → IsAdded (xs ++ ys) page reserved (Err reason) end last
+added_refused xs ys page now end reserved left last reason h =
+    record { outcome = refused_first xs ys page now end reserved reason h.outcome; kept = tt }
 
 -- ---- one addition
 
 -- what is refused by the first reason that holds is refused by none where an allocation fails
-if_not : (b : Bool) (reason : StunWriteError) (rest : Option StunWriteError) → (reason ≡ OutOfMemory → ⊥) → (rest ≡ Some OutOfMemory → ⊥)
+if_not : (b : Bool) (reason : StunWriteError) (rest : Option StunWriteError)
+    → (reason ≡ OutOfMemory → ⊥) → (rest ≡ Some OutOfMemory → ⊥)
     → (if b then Some reason else rest) ≡ Some OutOfMemory → ⊥
 if_not true reason rest not others is = not (let h : Some reason ≡ Some OutOfMemory = is in cc)
 if_not false reason rest not others is = others is
 
 -- no refusal of an addition is want of memory
-size_not_memory : (message : List ℕ) (room n : ℕ) → size_refusal message room n ≡ Some OutOfMemory → ⊥
+size_not_memory : (message : List ℕ) (room n : ℕ)
+    → size_refusal message room n ≡ Some OutOfMemory → ⊥
 size_not_memory message room n =
     if_not (nat_lt max_length (length_with message n)) TooLarge _ (λ is. cc)
     (if_not (nat_lt room (attribute_length n)) TooSmall None (λ is. cc) (λ is. cc))
 
-pub signing_not_memory : (message : List ℕ) (room : ℕ) (algorithm : IntegrityAlgorithm) → signing_refusal message room algorithm ≡ Some OutOfMemory → ⊥
+pub signing_not_memory : (message : List ℕ) (room : ℕ) (algorithm : IntegrityAlgorithm)
+    → signing_refusal message room algorithm ≡ Some OutOfMemory → ⊥
 signing_not_memory message room algorithm =
-    if_not (has_integrity message) MessageIntegrityExists _ (λ is. cc) (size_not_memory message room (digest_length algorithm))
+    if_not (has_integrity message) MessageIntegrityExists _ (λ is. cc)
+    (size_not_memory message room (digest_length algorithm))
 
-attribute_not_memory : (message : List ℕ) (room kind n : ℕ) → attribute_refusal message room kind n ≡ Some OutOfMemory → ⊥
+attribute_not_memory : (message : List ℕ) (room kind n : ℕ)
+    → attribute_refusal message room kind n ≡ Some OutOfMemory → ⊥
 attribute_not_memory message room kind n =
     if_not (is_set_apart kind) NotAllowed _ (λ is. cc)
     (if_not (has_integrity message) MessageIntegrityExists _ (λ is. cc)
-    (if_not (has_kind kind (walk message)) (AttributeExists (record { 0 = kind })) _ (λ is. cc) (size_not_memory message room n)))
+    (if_not (has_kind kind (walk message)) (AttributeExists (record { 0 = kind })) _ (λ is. cc)
+    (size_not_memory message room n)))
 
 refusal_not_memory : (x : Addition) (page : Page) → refusal_of x page ≡ Some OutOfMemory → ⊥
 refusal_not_memory (attribute a) page =
-    if_not (is_too_long a) TooLarge _ (λ is. cc) (attribute_not_memory page.bytes page.room a.kind (length a.value))
-refusal_not_memory (integrity algorithm key) page = signing_not_memory page.bytes page.room algorithm
+    if_not (is_too_long a) TooLarge _ (λ is. cc)
+    (attribute_not_memory page.bytes page.room a.kind (length a.value))
+refusal_not_memory (integrity algorithm key) page =
+    signing_not_memory page.bytes page.room algorithm
 
 -- what one addition leaves
 abbrev left_by : Addition → Page → Page
 left_by x page = record { bytes = with_addition x page.bytes; room = page.room - growth_of x }
 
-refused_by : (x : Addition) (page now : Page) (reserved : ℕ) (reason : StunWriteError) → refusal_of x page ≡ Some reason → IsOutcome (x ∷ []) page reserved (Err reason) now
+refused_by : (x : Addition) (page now : Page) (reserved : ℕ) (reason : StunWriteError)
+    → refusal_of x page ≡ Some reason → IsOutcome (x ∷ []) page reserved (Err reason) now
 unfolding added_one
-refused_by x page now reserved NotAllowed is = sym (ap (λ o. after (unless_refused o (left_by x page)) (added_all [])) is)
-refused_by x page now reserved MessageIntegrityExists is = sym (ap (λ o. after (unless_refused o (left_by x page)) (added_all [])) is)
-refused_by x page now reserved (AttributeExists kind) is = sym (ap (λ o. after (unless_refused o (left_by x page)) (added_all [])) is)
-refused_by x page now reserved TooLarge is = sym (ap (λ o. after (unless_refused o (left_by x page)) (added_all [])) is)
-refused_by x page now reserved TooSmall is = sym (ap (λ o. after (unless_refused o (left_by x page)) (added_all [])) is)
-refused_by x page now reserved IntegrityFailed is = sym (ap (λ o. after (unless_refused o (left_by x page)) (added_all [])) is)
+refused_by x page now reserved NotAllowed is =
+    sym (ap (λ o. after (unless_refused o (left_by x page)) (added_all [])) is)
+refused_by x page now reserved MessageIntegrityExists is =
+    sym (ap (λ o. after (unless_refused o (left_by x page)) (added_all [])) is)
+refused_by x page now reserved (AttributeExists kind) is =
+    sym (ap (λ o. after (unless_refused o (left_by x page)) (added_all [])) is)
+refused_by x page now reserved TooLarge is =
+    sym (ap (λ o. after (unless_refused o (left_by x page)) (added_all [])) is)
+refused_by x page now reserved TooSmall is =
+    sym (ap (λ o. after (unless_refused o (left_by x page)) (added_all [])) is)
+refused_by x page now reserved IntegrityFailed is =
+    sym (ap (λ o. after (unless_refused o (left_by x page)) (added_all [])) is)
 refused_by x page now reserved OutOfMemory is = absurd (refusal_not_memory x page is)
 
 -- want of memory alone, where less than it takes is reserved
-wanting : (x : Addition) (page now : Page) (reserved : ℕ) → refusal_of x page ≡ None → reserved < growth_of x → IsOutcome (x ∷ []) page reserved (Err OutOfMemory) now
+wanting : (x : Addition) (page now : Page) (reserved : ℕ) → refusal_of x page ≡ None
+    → reserved < growth_of x → IsOutcome (x ∷ []) page reserved (Err OutOfMemory) now
 unfolding added_one
-wanting x page now reserved is short = wants_one x page (left_by x page) reserved (ap (λ o. unless_refused o (left_by x page)) is) short
+wanting x page now reserved is short =
+    wants_one x page (left_by x page) reserved
+    (ap (λ o. unless_refused o (left_by x page)) is) short
 
-not_reserved : (n reserved : ℕ) (reason : StunWriteError) → (n ≤ reserved → IsOk {T = Unit {0}} (Err reason)) → reserved < n
+not_reserved : (n reserved : ℕ) (reason : StunWriteError)
+    → (n ≤ reserved → IsOk {T = Unit {0}} (Err reason)) → reserved < n
 not_reserved n reserved reason reserves = elim (cases_lt reserved n) as (λ _. reserved < n) [
   | inl short ↦ short
   | inr enough ↦ absurd (true≢false (sym (reserves enough)))
 ]
 
--- an answer that is the refusal, if there is one, and else want of memory alone where less than it takes is reserved
-pub by_refusal : (x : Addition) (page now : Page) (reserved : ℕ) (result : Result (Unit {0}) StunWriteError) (refusal : Option StunWriteError)
+-- an answer that is the refusal, if there is one, and else want of memory alone where less than it
+-- takes is reserved
+pub by_refusal : (x : Addition) (page now : Page) (reserved : ℕ)
+    (result : Result (Unit {0}) StunWriteError) (refusal : Option StunWriteError)
     → refusal_of x page ≡ refusal → RefusedBy refusal result → OnOk result (now ≡ left_by x page)
-    → (refusal ≡ None → growth_of x ≤ reserved → IsOk result) → IsOutcome (x ∷ []) page reserved result now
+    → (refusal ≡ None → growth_of x ≤ reserved → IsOk result)
+    → IsOutcome (x ∷ []) page reserved result now
 unfolding added_one
-by_refusal x page now reserved (Ok value) (Some reason) is refused done reserves = absurd (let h : Ok value ≡ Err reason = refused in cc)
+by_refusal x page now reserved (Ok value) (Some reason) is refused done reserves =
+    absurd (let h : Ok value ≡ Err reason = refused in cc)
 by_refusal x page now reserved (Ok value) None is refused done reserves =
-    ap (λ (p : Page). Ok p) done ∙ sym (ap (λ o. after (unless_refused o (left_by x page)) (added_all [])) is)
+    ap (λ (p : Page). Ok p) done
+    ∙ sym (ap (λ o. after (unless_refused o (left_by x page)) (added_all [])) is)
 by_refusal x page now reserved (Err reason) (Some other) is refused done reserves =
     let same : reason ≡ other = let h : Err reason ≡ Err other = refused in cc in
     refused_by x page now reserved reason (is ∙ ap (λ r. Some r) (sym same))
 by_refusal x page now reserved (Err reason) None is refused done reserves =
-    subst (λ r. IsOutcome (x ∷ []) page reserved (Err r) now) (sym refused) (wanting x page now reserved is (not_reserved (growth_of x) reserved reason (reserves refl)))
+    subst (λ r. IsOutcome (x ∷ []) page reserved (Err r) now) (sym refused)
+    (wanting x page now reserved is (not_reserved (growth_of x) reserved reason (reserves refl)))
 
 -- what adding an attribute within its limit comes to
-pub added_by : {W : Type 0} (bytes : W → List ℕ) (room : W → ℕ) (a : TypedValue) (before now : W) (reserved left : ℕ) (result : Result (Unit {0}) StunWriteError)
-    → is_too_long a ≡ false → RefusedBy (attribute_refusal (bytes before) (room before) a.kind (length a.value)) result
-    → OnOk result (bytes now ≡ with_attribute (bytes before) a) → OnOk result (room now + attribute_length (length a.value) ≡ room before)
+pub added_by : {W : Type 0} (bytes : W → List ℕ) (room : W → ℕ) (a : TypedValue) (before now : W)
+    (reserved left : ℕ) (result : Result (Unit {0}) StunWriteError)
+    → is_too_long a ≡ false
+    → RefusedBy (attribute_refusal (bytes before) (room before) a.kind (length a.value)) result
+    → OnOk result (bytes now ≡ with_attribute (bytes before) a)
+    → OnOk result (room now + attribute_length (length a.value) ≡ room before)
     → OnOk result (reserved ≤ left + attribute_length (length a.value))
-    → (attribute_refusal (bytes before) (room before) a.kind (length a.value) ≡ None → attribute_length (length a.value) ≤ reserved → IsOk result)
-    → IsAdded (attribute a ∷ []) (page_in bytes room before) reserved result (page_in bytes room now) left
-added_by bytes room a before now reserved left result short refused written rooms kept reserves = record {
-  outcome = by_refusal (attribute a) (page_in bytes room before) (page_in bytes room now) reserved result (attribute_refusal (bytes before) (room before) a.kind (length a.value))
-      (ap (λ b. if b then Some TooLarge else attribute_refusal (bytes before) (room before) a.kind (length a.value)) short) refused
-      (page_is bytes room a before now result written rooms) reserves;
-  kept = kept_is a reserved left result kept;
-}
+    → (attribute_refusal (bytes before) (room before) a.kind (length a.value) ≡ None
+    → attribute_length (length a.value) ≤ reserved → IsOk result)
+    → IsAdded (attribute a ∷ []) (page_in bytes room before) reserved result
+    (page_in bytes room now) left
+added_by bytes room a before now reserved left result short refused written rooms kept reserves =
+    record {
+      outcome =
+          by_refusal (attribute a) (page_in bytes room before) (page_in bytes room now) reserved
+          result (attribute_refusal (bytes before) (room before) a.kind (length a.value))
+          (ap (λ b. if b then Some TooLarge
+          else attribute_refusal (bytes before) (room before) a.kind (length a.value)) short)
+          refused
+          (page_is bytes room a before now result written rooms) reserves;
+      kept = kept_is a reserved left result kept;
+    }
   where
-    page_is : {W : Type 0} (bytes : W → List ℕ) (room : W → ℕ) (a : TypedValue) (before now : W) (result : Result (Unit {0}) StunWriteError)
-        → OnOk result (bytes now ≡ with_attribute (bytes before) a) → OnOk result (room now + attribute_length (length a.value) ≡ room before)
+    page_is : {W : Type 0} (bytes : W → List ℕ) (room : W → ℕ) (a : TypedValue) (before now : W)
+        (result : Result (Unit {0}) StunWriteError)
+        → OnOk result (bytes now ≡ with_attribute (bytes before) a)
+        → OnOk result (room now + attribute_length (length a.value) ≡ room before)
         → OnOk result (page_in bytes room now ≡ left_by (attribute a) (page_in bytes room before))
     page_is bytes room a before now (Ok value) written rooms =
         let n : room now ≡ room before - attribute_length (length a.value) = omega (arith, rooms) in
         λ i. record { bytes = written i; room = n i }
     page_is bytes room a before now (Err reason) written rooms = tt
 
-    kept_is : (a : TypedValue) (reserved left : ℕ) (result : Result (Unit {0}) StunWriteError) → OnOk result (reserved ≤ left + attribute_length (length a.value))
+    kept_is : (a : TypedValue) (reserved left : ℕ) (result : Result (Unit {0}) StunWriteError)
+        → OnOk result (reserved ≤ left + attribute_length (length a.value))
         → OnOk result (reserved ≤ left + growth (attribute a ∷ []))
-    kept_is a reserved left (Ok value) kept = omega (arith, kept, sum_by-cons growth_of (attribute a) [])
+    kept_is a reserved left (Ok value) kept =
+        omega (arith, kept, sum_by-cons growth_of (attribute a) [])
     kept_is a reserved left (Err reason) kept = tt
 
 -- ---- one list after another, as calls answer
 
 -- the first list is refused
-pub refused_at_first : (list xs ys : List Addition) (page now end : Page) (reserved left last : ℕ) (result : Result (Unit {0}) StunWriteError) (reason : StunWriteError)
-    → result ≡ Err reason → list ≡ xs ++ ys → IsAdded xs page reserved (Err reason) now left → IsAdded list page reserved result end last
+pub refused_at_first : (list xs ys : List Addition) (page now end : Page) (reserved left last : ℕ)
+    (result : Result (Unit {0}) StunWriteError) (reason : StunWriteError)
+    → result ≡ Err reason → list ≡ xs ++ ys → IsAdded xs page reserved (Err reason) now left
+    → IsAdded list page reserved result end last
 refused_at_first list xs ys page now end reserved left last result reason is same h =
     subst (λ r. IsAdded list page reserved r end last) (sym is)
-    (subst (λ all. IsAdded all page reserved (Err reason) end last) (sym same) (added_refused xs ys page now end reserved left last reason h))
+    (subst (λ all. IsAdded all page reserved (Err reason) end last) (sym same)
+    (added_refused xs ys page now end reserved left last reason h))
 
 -- the first list is added, and then the second comes to something
-pub then_added : (list xs ys : List Addition) (page next end : Page) (reserved left last : ℕ) (value : Unit {0}) (result : Result (Unit {0}) StunWriteError)
-    → list ≡ xs ++ ys → IsAdded xs page reserved (Ok value) next left → IsAdded ys next left result end last → IsAdded list page reserved result end last
+pub then_added : (list xs ys : List Addition) (page next end : Page) (reserved left last : ℕ)
+    (value : Unit {0}) (result : Result (Unit {0}) StunWriteError)
+    → list ≡ xs ++ ys → IsAdded xs page reserved (Ok value) next left
+    → IsAdded ys next left result end last → IsAdded list page reserved result end last
 then_added list xs ys page next end reserved left last value result same first h =
-    subst (λ all. IsAdded all page reserved result end last) (sym same) (added_after xs ys page next end reserved left last result first.outcome first.kept h)
+    subst (λ all. IsAdded all page reserved result end last) (sym same)
+    (added_after xs ys page next end reserved left last result first.outcome first.kept h)
 
 -- so it is of outcomes
-pub refused_outcome : (list xs ys : List Addition) (page now end : Page) (reserved left : ℕ) (result : Result (Unit {0}) StunWriteError) (reason : StunWriteError)
-    → result ≡ Err reason → list ≡ xs ++ ys → IsAdded xs page reserved (Err reason) now left → IsOutcome list page reserved result end
+pub refused_outcome : (list xs ys : List Addition) (page now end : Page) (reserved left : ℕ)
+    (result : Result (Unit {0}) StunWriteError) (reason : StunWriteError)
+    → result ≡ Err reason → list ≡ xs ++ ys → IsAdded xs page reserved (Err reason) now left
+    → IsOutcome list page reserved result end
 refused_outcome list xs ys page now end reserved left result reason is same h =
     subst (λ r. IsOutcome list page reserved r end) (sym is)
-    (subst (λ all. IsOutcome all page reserved (Err reason) end) (sym same) (refused_first xs ys page now end reserved reason h.outcome))
+    (subst (λ all. IsOutcome all page reserved (Err reason) end) (sym same)
+    (refused_first xs ys page now end reserved reason h.outcome))
 
-pub then_outcome : (list xs ys : List Addition) (page next end : Page) (reserved left : ℕ) (value : Unit {0}) (result : Result (Unit {0}) StunWriteError)
-    → list ≡ xs ++ ys → IsAdded xs page reserved (Ok value) next left → IsOutcome ys next left result end → IsOutcome list page reserved result end
+pub then_outcome : (list xs ys : List Addition) (page next end : Page) (reserved left : ℕ)
+    (value : Unit {0}) (result : Result (Unit {0}) StunWriteError)
+    → list ≡ xs ++ ys → IsAdded xs page reserved (Ok value) next left
+    → IsOutcome ys next left result end → IsOutcome list page reserved result end
 then_outcome list xs ys page next end reserved left value result same first h =
-    subst (λ all. IsOutcome all page reserved result end) (sym same) (outcome_after xs ys page next end reserved left result first.outcome first.kept h)
+    subst (λ all. IsOutcome all page reserved result end) (sym same)
+    (outcome_after xs ys page next end reserved left result first.outcome first.kept h)
 
 -- what adding the integrity attribute comes to
-pub signed_by : {W : Type 0} (bytes : W → List ℕ) (room : W → ℕ) (algorithm : IntegrityAlgorithm) (key : List ℕ) (before now : W) (reserved : ℕ) (result : Result (Unit {0}) StunWriteError)
+pub signed_by : {W : Type 0} (bytes : W → List ℕ) (room : W → ℕ) (algorithm : IntegrityAlgorithm)
+    (key : List ℕ) (before now : W) (reserved : ℕ) (result : Result (Unit {0}) StunWriteError)
     → RefusedBy (signing_refusal (bytes before) (room before) algorithm) result
-    → OnOk result (bytes now ≡ with_integrity (bytes before) algorithm key) → OnOk result (room now + attribute_length (digest_length algorithm) ≡ room before)
-    → (signing_refusal (bytes before) (room before) algorithm ≡ None → attribute_length (digest_length algorithm) ≤ reserved → IsOk result)
-    → IsOutcome (integrity algorithm key ∷ []) (page_in bytes room before) reserved result (page_in bytes room now)
+    → OnOk result (bytes now ≡ with_integrity (bytes before) algorithm key)
+    → OnOk result (room now + attribute_length (digest_length algorithm) ≡ room before)
+    → (signing_refusal (bytes before) (room before) algorithm ≡ None
+    → attribute_length (digest_length algorithm) ≤ reserved → IsOk result)
+    → IsOutcome (integrity algorithm key ∷ []) (page_in bytes room before) reserved result
+    (page_in bytes room now)
 signed_by bytes room algorithm key before now reserved result refused written rooms reserves =
-    by_refusal (integrity algorithm key) (page_in bytes room before) (page_in bytes room now) reserved result (signing_refusal (bytes before) (room before) algorithm) refl refused
+    by_refusal (integrity algorithm key) (page_in bytes room before) (page_in bytes room now)
+    reserved result (signing_refusal (bytes before) (room before) algorithm) refl refused
     (page_is bytes room algorithm key before now result written rooms) reserves
   where
-    page_is : {W : Type 0} (bytes : W → List ℕ) (room : W → ℕ) (algorithm : IntegrityAlgorithm) (key : List ℕ) (before now : W) (result : Result (Unit {0}) StunWriteError)
-        → OnOk result (bytes now ≡ with_integrity (bytes before) algorithm key) → OnOk result (room now + attribute_length (digest_length algorithm) ≡ room before)
-        → OnOk result (page_in bytes room now ≡ left_by (integrity algorithm key) (page_in bytes room before))
+    page_is : {W : Type 0} (bytes : W → List ℕ) (room : W → ℕ) (algorithm : IntegrityAlgorithm)
+        (key : List ℕ) (before now : W) (result : Result (Unit {0}) StunWriteError)
+        → OnOk result (bytes now ≡ with_integrity (bytes before) algorithm key)
+        → OnOk result (room now + attribute_length (digest_length algorithm) ≡ room before)
+        → OnOk result
+        (page_in bytes room now ≡ left_by (integrity algorithm key) (page_in bytes room before))
     page_is bytes room algorithm key before now (Ok value) written rooms =
-        let n : room now ≡ room before - attribute_length (digest_length algorithm) = omega (arith, rooms) in
+        let n : room now ≡ room before - attribute_length (digest_length algorithm) =
+        omega (arith, rooms) in
         λ i. record { bytes = written i; room = n i }
     page_is bytes room algorithm key before now (Err reason) written rooms = tt
 
 -- ---- additions, and then what is no addition
 
 -- the additions are refused
-refused_then : (xs ys : List Addition) (page now end : Page) (reserved : ℕ) (reason : StunWriteError) (next : Page → Result Page StunWriteError)
-    → IsOutcome xs page reserved (Err reason) now → UnlessMemory {V = Unit {0}} (Err reason) (outcome_of {V = Unit {0}} (Err reason) end ≡ after (added_all xs page) next) (WantsMemory (xs ++ ys) page reserved)
-refused_then xs ys page now end reserved NotAllowed next h = ap (λ (r : Result Page StunWriteError). after r next) h
-refused_then xs ys page now end reserved MessageIntegrityExists next h = ap (λ (r : Result Page StunWriteError). after r next) h
-refused_then xs ys page now end reserved (AttributeExists kind) next h = ap (λ (r : Result Page StunWriteError). after r next) h
-refused_then xs ys page now end reserved TooLarge next h = ap (λ (r : Result Page StunWriteError). after r next) h
-refused_then xs ys page now end reserved TooSmall next h = ap (λ (r : Result Page StunWriteError). after r next) h
-refused_then xs ys page now end reserved IntegrityFailed next h = ap (λ (r : Result Page StunWriteError). after r next) h
+refused_then : (xs ys : List Addition) (page now end : Page) (reserved : ℕ)
+    (reason : StunWriteError) (next : Page → Result Page StunWriteError)
+    → IsOutcome xs page reserved (Err reason) now
+    → UnlessMemory {V = Unit {0}} (Err reason)
+    (outcome_of {V = Unit {0}} (Err reason) end ≡ after (added_all xs page) next)
+    (WantsMemory (xs ++ ys) page reserved)
+refused_then xs ys page now end reserved NotAllowed next h =
+    ap (λ (r : Result Page StunWriteError). after r next) h
+refused_then xs ys page now end reserved MessageIntegrityExists next h =
+    ap (λ (r : Result Page StunWriteError). after r next) h
+refused_then xs ys page now end reserved (AttributeExists kind) next h =
+    ap (λ (r : Result Page StunWriteError). after r next) h
+refused_then xs ys page now end reserved TooLarge next h =
+    ap (λ (r : Result Page StunWriteError). after r next) h
+refused_then xs ys page now end reserved TooSmall next h =
+    ap (λ (r : Result Page StunWriteError). after r next) h
+refused_then xs ys page now end reserved IntegrityFailed next h =
+    ap (λ (r : Result Page StunWriteError). after r next) h
 refused_then xs ys page now end reserved OutOfMemory next h = wants_longer xs ys page reserved h
 
-pub refused_before : (xs ys : List Addition) (page now end : Page) (reserved left : ℕ) (result : Result (Unit {0}) StunWriteError) (reason : StunWriteError) (next : Page → Result Page StunWriteError)
+pub refused_before : (xs ys : List Addition) (page now end : Page) (reserved left : ℕ)
+    (result : Result (Unit {0}) StunWriteError) (reason : StunWriteError)
+    (next : Page → Result Page StunWriteError)
     → result ≡ Err reason → IsAdded xs page reserved (Err reason) now left
-    → UnlessMemory result (outcome_of result end ≡ after (added_all xs page) next) (WantsMemory (xs ++ ys) page reserved)
+    → UnlessMemory result (outcome_of result end ≡ after (added_all xs page) next)
+    (WantsMemory (xs ++ ys) page reserved)
 refused_before xs ys page now end reserved left result reason next is h =
-    subst (λ r. UnlessMemory r (outcome_of r end ≡ after (added_all xs page) next) (WantsMemory (xs ++ ys) page reserved)) (sym is)
+    subst (λ r. UnlessMemory r (outcome_of r end ≡ after (added_all xs page) next)
+    (WantsMemory (xs ++ ys) page reserved)) (sym is)
     (refused_then xs ys page now end reserved reason next h.outcome)
 
 -- they are added, and then something comes
-pub followed : (xs ys : List Addition) (page p end : Page) (reserved left : ℕ) (value : Unit {0}) (result : Result (Unit {0}) StunWriteError) (next : Page → Result Page StunWriteError)
-    → IsAdded xs page reserved (Ok value) p left → UnlessMemory result (outcome_of result end ≡ next p) (WantsMemory ys p left)
-    → UnlessMemory result (outcome_of result end ≡ after (added_all xs page) next) (WantsMemory (xs ++ ys) page reserved)
-followed xs ys page p end reserved left value (Ok v) next first h = h ∙ ap (λ (r : Result Page StunWriteError). after r next) first.outcome
-followed xs ys page p end reserved left value (Err NotAllowed) next first h = h ∙ ap (λ (r : Result Page StunWriteError). after r next) first.outcome
-followed xs ys page p end reserved left value (Err MessageIntegrityExists) next first h = h ∙ ap (λ (r : Result Page StunWriteError). after r next) first.outcome
-followed xs ys page p end reserved left value (Err (AttributeExists kind)) next first h = h ∙ ap (λ (r : Result Page StunWriteError). after r next) first.outcome
-followed xs ys page p end reserved left value (Err TooLarge) next first h = h ∙ ap (λ (r : Result Page StunWriteError). after r next) first.outcome
-followed xs ys page p end reserved left value (Err TooSmall) next first h = h ∙ ap (λ (r : Result Page StunWriteError). after r next) first.outcome
-followed xs ys page p end reserved left value (Err IntegrityFailed) next first h = h ∙ ap (λ (r : Result Page StunWriteError). after r next) first.outcome
-followed xs ys page p end reserved left value (Err OutOfMemory) next first h = wants_later xs ys page p reserved left first.outcome first.kept h
+pub followed : (xs ys : List Addition) (page p end : Page) (reserved left : ℕ) (value : Unit {0})
+    (result : Result (Unit {0}) StunWriteError) (next : Page → Result Page StunWriteError)
+    → IsAdded xs page reserved (Ok value) p left
+    → UnlessMemory result (outcome_of result end ≡ next p) (WantsMemory ys p left)
+    → UnlessMemory result (outcome_of result end ≡ after (added_all xs page) next)
+    (WantsMemory (xs ++ ys) page reserved)
+followed xs ys page p end reserved left value (Ok v) next first h =
+    h ∙ ap (λ (r : Result Page StunWriteError). after r next) first.outcome
+followed xs ys page p end reserved left value (Err NotAllowed) next first h =
+    h ∙ ap (λ (r : Result Page StunWriteError). after r next) first.outcome
+followed xs ys page p end reserved left value (Err MessageIntegrityExists) next first h =
+    h ∙ ap (λ (r : Result Page StunWriteError). after r next) first.outcome
+followed xs ys page p end reserved left value (Err (AttributeExists kind)) next first h =
+    h ∙ ap (λ (r : Result Page StunWriteError). after r next) first.outcome
+followed xs ys page p end reserved left value (Err TooLarge) next first h =
+    h ∙ ap (λ (r : Result Page StunWriteError). after r next) first.outcome
+followed xs ys page p end reserved left value (Err TooSmall) next first h =
+    h ∙ ap (λ (r : Result Page StunWriteError). after r next) first.outcome
+followed xs ys page p end reserved left value (Err IntegrityFailed) next first h =
+    h ∙ ap (λ (r : Result Page StunWriteError). after r next) first.outcome
+followed xs ys page p end reserved left value (Err OutOfMemory) next first h =
+    wants_later xs ys page p reserved left first.outcome first.kept h
 
 -- a list of algorithms is added with the choice from it
-pub choice_of_list : (list : List PasswordAlgorithmValue) (algorithm : IntegrityAlgorithm) → 1 ≤ length list
-    → algorithm_choice (map integrity_of list) algorithm ≡ attribute (password_algorithms (map integrity_of list)) ∷ attribute (password_algorithm algorithm) ∷ []
+pub choice_of_list : (list : List PasswordAlgorithmValue) (algorithm : IntegrityAlgorithm)
+    → 1 ≤ length list
+    → algorithm_choice (map integrity_of list) algorithm
+    ≡ attribute (password_algorithms (map integrity_of list))
+    ∷ attribute (password_algorithm algorithm) ∷ []
 choice_of_list [] algorithm some = absurd (omega (arith, some))
 choice_of_list (first ∷ list) algorithm some = refl

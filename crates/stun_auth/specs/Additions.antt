@@ -1,14 +1,23 @@
--- What signing adds to a message, one after another (RFC 8489, section 9): attributes, and last the integrity attribute.
-use Rattle.std.specs.Prelude.{◌≡◌, ◌<◌, ℕ, ◌-◌, ◌==◌, nat_lt, Bool, ◌&&◌, ◌||◌, if◌then◌else◌, List, [], ◌∷◌, ◌++◌, length, sum_by, Option, Some, None, Result, Ok, Err, IsOk}
+-- What signing adds to a message, one after another (RFC 8489, section 9): attributes, and last the
+-- integrity attribute.
+use Rattle.std.specs.Prelude.{◌≡◌, ◌<◌, ℕ, ◌-◌, ◌==◌, nat_lt, Bool, ◌&&◌, ◌||◌}
+use Rattle.std.specs.Prelude.{if◌then◌else◌, List, [], ◌∷◌, ◌++◌, length}
+use Rattle.std.specs.Prelude.{sum_by, Option, Some, None, Result, Ok, Err, IsOk}
 use Rattle.stun_base.specs.Algorithm.{digest_length}
 use Rattle.stun_base.specs.Attributes.{USERNAME, REALM, NONCE}
 use Rattle.stun_base.specs.declared.keys.algorithm.IntegrityAlgorithm.{IntegrityAlgorithm}
 use Rattle.stun_base.specs.declared.wire.error.StunWriteError.{StunWriteError}
-use Rattle.stun_base.specs.declared.wire.error.StunWriteError.TheVariants.{NotAllowed, MessageIntegrityExists, AttributeExists, TooLarge, TooSmall, IntegrityFailed, OutOfMemory}
+use Rattle.stun_base.specs.declared.wire.error.StunWriteError.TheVariants.{NotAllowed}
+use Rattle.stun_base.specs.declared.wire.error.StunWriteError.TheVariants.{MessageIntegrityExists}
+use Rattle.stun_base.specs.declared.wire.error.StunWriteError.TheVariants.{AttributeExists}
+use Rattle.stun_base.specs.declared.wire.error.StunWriteError.TheVariants.{TooLarge, TooSmall}
+use Rattle.stun_base.specs.declared.wire.error.StunWriteError.TheVariants.{IntegrityFailed}
+use Rattle.stun_base.specs.declared.wire.error.StunWriteError.TheVariants.{OutOfMemory}
 use Rattle.stun_types.specs.Attribute.{TypedValue, attribute_length}
 use Rattle.stun_types.specs.Message.{LENGTH_LIMIT}
 use Rattle.stun_types.specs.Limits.{TEXT_LIMIT, USERNAME_LIMIT}
-use Rattle.stun_types.specs.Writing.{attribute_refusal, signing_refusal, with_attribute, with_integrity}
+use Rattle.stun_types.specs.Writing.{attribute_refusal, signing_refusal}
+use Rattle.stun_types.specs.Writing.{with_attribute, with_integrity}
 
 -- an attribute, or the integrity attribute of an algorithm under a key
 pub data Addition : Type 0 where
@@ -41,7 +50,9 @@ is_too_long a =
 
 -- why an addition is refused: an attribute is made before it is added
 abbrev pub refusal_of : Addition → Page → Option StunWriteError
-refusal_of (attribute a) page = if is_too_long a then Some TooLarge else attribute_refusal page.bytes page.room a.kind (length a.value)
+refusal_of (attribute a) page =
+    if is_too_long a then Some TooLarge
+    else attribute_refusal page.bytes page.room a.kind (length a.value)
 refusal_of (integrity algorithm key) page = signing_refusal page.bytes page.room algorithm
 
 -- a message with an addition
@@ -56,10 +67,12 @@ unless_refused (Some reason) page = Err reason
 -- what one addition leaves, or why it is refused
 unfoldable pub added_one : Addition → Page → Result Page StunWriteError
 added_one addition page =
-    unless_refused (refusal_of addition page) (record { bytes = with_addition addition page.bytes; room = page.room - growth_of addition })
+    unless_refused (refusal_of addition page)
+    (record { bytes = with_addition addition page.bytes; room = page.room - growth_of addition })
 
 -- the next step, unless the one before it is refused
-abbrev pub after : Result Page StunWriteError → (Page → Result Page StunWriteError) → Result Page StunWriteError
+abbrev pub after : Result Page StunWriteError → (Page → Result Page StunWriteError)
+    → Result Page StunWriteError
 after (Err reason) next = Err reason
 after (Ok page) next = next page
 
@@ -68,8 +81,8 @@ abbrev pub added_all : List Addition → Page → Result Page StunWriteError
 added_all [] page = Ok page
 added_all (addition ∷ others) page = after (added_one addition page) (added_all others)
 
--- an allocation fails for additions of which so many bytes are reserved: nothing refuses the first of them, up to one, and
--- these take more than is reserved
+-- an allocation fails for additions of which so many bytes are reserved: nothing refuses the first
+-- of them, up to one, and these take more than is reserved
 pub record WantsMemory (list : List Addition) (page : Page) (reserved : ℕ) : Type 0 where
   pub first : List Addition
   pub others : List Addition
@@ -93,6 +106,7 @@ abbrev pub page_in : {W : Type 0} → (W → List ℕ) → (W → ℕ) → W →
 page_in bytes room writer = record { bytes = bytes writer; room = room writer }
 
 -- the answer of a call that takes and gives a writer, with the page that success leaves
-abbrev pub written : {W : Type 0} → (W → List ℕ) → (W → ℕ) → Result W StunWriteError → Result Page StunWriteError
+abbrev pub written : {W : Type 0} → (W → List ℕ) → (W → ℕ) → Result W StunWriteError
+    → Result Page StunWriteError
 written bytes room (Ok writer) = Ok (page_in bytes room writer)
 written bytes room (Err reason) = Err reason

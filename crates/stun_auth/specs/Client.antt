@@ -1,4 +1,5 @@
--- The client's side of long-term authentication (RFC 8489, section 9.2): what it is set to, and what it keeps.
+-- The client's side of long-term authentication (RFC 8489, section 9.2): what it is set to, and
+-- what it keeps.
 use Rattle.std.specs.Prelude.{ℕ, List, [], ◌∷◌, Option, None}
 use Rattle.stun_base.specs.Credentials.{NameAndPassword}
 use Rattle.stun_base.specs.declared.keys.algorithm.IntegrityAlgorithm.{IntegrityAlgorithm}
@@ -17,7 +18,8 @@ pub data Naming : Type 0 where
   plain : List ℕ → Naming
   hashed : List ℕ → Naming
 
--- what a client keeps of a server's challenge: it is what later requests carry, and the key that they are signed under
+-- what a client keeps of a server's challenge: it is what later requests carry, and the key that
+-- they are signed under
 pub record Challenge : Type 0 where
   pub naming : Naming
   pub realm : List ℕ
@@ -40,4 +42,8 @@ pub record ClientSide : Type 0 where
 
 -- a new client: HMAC-SHA1 alone, names as the server allows, no credentials
 abbrev pub new_client : ClientSide
-new_client = record { settings = record { supported = Sha1 ∷ []; feature = Auto; credentials = None }; state = initial }
+new_client =
+    record {
+      settings = record { supported = Sha1 ∷ []; feature = Auto; credentials = None };
+      state = initial;
+    }

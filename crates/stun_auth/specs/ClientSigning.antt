@@ -1,6 +1,7 @@
--- What a client's signing adds to a message, one addition after another (RFC 8489, section 9.2.5): the order in which it is written,
--- and in which it may be refused. `added_by_client` in Signed.antt says it by attribute, which is what a reader finds.
--- `laws::sides_add_by_attribute` says that both add the same.
+-- What a client's signing adds to a message, one addition after another (RFC 8489, section 9.2.5):
+-- the order in which it is written, and in which it may be refused. `added_by_client` in
+-- Signed.antt says it by attribute, which is what a reader finds. `laws::sides_add_by_attribute`
+-- says that both add the same.
 use Rattle.std.specs.Prelude.{List, [], ◌∷◌, ◌++◌, Bool, if◌then◌else◌, Option, Some, None}
 use Rattle.std.specs.Option.{option_map}
 use Rattle.stun_base.specs.declared.keys.algorithm.IntegrityAlgorithm.{IntegrityAlgorithm}
@@ -8,7 +9,8 @@ use Rattle.stun_types.specs.Attribute.{TypedValue}
 use Rattle.stun_auth.specs.Additions.{Addition, attribute, integrity}
 use Rattle.stun_auth.specs.AddedAttribute as added
 use Rattle.stun_auth.specs.Algorithms.{is_sha256}
-use Rattle.stun_auth.specs.Client.{Naming, plain, hashed, Challenge, ClientState, initial, authenticating, authenticated}
+use Rattle.stun_auth.specs.Client.{Naming, plain, hashed, Challenge, ClientState}
+use Rattle.stun_auth.specs.Client.{initial, authenticating, authenticated}
 
 -- the name of the user
 abbrev pub name_attribute : Naming → TypedValue
@@ -17,12 +19,18 @@ name_attribute (hashed hash) = added.userhash hash
 
 -- who asks: nonce, realm and name
 abbrev pub identity : Challenge → List Addition
-identity c = attribute (added.nonce c.nonce) ∷ attribute (added.realm c.realm) ∷ attribute (name_attribute c.naming) ∷ []
+identity c =
+    attribute (added.nonce c.nonce) ∷ attribute (added.realm c.realm)
+    ∷ attribute (name_attribute c.naming) ∷ []
 
--- the server's list as it was sent, if there is one, and the algorithm chosen from it; SHA-256 is named in any case
+-- the server's list as it was sent, if there is one, and the algorithm chosen from it; SHA-256 is
+-- named in any case
 abbrev pub algorithm_choice : List IntegrityAlgorithm → IntegrityAlgorithm → List Addition
-algorithm_choice [] algorithm = if is_sha256 algorithm then attribute (added.password_algorithm algorithm) ∷ [] else []
-algorithm_choice (a ∷ list) algorithm = attribute (added.password_algorithms (a ∷ list)) ∷ attribute (added.password_algorithm algorithm) ∷ []
+algorithm_choice [] algorithm =
+    if is_sha256 algorithm then attribute (added.password_algorithm algorithm) ∷ [] else []
+algorithm_choice (a ∷ list) algorithm =
+    attribute (added.password_algorithms (a ∷ list))
+    ∷ attribute (added.password_algorithm algorithm) ∷ []
 
 -- the digest under the kept key
 abbrev pub protection : Challenge → List Addition
@@ -30,7 +38,9 @@ protection c = integrity c.algorithm c.key ∷ []
 
 -- a request says who asks; messages of every class name the algorithms, and have the digest
 abbrev pub challenge_additions : Bool → Challenge → List Addition
-challenge_additions request c = (if request then identity c else []) ++ algorithm_choice c.algorithms c.algorithm ++ protection c
+challenge_additions request c =
+    (if request then identity c else []) ++ algorithm_choice c.algorithms c.algorithm
+    ++ protection c
 
 -- what a client keeps, if it has taken up a challenge
 abbrev pub kept_challenge : ClientState → Option Challenge

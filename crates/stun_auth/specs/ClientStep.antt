@@ -1,13 +1,15 @@
--- What a client answers to a message and keeps after it (RFC 8489, section 9.2.5), as a function of its settings,
--- its state and what is read of the message.
-use Rattle.std.specs.Prelude.{ℕ, ◌==◌, List, [], find, Bool, true, false, not, ◌&&◌, if◌then◌else◌, Option, Some, None, Result, Ok, Err, is_some, ⊤}
+-- What a client answers to a message and keeps after it (RFC 8489, section 9.2.5), as a function of
+-- its settings, its state and what is read of the message.
+use Rattle.std.specs.Prelude.{ℕ, ◌==◌, List, [], find, Bool, true, false, not, ◌&&◌}
+use Rattle.std.specs.Prelude.{if◌then◌else◌, Option, Some, None, Result, Ok, Err, is_some, ⊤}
 use Rattle.std.specs.Str.{bytes_eq}
 use Rattle.stun_base.specs.Credentials.{NameAndPassword}
 use Rattle.stun_base.specs.Keys.{long_term_key, userhash}
 use Rattle.stun_base.specs.declared.keys.algorithm.IntegrityAlgorithm.{IntegrityAlgorithm}
 use Rattle.stun_base.specs.declared.keys.algorithm.IntegrityAlgorithm.TheVariants.{Sha1}
 use Rattle.stun_auth.specs.Algorithms.{has}
-use Rattle.stun_auth.specs.Client.{ClientSettings, Naming, plain, hashed, Challenge, ClientState, initial, authenticating, authenticated}
+use Rattle.stun_auth.specs.Client.{ClientSettings, Naming, plain, hashed, Challenge}
+use Rattle.stun_auth.specs.Client.{ClientState, initial, authenticating, authenticated}
 use Rattle.stun_auth.specs.Feature.{is_possible}
 use Rattle.stun_auth.specs.Nonces.{security_bits, asks_for_algorithms, asks_for_userhash}
 use Rattle.stun_base.specs.MessageType.{is_success}
@@ -16,10 +18,22 @@ use Rattle.stun_auth.specs.declared.feature.Feature.{Feature}
 use Rattle.stun_auth.specs.declared.feature.Feature.TheVariants.{Auto, Required, Disabled}
 use Rattle.stun_auth.specs.declared.client.challenge.Refusal.{Refusal}
 use Rattle.stun_auth.specs.declared.client.challenge.Refusal.TheVariants as Refused
-use Rattle.stun_auth.specs.declared.client.answer.LongTermClientAuthErrorReason.{LongTermClientAuthErrorReason}
-use Rattle.stun_auth.specs.declared.client.answer.LongTermClientAuthErrorReason.TheVariants.{Unauthorized, IntegrityFailed, UnsupportedFeature, OutOfMemory}
-use Rattle.stun_auth.specs.declared.client.answer.LongTermClientValidation.{LongTermClientValidation}
-use Rattle.stun_auth.specs.declared.client.answer.LongTermClientValidation.TheVariants.{ResendRequest, Validated}
+use Rattle.stun_auth.specs.declared.client.answer.LongTermClientAuthErrorReason.{
+  LongTermClientAuthErrorReason,
+}
+use Rattle.stun_auth.specs.declared.client.answer.LongTermClientAuthErrorReason.TheVariants.{
+  Unauthorized,
+  IntegrityFailed,
+  UnsupportedFeature,
+  OutOfMemory,
+}
+use Rattle.stun_auth.specs.declared.client.answer.LongTermClientValidation.{
+  LongTermClientValidation,
+}
+use Rattle.stun_auth.specs.declared.client.answer.LongTermClientValidation.TheVariants.{
+  ResendRequest,
+  Validated,
+}
 
 -- what a message is answered
 abbrev pub ClientAnswer : Type 0
@@ -31,7 +45,8 @@ pub record ClientStep : Type 0 where
   pub state : ClientState
 
 -- the first algorithm of the server's list that the client supports
-abbrev pub first_supported : List IntegrityAlgorithm → List IntegrityAlgorithm → Option IntegrityAlgorithm
+abbrev pub first_supported : List IntegrityAlgorithm → List IntegrityAlgorithm
+    → Option IntegrityAlgorithm
 first_supported supported list = find (λ a. has a supported) list
 
 -- a choice, and where there is none a feature is not supported
@@ -39,8 +54,10 @@ abbrev pub or_unsupported : Option IntegrityAlgorithm → Result IntegrityAlgori
 or_unsupported None = Err Refused.UnsupportedFeature
 or_unsupported (Some algorithm) = Ok algorithm
 
--- by the server's list; where there is none, the nonce must not ask for a choice, and HMAC-SHA1 is meant
-abbrev pub choose_by_list : List IntegrityAlgorithm → Bool → Option (List IntegrityAlgorithm) → Result IntegrityAlgorithm Refusal
+-- by the server's list; where there is none, the nonce must not ask for a choice, and HMAC-SHA1 is
+-- meant
+abbrev pub choose_by_list : List IntegrityAlgorithm → Bool → Option (List IntegrityAlgorithm)
+    → Result IntegrityAlgorithm Refusal
 choose_by_list supported asks (Some list) = or_unsupported (first_supported supported list)
 choose_by_list supported asks None = if asks then Err Refused.Unauthorized else Ok Sha1
 
@@ -56,16 +73,20 @@ unless missing (Err refusal) = Err refusal
 unless missing (Ok algorithm) = if missing then Err Refused.UnsupportedFeature else Ok algorithm
 
 -- without security bits names are not hashed and HMAC-SHA1 is meant
-abbrev pub choose_without_bits : List IntegrityAlgorithm → Feature → Result IntegrityAlgorithm Refusal
+abbrev pub choose_without_bits : List IntegrityAlgorithm → Feature
+    → Result IntegrityAlgorithm Refusal
 choose_without_bits supported feature =
     if is_required feature then Err Refused.UnsupportedFeature
     else if has Sha1 supported then Ok Sha1 else Err Refused.UnsupportedFeature
 
--- the algorithm by the nonce's security bits, if it has them, and by the server's list, if there is one
-abbrev pub choose : List IntegrityAlgorithm → Feature → List ℕ → Option (List IntegrityAlgorithm) → Result IntegrityAlgorithm Refusal
+-- the algorithm by the nonce's security bits, if it has them, and by the server's list, if there is
+-- one
+abbrev pub choose : List IntegrityAlgorithm → Feature → List ℕ → Option (List IntegrityAlgorithm)
+    → Result IntegrityAlgorithm Refusal
 choose supported feature nonce list =
     if is_some (security_bits nonce) then
-    unless (is_required feature && not (asks_for_userhash nonce)) (choose_by_list supported (asks_for_algorithms nonce) list)
+    unless (is_required feature && not (asks_for_userhash nonce))
+    (choose_by_list supported (asks_for_algorithms nonce) list)
     else choose_without_bits supported feature
 
 -- a user by name, or by the hash of it
@@ -78,7 +99,8 @@ list_or_none None = []
 list_or_none (Some list) = list
 
 -- a name is hashed where the nonce allows it and the client does it
-abbrev pub kept : Feature → NameAndPassword → List ℕ → List ℕ → Option (List IntegrityAlgorithm) → IntegrityAlgorithm → Challenge
+abbrev pub kept : Feature → NameAndPassword → List ℕ → List ℕ → Option (List IntegrityAlgorithm)
+    → IntegrityAlgorithm → Challenge
 kept feature user realm nonce list algorithm = record {
   naming = naming_of (asks_for_userhash nonce && is_possible feature) user.username realm;
   realm = realm;
@@ -88,9 +110,11 @@ kept feature user realm nonce list algorithm = record {
   key = long_term_key algorithm user.username realm user.password;
 }
 
-abbrev pub kept_if : Feature → NameAndPassword → List ℕ → List ℕ → Option (List IntegrityAlgorithm) → Result IntegrityAlgorithm Refusal → Result Challenge Refusal
+abbrev pub kept_if : Feature → NameAndPassword → List ℕ → List ℕ → Option (List IntegrityAlgorithm)
+    → Result IntegrityAlgorithm Refusal → Result Challenge Refusal
 kept_if feature user realm nonce list (Err refusal) = Err refusal
-kept_if feature user realm nonce list (Ok algorithm) = Ok (kept feature user realm nonce list algorithm)
+kept_if feature user realm nonce list (Ok algorithm) =
+    Ok (kept feature user realm nonce list algorithm)
 
 -- the challenge that a client is answering already
 abbrev pub is_repeated : ClientState → List ℕ → List ℕ → Bool
@@ -99,7 +123,8 @@ is_repeated (authenticating c) realm nonce = bytes_eq realm c.realm && bytes_eq 
 is_repeated (authenticated c) realm nonce = false
 
 -- what is kept of a challenge with this realm, nonce and list, or why it is refused
-abbrev pub taken_up : ClientSettings → ClientState → Option NameAndPassword → Option (List ℕ) → Option (List ℕ) → Option (List IntegrityAlgorithm) → Result Challenge Refusal
+abbrev pub taken_up : ClientSettings → ClientState → Option NameAndPassword → Option (List ℕ)
+    → Option (List ℕ) → Option (List IntegrityAlgorithm) → Result Challenge Refusal
 taken_up s state None _ _ list = Err Refused.Unauthorized
 taken_up s state (Some user) None _ list = Err Refused.Unauthorized
 taken_up s state (Some user) (Some realm) None list = Err Refused.Unauthorized
@@ -118,9 +143,12 @@ verified_under_kept initial r = None
 verified_under_kept (authenticating c) r = verified_under r c.key
 verified_under_kept (authenticated c) r = verified_under r c.key
 
-abbrev pub after_challenge : ClientState → Option IntegrityAlgorithm → Result Challenge Refusal → ClientStep
-after_challenge state digest (Err refusal) = record { answer = Err (reason_of refusal); state = state }
-after_challenge state digest (Ok c) = record { answer = Ok (ResendRequest digest); state = authenticating c }
+abbrev pub after_challenge : ClientState → Option IntegrityAlgorithm → Result Challenge Refusal
+    → ClientStep
+after_challenge state digest (Err refusal) =
+    record { answer = Err (reason_of refusal); state = state }
+after_challenge state digest (Ok c) =
+    record { answer = Ok (ResendRequest digest); state = authenticating c }
 
 abbrev pub is_authenticated : ClientState → Bool
 is_authenticated initial = false
@@ -136,17 +164,22 @@ confirmed (authenticated c) = authenticated c
 -- a message is as good as its digest, and a success confirms the challenge that is being answered
 abbrev pub after_digest : ClientState → Bool → Option IntegrityAlgorithm → ClientStep
 after_digest state success None = record { answer = Err IntegrityFailed; state = state }
-after_digest state success (Some algorithm) = record { answer = Ok (Validated algorithm); state = if success then confirmed state else state }
+after_digest state success (Some algorithm) =
+    record { answer = Ok (Validated algorithm); state = if success then confirmed state else state }
 
 -- the kept challenge with another realm and nonce, and the same key
 abbrev pub with_realm_and_nonce : ClientState → List ℕ → List ℕ → ClientState
 with_realm_and_nonce initial realm nonce = initial
-with_realm_and_nonce (authenticating c) realm nonce = authenticating (record c { realm = realm; nonce = nonce })
-with_realm_and_nonce (authenticated c) realm nonce = authenticated (record c { realm = realm; nonce = nonce })
+with_realm_and_nonce (authenticating c) realm nonce =
+    authenticating (record c { realm = realm; nonce = nonce })
+with_realm_and_nonce (authenticated c) realm nonce =
+    authenticated (record c { realm = realm; nonce = nonce })
 
 -- a stale nonce, which brings the next one
-abbrev pub after_stale : ClientState → Option IntegrityAlgorithm → Option (List ℕ) → Option (List ℕ) → ClientStep
-after_stale state digest (Some realm) (Some nonce) = record { answer = Ok (ResendRequest digest); state = with_realm_and_nonce state realm nonce }
+abbrev pub after_stale : ClientState → Option IntegrityAlgorithm → Option (List ℕ) → Option (List ℕ)
+    → ClientStep
+after_stale state digest (Some realm) (Some nonce) =
+    record { answer = Ok (ResendRequest digest); state = with_realm_and_nonce state realm nonce }
 after_stale state digest None _ = after_digest state false digest
 after_stale state digest (Some realm) None = after_digest state false digest
 
@@ -167,8 +200,10 @@ is_code code (Some other) = other == code
 abbrev pub client_step : ClientSettings → ClientState → Reading → ClientStep
 client_step s state r =
     if is_code UNAUTHORIZED r.error && not (is_authenticated state) then
-    after_challenge state (verified_under_kept state r) (taken_up s state s.credentials r.realm r.nonce r.algorithms)
-    else if is_code STALE_NONCE r.error then after_stale state (verified_under_kept state r) r.realm r.nonce
+    after_challenge state (verified_under_kept state r)
+    (taken_up s state s.credentials r.realm r.nonce r.algorithms)
+    else if is_code STALE_NONCE r.error
+    then after_stale state (verified_under_kept state r) r.realm r.nonce
     else after_digest state (is_success r.class) (verified_under_kept state r)
 
 -- the request is to be sent again: these answers alone keep something new
@@ -185,6 +220,7 @@ ForReason UnsupportedFeature P Q = P
 ForReason OutOfMemory P Q = Q
 
 -- the first fact holds, or the second where the answer is that an allocation failed
-abbrev pub OrMemory : {V : Type 0} → Result V LongTermClientAuthErrorReason → Type 0 → Type 0 → Type 0
+abbrev pub OrMemory : {V : Type 0} → Result V LongTermClientAuthErrorReason → Type 0 → Type 0
+    → Type 0
 OrMemory (Ok value) P Q = P
 OrMemory (Err reason) P Q = ForReason reason P Q

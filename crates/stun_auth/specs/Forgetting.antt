@@ -11,14 +11,16 @@ use Rattle.stun_auth.specs.Validation.{ServerSeen}
 abbrev pub is_forgotten : ℕ → PlaceSeen → Bool
 is_forgotten now place = is_none place.client && nat_lt place.expires now
 
--- what an address's place becomes: a forgotten one is gone whole, its offered algorithms with it, and any other stays
+-- what an address's place becomes: a forgotten one is gone whole, its offered algorithms with it,
+-- and any other stays
 abbrev pub place_kept : ℕ → Option PlaceSeen → Option PlaceSeen
 place_kept now None = None
 place_kept now (Some place) = if is_forgotten now place then None else Some place
 
 -- the places that are kept at a moment
 abbrev pub places_kept : ℕ → map.FinMap address_cmp PlaceSeen → map.FinMap address_cmp PlaceSeen
-places_kept now places = map.retain_keys places (λ address. is_some (place_kept now (map.get places address)))
+places_kept now places =
+    map.retain_keys places (λ address. is_some (place_kept now (map.get places address)))
 
 -- the server that is left
 abbrev pub after_forgetting : ServerSeen → ℕ → ServerSeen

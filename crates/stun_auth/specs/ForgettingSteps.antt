@@ -1,5 +1,7 @@
--- Forgetting what has expired in steps: each looks at no more than a number of addresses, in their order.
-use Rattle.std.specs.Prelude.{ℕ, zero, suc, List, [], ◌∷◌, Bool, true, not, ◌&&◌, ◌||◌, Option, Some, None}
+-- Forgetting what has expired in steps: each looks at no more than a number of addresses, in their
+-- order.
+use Rattle.std.specs.Prelude.{ℕ, zero, suc, List, [], ◌∷◌, Bool, true}
+use Rattle.std.specs.Prelude.{not, ◌&&◌, ◌||◌, Option, Some, None}
 use Rattle.std.specs.Option.{is_some, option_and_then, option_map_or}
 use Rattle.std.specs.Ordering.{is_lt}
 use Rattle.std.specs.FinMap as map
@@ -20,7 +22,8 @@ first_from places start = find (is_from_start address_cmp start) (map.keys place
 -- the one that so many others come before
 abbrev pub next_from : PlacesSeen → Bound SocketAddr → ℕ → Option SocketAddr
 next_from places start zero = first_from places start
-next_from places start (suc more) = option_and_then (λ a. next_from places (Excluded a) more) (first_from places start)
+next_from places start (suc more) =
+    option_and_then (λ a. next_from places (Excluded a) more) (first_from places start)
 
 -- a step begins at an address, or at the first of all
 abbrev pub start_of : Option SocketAddr → Bound SocketAddr
@@ -36,9 +39,11 @@ is_before (Some end) a = is_lt (address_cmp a end)
 abbrev pub is_looked_at : Option SocketAddr → Option SocketAddr → SocketAddr → Bool
 is_looked_at from end a = is_from_start address_cmp (start_of from) a && is_before end a
 
--- the places where those that are chosen are kept as `forget_expired` keeps them, and all others stay
+-- the places where those that are chosen are kept as `forget_expired` keeps them, and all others
+-- stay
 abbrev pub places_kept_where : (SocketAddr → Bool) → ℕ → PlacesSeen → PlacesSeen
-places_kept_where chosen now places = map.retain_keys places (λ a. not (chosen a) || is_some (place_kept now (map.get places a)))
+places_kept_where chosen now places =
+    map.retain_keys places (λ a. not (chosen a) || is_some (place_kept now (map.get places a)))
 
 -- the address at which the next step begins: that of the first place that this one does not look at
 abbrev pub next_address : ServerSeen → Option SocketAddr → ℕ → Option SocketAddr
@@ -46,10 +51,14 @@ next_address s from most = next_from s.places (start_of from) most
 
 -- the server that a step leaves
 abbrev pub after_step : ServerSeen → ℕ → Option SocketAddr → ℕ → ServerSeen
-after_step s now from most = record s { places = places_kept_where (is_looked_at from (next_address s from most)) now s.places }
+after_step s now from most =
+    record s
+    { places = places_kept_where (is_looked_at from (next_address s from most)) now s.places }
 
--- the server after steps of these sizes, each of which begins where the one before ended; none where they do not come to the end
+-- the server after steps of these sizes, each of which begins where the one before ended; none
+-- where they do not come to the end
 abbrev pub after_steps : ServerSeen → ℕ → Option SocketAddr → List ℕ → Option ServerSeen
 after_steps s now from [] = None
 after_steps s now from (most ∷ sizes) =
-    option_map_or (λ a. after_steps (after_step s now from most) now (Some a) sizes) (next_address s from most) (Some (after_step s now from most))
+    option_map_or (λ a. after_steps (after_step s now from most) now (Some a) sizes)
+    (next_address s from most) (Some (after_step s now from most))

@@ -15,7 +15,8 @@ use Rattle.stun_auth.specs.declared.server.stored_keys.StoredKeys.{StoredKeys}
 use Rattle.stun_auth.specs.Algorithms.{contains}
 use Rattle.stun_auth.specs.Feature.{is_possible}
 use Rattle.stun_auth.specs.Reading.{Reading}
-use Rattle.stun_auth.specs.Registered.{Registered, RegisteredUser, UserSecret, name_cmp, stored_key, user_named, user_with_hash}
+use Rattle.stun_auth.specs.Registered.{Registered, RegisteredUser, UserSecret, name_cmp}
+use Rattle.stun_auth.specs.Registered.{stored_key, user_named, user_with_hash}
 use Rattle.stun_auth.specs.Seen.{ClientSeen, PlaceSeen}
 use Rattle.stun_auth.specs.Server.{Sight}
 use Rattle.stun_auth.specs.Validation.{ServerSeen, sight}
@@ -39,12 +40,15 @@ named_in None username feature = option_map by_name username
 
 -- the client of a place
 abbrev pub named_at : Option PlaceSeen → Option Named
-named_at place = option_map (λ (c : ClientSeen). by_name c.name) (option_and_then (λ (p : PlaceSeen). p.client) place)
+named_at place =
+    option_map (λ (c : ClientSeen). by_name c.name)
+    (option_and_then (λ (p : PlaceSeen). p.client) place)
 
 -- by whose key a message is judged: of a response the client of its address, of all others the one
 -- whom it names
 abbrev pub judged_by : Sight → Reading → Option Named
-judged_by s r = if is_response r.class then named_at s.place else named_in r.userhash r.username s.feature
+judged_by s r =
+    if is_response r.class then named_at s.place else named_in r.userhash r.username s.feature
 
 -- the present user who is meant
 abbrev pub user_of : Registered → Named → Option RegisteredUser

@@ -1,5 +1,7 @@
--- What a message says after additions (RFC 8489, sections 14.5, 14.6 and 9.2): the attributes that count, and whose digest verifies.
-use Rattle.std.specs.Prelude.{◌≡◌, ℕ, ◌-◌, ◌<◌, ◌^◌, ◌==◌, false, if◌then◌else◌, List, [], ◌∷◌, ◌++◌, length, Option, Some, None}
+-- What a message says after additions (RFC 8489, sections 14.5, 14.6 and 9.2): the attributes that
+-- count, and whose digest verifies.
+use Rattle.std.specs.Prelude.{◌≡◌, ℕ, ◌-◌, ◌<◌, ◌^◌, ◌==◌, false, if◌then◌else◌}
+use Rattle.std.specs.Prelude.{List, [], ◌∷◌, ◌++◌, length, Option, Some, None}
 use Rattle.std.specs.Option.{is_some, option_map, option_or}
 use Rattle.stun_base.specs.Header.{type_field, transaction_id_field}
 use Rattle.stun_base.specs.declared.keys.algorithm.IntegrityAlgorithm.{IntegrityAlgorithm}
@@ -9,7 +11,8 @@ use Rattle.stun_types.specs.Message.{IsMessage}
 use Rattle.stun_types.specs.Visible.{visible}
 use Rattle.stun_types.specs.Walk.{Member}
 use Rattle.stun_types.specs.Writing.{IsOpen, integrity_attribute, is_set_apart}
-use Rattle.stun_auth.specs.Additions.{Addition, attribute, integrity, Page, growth_of, with_addition}
+use Rattle.stun_auth.specs.Additions.{Addition, attribute, integrity}
+use Rattle.stun_auth.specs.Additions.{Page, growth_of, with_addition}
 use Rattle.stun_auth.specs.Reading.{has_visible_integrity, last_of}
 
 -- the type of an attribute is a number of 16 bits
@@ -26,12 +29,14 @@ written_attribute message (integrity algorithm key) = integrity_attribute messag
 abbrev pub added_members : List ℕ → List Addition → List Member
 added_members message [] = []
 added_members message (addition ∷ others) =
-    (length message, written_attribute message addition) ∷ added_members (with_addition addition message) others
+    (length message, written_attribute message addition)
+    ∷ added_members (with_addition addition message) others
 
 -- the last attribute of a type among additions
 abbrev pub added_last : ℕ → List Addition → Option TypedValue
 added_last kind [] = None
-added_last kind (attribute a ∷ others) = option_or (added_last kind others) (if a.kind == kind then Some a else None)
+added_last kind (attribute a ∷ others) =
+    option_or (added_last kind others) (if a.kind == kind then Some a else None)
 added_last kind (integrity algorithm key ∷ others) = added_last kind others
 
 -- the last attribute of a type that counts in a message
@@ -47,9 +52,11 @@ pub record Protection : Type 0 where
 abbrev pub protection_in : List Addition → Option Protection
 protection_in [] = None
 protection_in (attribute a ∷ others) = protection_in others
-protection_in (integrity algorithm key ∷ others) = Some (record { algorithm = algorithm; key = key })
+protection_in (integrity algorithm key ∷ others) =
+    Some (record { algorithm = algorithm; key = key })
 
--- a message with additions: type and id are as before, what counted counts still, and then the additions do, in their order
+-- a message with additions: type and id are as before, what counted counts still, and then the
+-- additions do, in their order
 pub record HasAdded (before : List ℕ) (list : List Addition) (after : List ℕ) : Type 0 where
   pub is_message : IsMessage after
   pub type_is : type_field after ≡ type_field before
@@ -60,15 +67,18 @@ pub record HasAdded (before : List ℕ) (list : List Addition) (after : List ℕ
   -- without a digest more can be added
   pub is_open : protection_in list ≡ None → IsOpen after
   -- with one, it verifies under its key
-  pub digest_stands : (p : Protection) → protection_in list ≡ Some p → verified_algorithm after p.key ≡ Some p.algorithm
+  pub digest_stands : (p : Protection) → protection_in list ≡ Some p
+      → verified_algorithm after p.key ≡ Some p.algorithm
 
 -- of each type, the attribute that was added is read, or else the one that was there
 abbrev pub IsReadBack : List ℕ → List Addition → List ℕ → Type 0
 IsReadBack before list after =
-    (kind : ℕ) → is_set_apart kind ≡ false → last_value kind after ≡ option_or (added_last kind list) (last_value kind before)
+    (kind : ℕ) → is_set_apart kind ≡ false
+    → last_value kind after ≡ option_or (added_last kind list) (last_value kind before)
 
 -- what additions leave where none of them is refused
 abbrev pub page_after : List Addition → Page → Page
 page_after [] page = page
 page_after (addition ∷ others) page =
-    page_after others (record { bytes = with_addition addition page.bytes; room = page.room - growth_of addition })
+    page_after others
+    (record { bytes = with_addition addition page.bytes; room = page.room - growth_of addition })

@@ -1,5 +1,7 @@
 -- Nonces of a server, and the security bits that they carry (RFC 8489, section 9.2).
-use Rattle.std.specs.Prelude.{ℕ, nat_eq, ◌+◌, ◌%◌, ◌-◌, ◌==◌, nat_lt, nat_le, Bool, false, not, ◌&&◌, if◌then◌else◌, List, [], ◌∷◌, ◌++◌, length, take, drop, map, codes, Option, Some, None, bit_and, bit_or}
+use Rattle.std.specs.Prelude.{ℕ, nat_eq, ◌+◌, ◌%◌, ◌-◌, ◌==◌, nat_lt, nat_le, Bool, false}
+use Rattle.std.specs.Prelude.{not, ◌&&◌, if◌then◌else◌, List, [], ◌∷◌, ◌++◌, length, take}
+use Rattle.std.specs.Prelude.{drop, map, codes, Option, Some, None, bit_and, bit_or}
 use Rattle.std.specs.List.{starts_with}
 use Rattle.std.specs.declared.result.Result.{Result}
 use Rattle.std.specs.declared.result.Result.TheVariants.{Ok, Err}
@@ -28,9 +30,12 @@ abbrev pub three_bytes : Result (List ℕ) DecodeError → Option (List ℕ)
 three_bytes (Ok bytes) = if length bytes == 3 then Some bytes else None
 three_bytes (Err e) = None
 
--- the 24 security bits of a nonce: its four letters after the cookie, where they are base64 of three bytes
+-- the 24 security bits of a nonce: its four letters after the cookie, where they are base64 of
+-- three bytes
 unfoldable pub security_bits : List ℕ → Option (List ℕ)
-security_bits text = if begins_with_cookie text && nat_le 13 (length text) then three_bytes (decode_of standard (take 4 (drop 9 text))) else None
+security_bits text =
+    if begins_with_cookie text && nat_le 13 (length text)
+    then three_bytes (decode_of standard (take 4 (drop 9 text))) else None
 
 -- whether the first of the bytes has a bit
 abbrev pub first_has : ℕ → Option (List ℕ) → Bool
@@ -41,7 +46,8 @@ first_has bit (Some (byte ∷ bytes)) = not (bit_and byte bit == 0)
 -- the bytes with a bit of the first one set or cleared
 abbrev pub with_first_bit : ℕ → Bool → List ℕ → List ℕ
 with_first_bit bit is_set [] = []
-with_first_bit bit is_set (byte ∷ bytes) = (if is_set then bit_or byte bit else bit_and byte (255 - bit)) ∷ bytes
+with_first_bit bit is_set (byte ∷ bytes) =
+    (if is_set then bit_or byte bit else bit_and byte (255 - bit)) ∷ bytes
 
 -- the cookie and the security bits as four letters
 unfoldable pub spelled_bits : List ℕ → List ℕ
@@ -63,7 +69,8 @@ letter word = letter_at (word % 62)
 
 -- the first security byte of a server's nonces
 abbrev pub security_byte : AlgorithmSet → Feature → ℕ
-security_byte algorithms feature = (if contains Sha256 algorithms then 0x80 else 0) + (if is_possible feature then 0x40 else 0)
+security_byte algorithms feature =
+    (if contains Sha256 algorithms then 0x80 else 0) + (if is_possible feature then 0x40 else 0)
 
 -- the front of a nonce with this security byte
 abbrev pub front : ℕ → List ℕ

@@ -12,7 +12,8 @@ abbrev pub PlacesSeen : Type 0
 PlacesSeen = fin.FinMap address_cmp PlaceSeen
 
 -- the places with a change at an address, where it has one
-abbrev pub at_place : Option PlaceSeen → PlacesSeen → SocketAddr → (PlaceSeen → PlaceSeen) → PlacesSeen
+abbrev pub at_place : Option PlaceSeen → PlacesSeen → SocketAddr → (PlaceSeen → PlaceSeen)
+    → PlacesSeen
 at_place None places address change = places
 at_place (Some place) places address change = fin.insert places address (change place)
 
@@ -25,4 +26,5 @@ with_client client place = record place { client = client }
 
 -- a place to which a set of algorithms was offered: where a client is known nothing is offered
 abbrev pub with_offer : AlgorithmSet → PlaceSeen → PlaceSeen
-with_offer supported place = if is_some place.client then place else record place { offered = Some supported }
+with_offer supported place =
+    if is_some place.client then place else record place { offered = Some supported }

@@ -4,13 +4,15 @@ use Rattle.std.specs.List.{find}
 use Rattle.std.specs.Option.{is_some, option_and_then, option_map}
 use Rattle.stun_base.specs.declared.keys.algorithm.IntegrityAlgorithm.{IntegrityAlgorithm}
 use Rattle.stun_base.specs.declared.wire.message_type.MessageClass.{MessageClass}
-use Rattle.stun_base.specs.Attributes.{ERROR_CODE, NONCE, PASSWORD_ALGORITHM, PASSWORD_ALGORITHMS, REALM, USERHASH, USERNAME}
+use Rattle.stun_base.specs.Attributes.{ERROR_CODE, NONCE, PASSWORD_ALGORITHM}
+use Rattle.stun_base.specs.Attributes.{PASSWORD_ALGORITHMS, REALM, USERHASH, USERNAME}
 use Rattle.stun_base.specs.MessageType.{class_in, is_error}
 use Rattle.stun_types.specs.Attribute.{TypedValue}
 use Rattle.stun_types.specs.ErrorCode.{CodeAndReason, error_of}
 use Rattle.stun_types.specs.Integrity.{first_of, is_integrity, verified_algorithm}
 use Rattle.stun_types.specs.Limits.{TEXT_LIMIT, USERNAME_LIMIT}
-use Rattle.stun_types.specs.PasswordAlgorithms.{password_algorithm_in, password_algorithms_in, integrity_of}
+use Rattle.stun_types.specs.PasswordAlgorithms.{password_algorithm_in}
+use Rattle.stun_types.specs.PasswordAlgorithms.{password_algorithms_in, integrity_of}
 use Rattle.stun_types.specs.Text.{text_of}
 use Rattle.stun_types.specs.Userhash.{hash_of}
 use Rattle.stun_types.specs.Walk.{Member}
@@ -40,17 +42,20 @@ pub record Reading : Type 0 where
   -- the algorithms whose keys the listed, and the chosen, password algorithms make
   pub algorithms : Option (List IntegrityAlgorithm)
   pub algorithm : Option IntegrityAlgorithm
-  -- where an integrity attribute is visible and well formed, the algorithm whose digest verifies under a key
+  -- where an integrity attribute is visible and well formed, the algorithm whose digest verifies
+  -- under a key
   pub integrity : Option (List ℕ → Option IntegrityAlgorithm)
 
 -- the algorithm whose digest verifies under a key
 abbrev pub verified_under : Reading → List ℕ → Option IntegrityAlgorithm
-verified_under r key = option_and_then (λ (verify : List ℕ → Option IntegrityAlgorithm). verify key) r.integrity
+verified_under r key =
+    option_and_then (λ (verify : List ℕ → Option IntegrityAlgorithm). verify key) r.integrity
 
 -- the code of an error response
 abbrev pub error_code : List ℕ → Option ℕ
 error_code bytes =
-    if is_error (class_in bytes) then option_map (λ (e : CodeAndReason). e.code) (last error_of ERROR_CODE bytes) else None
+    if is_error (class_in bytes)
+    then option_map (λ (e : CodeAndReason). e.code) (last error_of ERROR_CODE bytes) else None
 
 -- what is read of the bytes of a message
 unfoldable pub reading_of : List ℕ → Reading
@@ -61,7 +66,8 @@ reading_of bytes = record {
   nonce = last (text_of NONCE TEXT_LIMIT) NONCE bytes;
   username = last (text_of USERNAME USERNAME_LIMIT) USERNAME bytes;
   userhash = last hash_of USERHASH bytes;
-  algorithms = option_map (map integrity_of) (last password_algorithms_in PASSWORD_ALGORITHMS bytes);
+  algorithms =
+      option_map (map integrity_of) (last password_algorithms_in PASSWORD_ALGORITHMS bytes);
   algorithm = option_map integrity_of (last password_algorithm_in PASSWORD_ALGORITHM bytes);
   integrity = if has_visible_integrity bytes then Some (verified_algorithm bytes) else None;
 }

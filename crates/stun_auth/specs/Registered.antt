@@ -49,7 +49,8 @@ new_registered realm = record { realm = realm; algorithms = only Sha1; secrets =
 
 -- a user who is present from here on, or has another password from here on
 abbrev pub with_user : Registered → NameAndPassword → Registered
-with_user r user = record r { secrets = map.insert r.secrets user.username (of_password user.password) }
+with_user r user =
+    record r { secrets = map.insert r.secrets user.username (of_password user.password) }
 
 -- a user who is present no more
 abbrev pub without_user : Registered → List ℕ → Registered
@@ -57,7 +58,8 @@ without_user r name = record r { secrets = map.remove r.secrets name }
 
 -- the present user of a name
 abbrev pub user_named : Registered → List ℕ → Option RegisteredUser
-user_named r name = option_map (λ secret. record { username = name; secret = secret }) (map.get r.secrets name)
+user_named r name =
+    option_map (λ secret. record { username = name; secret = secret }) (map.get r.secrets name)
 
 -- the name of the first present user, in the order of names, that has this hash
 abbrev pub name_with_hash : Registered → List ℕ → Option (List ℕ)

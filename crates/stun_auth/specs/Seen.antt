@@ -17,5 +17,6 @@ pub record PlaceSeen : Type 0 where
 
 -- a place with a new nonce: what was offered and who is known stay
 abbrev pub renewed : Option PlaceSeen → List ℕ → ℕ → PlaceSeen
-renewed None nonce expires = record { nonce = nonce; expires = expires; offered = None; client = None }
+renewed None nonce expires =
+    record { nonce = nonce; expires = expires; offered = None; client = None }
 renewed (Some place) nonce expires = record place { nonce = nonce; expires = expires }

@@ -1,5 +1,7 @@
--- Whom a long-term server accepts at an address, and why it refuses all others (RFC 8489, section 9.2.4).
-use Rattle.std.specs.Prelude.{◌≡◌, ℕ, nat_le, List, [], ◌∷◌, Bool, true, false, not, ◌&&◌, ◌||◌, if◌then◌else◌, Option, Some, None}
+-- Whom a long-term server accepts at an address, and why it refuses all others (RFC 8489, section
+-- 9.2.4).
+use Rattle.std.specs.Prelude.{◌≡◌, ℕ, nat_le, List, [], ◌∷◌, Bool, true, false}
+use Rattle.std.specs.Prelude.{not, ◌&&◌, ◌||◌, if◌then◌else◌, Option, Some, None}
 use Rattle.std.specs.Option.{is_none, option_and_then, option_map_or, unwrap_or, IsSome}
 use Rattle.std.specs.List.{find}
 use Rattle.std.specs.Str.{bytes_eq}
@@ -12,12 +14,14 @@ use Rattle.stun_base.specs.Moments.{moment_after}
 use Rattle.stun_auth.specs.declared.algorithm_set.AlgorithmSet.{AlgorithmSet}
 use Rattle.stun_auth.specs.declared.feature.Feature.{Feature}
 use Rattle.stun_auth.specs.declared.server.reason.Refusal.{Refusal}
-use Rattle.stun_auth.specs.declared.server.reason.Refusal.TheVariants.{Unauthorized, BadRequest, StaleNonce}
+use Rattle.stun_auth.specs.declared.server.reason.Refusal.TheVariants.{Unauthorized}
+use Rattle.stun_auth.specs.declared.server.reason.Refusal.TheVariants.{BadRequest, StaleNonce}
 use Rattle.stun_auth.specs.Algorithms.{contains, has, offered_list, same_list}
 use Rattle.stun_auth.specs.Feature.{is_possible}
 use Rattle.stun_auth.specs.Nonces.{asks_for_algorithms, nonce_of, security_bits}
 use Rattle.stun_auth.specs.Reading.{Reading, verified_under}
-use Rattle.stun_auth.specs.Registered.{Registered, RegisteredUser, UserSecret, key_from, key_of, user_named, user_with_hash}
+use Rattle.stun_auth.specs.Registered.{Registered, RegisteredUser, UserSecret}
+use Rattle.stun_auth.specs.Registered.{key_from, key_of, user_named, user_with_hash}
 use Rattle.stun_auth.specs.Seen.{ClientSeen, PlaceSeen, renewed}
 
 -- what one address can tell of a server
@@ -37,29 +41,40 @@ stands_at now (Some place) = nat_le now place.expires
 -- the place where a nonce is current, or else the place with a new nonce
 abbrev pub standing_of : Option PlaceSeen → List ℕ → ℕ → ℕ → PlaceSeen
 standing_of None nonce now end = renewed None nonce end
-standing_of (Some place) nonce now end = if nat_le now place.expires then place else renewed (Some place) nonce end
+standing_of (Some place) nonce now end =
+    if nat_le now place.expires then place else renewed (Some place) nonce end
 
 -- the place once a nonce is needed: the current one stays, else one is made of the random words
 abbrev pub standing : Sight → ℕ → List ℕ → PlaceSeen
-standing s now words = standing_of s.place (nonce_of s.registered.algorithms s.feature words) now (moment_after now s.expiry)
+standing s now words =
+    standing_of s.place (nonce_of s.registered.algorithms s.feature words) now
+    (moment_after now s.expiry)
 
 -- ---- what a message says
 
--- what is meant where the nonce asks for a choice: HMAC-SHA1 where the message has neither the list nor the choice, and else the
--- choice, where the list is the one that was offered and the choice is in it
-abbrev pub choice : Option (List IntegrityAlgorithm) → Option IntegrityAlgorithm → List IntegrityAlgorithm → Option IntegrityAlgorithm
+-- what is meant where the nonce asks for a choice: HMAC-SHA1 where the message has neither the list
+-- nor the choice, and else the choice, where the list is the one that was offered and the choice is
+-- in it
+abbrev pub choice : Option (List IntegrityAlgorithm) → Option IntegrityAlgorithm
+    → List IntegrityAlgorithm → Option IntegrityAlgorithm
 choice None None offered = Some Sha1
-choice (Some list) (Some a) offered = if same_list list offered && has a offered then Some a else None
+choice (Some list) (Some a) offered =
+    if same_list list offered && has a offered then Some a else None
 choice (Some list) None offered = None
 choice None (Some a) offered = None
 
--- the algorithm that both sides mean: by that choice, and HMAC-SHA1 where the message's nonce asks for none
+-- the algorithm that both sides mean: by that choice, and HMAC-SHA1 where the message's nonce asks
+-- for none
 abbrev pub agreed : Reading → List ℕ → Option AlgorithmSet → Option IntegrityAlgorithm
-agreed r nonce offered = if asks_for_algorithms nonce then choice r.algorithms r.algorithm (offered_list offered) else Some Sha1
+agreed r nonce offered =
+    if asks_for_algorithms nonce then choice r.algorithms r.algorithm (offered_list offered)
+    else Some Sha1
 
 -- the present user whom a message names: by a hash, where that is possible, or else by name
-abbrev pub named_by : Option (List ℕ) → Option (List ℕ) → Registered → Feature → Option RegisteredUser
-named_by (Some hash) username users feature = if is_possible feature then user_with_hash users hash else None
+abbrev pub named_by : Option (List ℕ) → Option (List ℕ) → Registered → Feature
+    → Option RegisteredUser
+named_by (Some hash) username users feature =
+    if is_possible feature then user_with_hash users hash else None
 named_by None username users feature = option_and_then (user_named users) username
 
 -- the same by what is read of a message
@@ -68,8 +83,10 @@ named users feature r = named_by r.userhash r.username users feature
 
 -- ---- acceptance, in one conjunction
 
--- a realm, our nonce, algorithms that agree, a present user who is named, and the digest under that user's key
-pub record IsAccepted (users : Registered) (feature : Feature) (ours : List ℕ) (offered : Option AlgorithmSet) (r : Reading) (client : ClientSeen) : Type 0 where
+-- a realm, our nonce, algorithms that agree, a present user who is named, and the digest under that
+-- user's key
+pub record IsAccepted (users : Registered) (feature : Feature) (ours : List ℕ)
+    (offered : Option AlgorithmSet) (r : Reading) (client : ClientSeen) : Type 0 where
   pub secret : UserSecret
   pub key : List ℕ
   pub realm : IsSome r.realm
@@ -84,7 +101,8 @@ pub record IsAccepted (users : Registered) (feature : Feature) (ours : List ℕ)
 
 -- ---- the refusals, in a table
 
--- the nonce that a message names. One that names none is refused by the second row, before this is looked at
+-- the nonce that a message names. One that names none is refused by the second row, before this is
+-- looked at
 abbrev pub their_nonce : Reading → List ℕ
 their_nonce r = unwrap_or r.nonce []
 
@@ -96,18 +114,24 @@ bits_differ (Some ours) (Some theirs) = not (bytes_eq ours theirs)
 
 -- how a nonce that is not the current one is refused: forged security bits are not stale
 abbrev pub nonce_refusal : List ℕ → List ℕ → Refusal
-nonce_refusal ours theirs = if bits_differ (security_bits ours) (security_bits theirs) then Unauthorized else StaleNonce
+nonce_refusal ours theirs =
+    if bits_differ (security_bits ours) (security_bits theirs) then Unauthorized else StaleNonce
 
 -- the algorithm whose digest verifies under the key that a user has for an algorithm
-abbrev pub verified_for : Registered → Reading → IntegrityAlgorithm → RegisteredUser → Option IntegrityAlgorithm
+abbrev pub verified_for : Registered → Reading → IntegrityAlgorithm → RegisteredUser
+    → Option IntegrityAlgorithm
 verified_for users r a user = option_and_then (verified_under r) (key_of users user a)
 
--- the algorithm whose digest verifies, of the user who is named and the algorithm that both sides mean
-abbrev pub proven : Registered → Feature → Reading → Option IntegrityAlgorithm → Option IntegrityAlgorithm
-proven users feature r chosen = option_and_then (λ a. option_and_then (verified_for users r a) (named users feature r)) chosen
+-- the algorithm whose digest verifies, of the user who is named and the algorithm that both sides
+-- mean
+abbrev pub proven : Registered → Feature → Reading → Option IntegrityAlgorithm
+    → Option IntegrityAlgorithm
+proven users feature r chosen =
+    option_and_then (λ a. option_and_then (verified_for users r a) (named users feature r)) chosen
 
 -- the refusals, in the order in which they are looked for
-abbrev pub refusals : Registered → Feature → List ℕ → Option AlgorithmSet → Reading → List (Bool × Refusal)
+abbrev pub refusals : Registered → Feature → List ℕ → Option AlgorithmSet → Reading
+    → List (Bool × Refusal)
 refusals users feature ours offered r =
     (is_none r.integrity, Unauthorized)
     ∷ (is_none r.realm || is_none r.nonce, BadRequest)
@@ -120,7 +144,8 @@ refusals users feature ours offered r =
 -- the first that holds, if any
 abbrev pub refusal : Registered → Feature → List ℕ → Option AlgorithmSet → Reading → Option Refusal
 refusal users feature ours offered r =
-    option_map_or (λ (row : Bool × Refusal). Some row.1) (find (λ (row : Bool × Refusal). row.0) (refusals users feature ours offered r)) None
+    option_map_or (λ (row : Bool × Refusal). Some row.1)
+    (find (λ (row : Bool × Refusal). row.0) (refusals users feature ours offered r)) None
 
 -- ---- the verdict
 
@@ -136,6 +161,9 @@ abbrev pub or_refused : Option Refusal → ClientSeen → Result ClientSeen Refu
 or_refused None client = Ok client
 or_refused (Some refusal) client = Err refusal
 
--- who is accepted where this nonce is current and these algorithms were offered, or the first refusal that holds
-abbrev pub verdict : Registered → Feature → List ℕ → Option AlgorithmSet → Reading → Result ClientSeen Refusal
-verdict users feature ours offered r = or_refused (refusal users feature ours offered r) (client_of users feature ours offered r)
+-- who is accepted where this nonce is current and these algorithms were offered, or the first
+-- refusal that holds
+abbrev pub verdict : Registered → Feature → List ℕ → Option AlgorithmSet → Reading
+    → Result ClientSeen Refusal
+verdict users feature ours offered r =
+    or_refused (refusal users feature ours offered r) (client_of users feature ours offered r)

@@ -1,14 +1,17 @@
--- What a server's signing adds to a message, one addition after another (RFC 8489, section 9.2.4): the order in which it is written,
--- and in which it may be refused, also where the client's user is gone and nothing but the digest fails. `added_by_server` in
--- Signed.antt says it by attribute, which is what a reader finds. `laws::sides_add_by_attribute` says that both add the same.
-use Rattle.std.specs.Prelude.{ℕ, ◌+◌, List, [], ◌∷◌, ◌++◌, Bool, if◌then◌else◌, Option, Some, None, Result, Ok, Err}
+-- What a server's signing adds to a message, one addition after another (RFC 8489, section 9.2.4):
+-- the order in which it is written, and in which it may be refused, also where the client's user is
+-- gone and nothing but the digest fails. `added_by_server` in Signed.antt says it by attribute,
+-- which is what a reader finds. `laws::sides_add_by_attribute` says that both add the same.
+use Rattle.std.specs.Prelude.{ℕ, ◌+◌, List, [], ◌∷◌, ◌++◌, Bool, if◌then◌else◌}
+use Rattle.std.specs.Prelude.{Option, Some, None, Result, Ok, Err}
 use Rattle.std.specs.declared.net.socket_addr.SocketAddr.{SocketAddr}
 use Rattle.stun_base.specs.Algorithm.{digest_length}
 use Rattle.stun_base.specs.declared.keys.algorithm.IntegrityAlgorithm.{IntegrityAlgorithm}
 use Rattle.stun_base.specs.declared.wire.error.StunWriteError.{StunWriteError}
 use Rattle.stun_base.specs.declared.wire.error.StunWriteError.TheVariants.{IntegrityFailed}
 use Rattle.stun_types.specs.Attribute.{attribute_length}
-use Rattle.stun_auth.specs.Additions.{Addition, Page, added_all, after, attribute, growth, integrity}
+use Rattle.stun_auth.specs.Additions.{Addition, Page, added_all, after}
+use Rattle.stun_auth.specs.Additions.{attribute, growth, integrity}
 use Rattle.stun_auth.specs.AddedAttribute as added
 use Rattle.stun_auth.specs.Algorithms.{is_sha256, listed}
 use Rattle.stun_auth.specs.Places.{with_change, with_offer}
@@ -19,11 +22,14 @@ use Rattle.stun_auth.specs.Validation.{ServerSeen}
 
 -- nonce and realm, which a response carries
 abbrev pub challenge : Bool → Registered → List ℕ → List Addition
-challenge response users nonce = if response then attribute (added.nonce nonce) ∷ attribute (added.realm users.realm) ∷ [] else []
+challenge response users nonce =
+    if response then attribute (added.nonce nonce) ∷ attribute (added.realm users.realm) ∷ []
+    else []
 
 -- the algorithms that a response offers where no client is known, the strongest first
 abbrev pub offer : Bool → Registered → List Addition
-offer response users = if response then attribute (added.password_algorithms (listed users.algorithms)) ∷ [] else []
+offer response users =
+    if response then attribute (added.password_algorithms (listed users.algorithms)) ∷ [] else []
 
 -- the algorithm of a client, which is named where it is not HMAC-SHA1
 abbrev pub named_algorithm : IntegrityAlgorithm → List Addition
@@ -36,7 +42,8 @@ algorithms_for response users (Some c) = named_algorithm c.algorithm
 
 -- the attributes before the digest, to an address with this nonce and this client
 abbrev pub attributes_for : Bool → Registered → List ℕ → Option ClientSeen → List Addition
-attributes_for response users nonce client = challenge response users nonce ++ algorithms_for response users client
+attributes_for response users nonce client =
+    challenge response users nonce ++ algorithms_for response users client
 
 -- the digest under the key of a user, or the refusal where user or key is gone
 abbrev pub protected : IntegrityAlgorithm → Option (List ℕ) → Page → Result Page StunWriteError
@@ -48,12 +55,13 @@ abbrev pub protected_for : Registered → Option ClientSeen → Page → Result 
 protected_for users None page = Ok page
 protected_for users (Some c) page = protected c.algorithm (key_at users c.name c.algorithm) page
 
--- what signing a message to an address leaves, or the first refusal in the order of the attributes: without a nonce the
--- message stays as it is
+-- what signing a message to an address leaves, or the first refusal in the order of the attributes:
+-- without a nonce the message stays as it is
 abbrev pub signed_at : Bool → Registered → Option PlaceSeen → Page → Result Page StunWriteError
 signed_at response users None page = Ok page
 signed_at response users (Some p) page =
-    after (added_all (attributes_for response users p.nonce p.client) page) (protected_for users p.client)
+    after (added_all (attributes_for response users p.nonce p.client) page)
+    (protected_for users p.client)
 
 -- the same by what one address can tell of the server
 abbrev pub server_signed : Sight → Bool → Page → Result Page StunWriteError
@@ -71,7 +79,8 @@ digest_for users (Some c) = digest_under c.algorithm (key_at users c.name c.algo
 -- all that is added to a message to an address, as far as user and key are there
 abbrev pub additions_at : Bool → Registered → Option PlaceSeen → List Addition
 additions_at response users None = []
-additions_at response users (Some p) = attributes_for response users p.nonce p.client ++ digest_for users p.client
+additions_at response users (Some p) =
+    attributes_for response users p.nonce p.client ++ digest_for users p.client
 
 -- the same by what one address can tell of the server
 abbrev pub server_additions : Sight → Bool → List Addition
@@ -85,7 +94,8 @@ protection_growth (Some c) = attribute_length (digest_length c.algorithm)
 -- how many bytes signing a message to an address adds
 abbrev pub growth_at : Bool → Registered → Option PlaceSeen → ℕ
 growth_at response users None = 0
-growth_at response users (Some p) = growth (attributes_for response users p.nonce p.client) + protection_growth p.client
+growth_at response users (Some p) =
+    growth (attributes_for response users p.nonce p.client) + protection_growth p.client
 
 -- the same by what one address can tell of the server
 abbrev pub server_growth : Sight → Bool → ℕ
@@ -94,4 +104,5 @@ server_growth s response = growth_at response s.registered s.place
 -- the server that signing leaves: what a response offered is kept
 abbrev pub after_signing : ServerSeen → SocketAddr → Bool → ServerSeen
 after_signing s to response =
-    if response then record s { places = with_change s.places to (with_offer s.registered.algorithms) } else s
+    if response
+    then record s { places = with_change s.places to (with_offer s.registered.algorithms) } else s

@@ -9,7 +9,8 @@ use Rattle.stun_types.specs.Integrity.{verified_algorithm, integrity_refusal}
 use Rattle.stun_types.specs.Limits.{max_length}
 use Rattle.stun_types.specs.Writing.{has_integrity, length_with, signing_refusal, with_integrity}
 
--- the bytes of a password, which are its key (section 9.1.1), and the digest that messages are signed with
+-- the bytes of a password, which are its key (section 9.1.1), and the digest that messages are
+-- signed with
 pub record Secret : Type 0 where
   pub password : List ℕ
   pub algorithm : IntegrityAlgorithm
@@ -19,7 +20,8 @@ abbrev pub short_term_growth : Option Secret → ℕ
 short_term_growth None = 0
 short_term_growth (Some secret) = attribute_length (digest_length secret.algorithm)
 
--- a message as it is signed: with the integrity attribute alone, and without credentials as it was (section 9.1.2)
+-- a message as it is signed: with the integrity attribute alone, and without credentials as it was
+-- (section 9.1.2)
 abbrev pub short_term_signed : Option Secret → List ℕ → List ℕ
 short_term_signed None message = message
 short_term_signed (Some secret) message = with_integrity message secret.algorithm secret.password
@@ -30,7 +32,8 @@ short_term_refusal None message room = None
 short_term_refusal (Some secret) message room = signing_refusal message room secret.algorithm
 
 -- the integrity attribute of an algorithm can be after a message in a writer with so much room
-pub record HasRoomForDigest (algorithm : IntegrityAlgorithm) (message : List ℕ) (room : ℕ) : Type 0 where
+pub record HasRoomForDigest (algorithm : IntegrityAlgorithm) (message : List ℕ) (room : ℕ) : Type
+    0 where
   pub unsigned : has_integrity message ≡ false
   pub short : length_with message (digest_length algorithm) ≤ max_length
   pub fits : attribute_length (digest_length algorithm) ≤ room
@@ -41,11 +44,15 @@ ShortTermMaySign None message room = ⊤
 ShortTermMaySign (Some secret) message room = HasRoomForDigest secret.algorithm message room
 
 -- the algorithm whose digest verifies, or why none does
-abbrev pub verdict_of : Option IntegrityAlgorithm → ValidateError → Result (Option IntegrityAlgorithm) ValidateError
+abbrev pub verdict_of : Option IntegrityAlgorithm → ValidateError
+    → Result (Option IntegrityAlgorithm) ValidateError
 verdict_of None refusal = Err refusal
 verdict_of (Some algorithm) refusal = Ok (Some algorithm)
 
--- what a message is answered: its digest is checked under the password (section 9.1.3), and without credentials nothing is
-abbrev pub short_term_answer : Option Secret → List ℕ → Result (Option IntegrityAlgorithm) ValidateError
+-- what a message is answered: its digest is checked under the password (section 9.1.3), and without
+-- credentials nothing is
+abbrev pub short_term_answer : Option Secret → List ℕ
+    → Result (Option IntegrityAlgorithm) ValidateError
 short_term_answer None message = Ok None
-short_term_answer (Some secret) message = verdict_of (verified_algorithm message secret.password) (integrity_refusal message)
+short_term_answer (Some secret) message =
+    verdict_of (verified_algorithm message secret.password) (integrity_refusal message)

@@ -1,10 +1,13 @@
--- What signing adds to a message, by attribute, and what is read of a message that was signed (RFC 8489, sections 9.2.3 to 9.2.5).
--- ClientSigning.antt and ServerSigning.antt say what is added as a list, in the order in which it is written or refused; here it is
--- a record, so that each field is what a reader finds of its type. `laws::sides_add_by_attribute` says that both add the same.
-use Rattle.std.specs.Prelude.{◌≡◌, ℕ, ◌+◌, ◌-◌, ◌≤◌, Bool, true, false, ◌||◌, if◌then◌else◌, List, [], ◌∷◌, length, Option, Some, None, IsUtf8}
+-- What signing adds to a message, by attribute, and what is read of a message that was signed (RFC
+-- 8489, sections 9.2.3 to 9.2.5). ClientSigning.antt and ServerSigning.antt say what is added as a
+-- list, in the order in which it is written or refused; here it is a record, so that each field is
+-- what a reader finds of its type. `laws::sides_add_by_attribute` says that both add the same.
+use Rattle.std.specs.Prelude.{◌≡◌, ℕ, ◌+◌, ◌-◌, ◌≤◌, Bool, true, false, ◌||◌, if◌then◌else◌}
+use Rattle.std.specs.Prelude.{List, [], ◌∷◌, length, Option, Some, None, IsUtf8}
 use Rattle.std.specs.List.{AllByRecursion}
 use Rattle.std.specs.Option.{IfSome, IsSomeAnd, is_some, option_map}
-use Rattle.stun_base.specs.Attributes.{ERROR_CODE, NONCE, PASSWORD_ALGORITHM, PASSWORD_ALGORITHMS, REALM, USERHASH, USERNAME}
+use Rattle.stun_base.specs.Attributes.{ERROR_CODE, NONCE, PASSWORD_ALGORITHM}
+use Rattle.stun_base.specs.Attributes.{PASSWORD_ALGORITHMS, REALM, USERHASH, USERNAME}
 use Rattle.stun_base.specs.Header.{HEADER_LENGTH}
 use Rattle.stun_base.specs.declared.keys.algorithm.IntegrityAlgorithm.{IntegrityAlgorithm}
 use Rattle.stun_base.specs.declared.wire.message_type.MessageClass.{MessageClass}
@@ -37,7 +40,16 @@ pub record Added : Type 0 where
   pub integrity : Option Protection
 
 abbrev pub nothing : Added
-nothing = record { nonce = None; realm = None; username = None; userhash = None; algorithms = None; algorithm = None; integrity = None }
+nothing =
+    record {
+      nonce = None;
+      realm = None;
+      username = None;
+      userhash = None;
+      algorithms = None;
+      algorithm = None;
+      integrity = None;
+    }
 
 -- an addition, if there is one, in front of others
 abbrev pub if_there : {A : Type 0} → (A → Addition) → Option A → List Addition → List Addition
@@ -83,7 +95,8 @@ pub record IsUnsigned (message : List ℕ) : Type 0 where
   pub is_open : IsOpen message
   pub none : AllByRecursion (λ kind. has_kind kind (walk message) ≡ false) added_kinds
 
--- a message that is built with no other attribute than an error code: its class and its error code, as they are read
+-- a message that is built with no other attribute than an error code: its class and its error code,
+-- as they are read
 pub record IsBuilt (message : List ℕ) (class : MessageClass) (error : Option ℕ) : Type 0 where
   pub unsigned : IsUnsigned message
   pub class_is : class_in message ≡ class
@@ -106,17 +119,19 @@ kinds_in [] = []
 kinds_in (attribute a ∷ others) = a.kind ∷ kinds_in others
 kinds_in (integrity algorithm key ∷ others) = kinds_in others
 
--- nothing but a failed allocation refuses additions to a message in a writer with so much room: it has no integrity attribute
--- and no FINGERPRINT, and none of the attributes that are added; texts are within their limits; and length field and writer have
--- room for all of them
+-- nothing but a failed allocation refuses additions to a message in a writer with so much room: it
+-- has no integrity attribute and no FINGERPRINT, and none of the attributes that are added; texts
+-- are within their limits; and length field and writer have room for all of them
 pub record IsSignable (a : Added) (message : List ℕ) (room : ℕ) : Type 0 where
   pub is_open : IsOpen message
-  pub none_there : AllByRecursion (λ kind. has_kind kind (walk message) ≡ false) (kinds_in (additions_of a))
+  pub none_there : AllByRecursion (λ kind. has_kind kind (walk message) ≡ false)
+      (kinds_in (additions_of a))
   pub texts : IsWithinLimits a
   pub has_room : HasRoomFor a message room
 
 -- what is read of a message is its class, its error code, and what was added
-pub record ReadsAs (class : MessageClass) (error : Option ℕ) (a : Added) (r : Reading) : Type 0 where
+pub record ReadsAs (class : MessageClass) (error : Option ℕ) (a : Added) (r : Reading) : Type
+    0 where
   pub class_is : r.class ≡ class
   pub error_is : r.error ≡ error
   pub realm_is : r.realm ≡ a.realm
@@ -126,7 +141,8 @@ pub record ReadsAs (class : MessageClass) (error : Option ℕ) (a : Added) (r : 
   pub algorithms_are : r.algorithms ≡ a.algorithms
   pub algorithm_is : r.algorithm ≡ a.algorithm
   pub integrity_is : is_some r.integrity ≡ is_some a.integrity
-  pub digest_stands : (p : Protection) → a.integrity ≡ Some p → verified_under r p.key ≡ Some p.algorithm
+  pub digest_stands : (p : Protection) → a.integrity ≡ Some p
+      → verified_under r p.key ≡ Some p.algorithm
 
 abbrev pub only_if : {A : Type 0} → Bool → A → Option A
 only_if holds value = if holds then Some value else None
@@ -168,7 +184,8 @@ added_by_client request state = added_if_kept request (kept_challenge state)
 
 -- ---- the server
 
--- to an address without a client: a response carries the challenge with the algorithms that are offered
+-- to an address without a client: a response carries the challenge with the algorithms that are
+-- offered
 abbrev pub added_without_client : Bool → Registered → List ℕ → Added
 added_without_client response users nonce = record {
   nonce = only_if response nonce;
@@ -195,7 +212,8 @@ added_under_key response users nonce algorithm key = record {
 -- to an address with this nonce and this client; there is nothing to add where user or key is gone
 abbrev pub added_for : Bool → Registered → List ℕ → Option ClientSeen → Option Added
 added_for response users nonce None = Some (added_without_client response users nonce)
-added_for response users nonce (Some c) = option_map (added_under_key response users nonce c.algorithm) (key_at users c.name c.algorithm)
+added_for response users nonce (Some c) =
+    option_map (added_under_key response users nonce c.algorithm) (key_at users c.name c.algorithm)
 
 -- without a nonce nothing is added
 abbrev pub added_at : Bool → Registered → Option PlaceSeen → Option Added
@@ -208,24 +226,30 @@ added_by_server s response = added_at response s.registered s.place
 
 -- ---- unchecked signings
 
--- as `IsSignable`, where a client adds: nonce and realm, which it read from a message, are within their limits at every client
+-- as `IsSignable`, where a client adds: nonce and realm, which it read from a message, are within
+-- their limits at every client
 pub record IsSignableByClient (a : Added) (message : List ℕ) (room : ℕ) : Type 0 where
   pub is_open : IsOpen message
-  pub none_there : AllByRecursion (λ kind. has_kind kind (walk message) ≡ false) (kinds_in (additions_of a))
+  pub none_there : AllByRecursion (λ kind. has_kind kind (walk message) ≡ false)
+      (kinds_in (additions_of a))
   pub username : IfSome a.username (λ text. length text ≤ USERNAME_LIMIT)
   pub has_room : HasRoomFor a message room
 
--- as `IsSignable`, where a server adds: its nonces, which it made, are within their limit at every server, and it names no user
+-- as `IsSignable`, where a server adds: its nonces, which it made, are within their limit at every
+-- server, and it names no user
 pub record IsSignableByServer (a : Added) (message : List ℕ) (room : ℕ) : Type 0 where
   pub is_open : IsOpen message
-  pub none_there : AllByRecursion (λ kind. has_kind kind (walk message) ≡ false) (kinds_in (additions_of a))
+  pub none_there : AllByRecursion (λ kind. has_kind kind (walk message) ≡ false)
+      (kinds_in (additions_of a))
   pub realm : IfSome a.realm (λ text. length text ≤ TEXT_LIMIT)
   pub has_room : HasRoomFor a message room
 
 -- the caller of an unchecked signing at a client knows this
 abbrev pub ClientMaySign : Bool → ClientState → List ℕ → ℕ → Type 0
-ClientMaySign request state message room = IsSignableByClient (added_by_client request state) message room
+ClientMaySign request state message room =
+    IsSignableByClient (added_by_client request state) message room
 
 -- and at a server this, where the client's user and key are still there
 abbrev pub ServerMaySign : Sight → Bool → List ℕ → ℕ → Type 0
-ServerMaySign s response message room = IsSomeAnd (added_by_server s response) (λ a. IsSignableByServer a message room)
+ServerMaySign s response message room =
+    IsSomeAnd (added_by_server s response) (λ a. IsSignableByServer a message room)

@@ -1,5 +1,6 @@
 -- A server, and what validating a message answers and leaves (RFC 8489, section 9.2.4).
-use Rattle.std.specs.Prelude.{◌≡◌, ◌↔◌, ℕ, List, Bool, not, ◌&&◌, ◌||◌, if◌then◌else◌, Option, Some, None, false}
+use Rattle.std.specs.Prelude.{◌≡◌, ◌↔◌, ℕ, List, Bool, not, ◌&&◌, ◌||◌}
+use Rattle.std.specs.Prelude.{if◌then◌else◌, Option, Some, None, false}
 use Rattle.std.specs.Option.{is_some, option_and_then}
 use Rattle.std.specs.declared.result.Result.{Result}
 use Rattle.std.specs.declared.result.Result.TheVariants.{Ok, Err}
@@ -10,9 +11,15 @@ use Rattle.stun_base.specs.declared.keys.algorithm.IntegrityAlgorithm.{Integrity
 use Rattle.stun_auth.specs.declared.feature.Feature.{Feature}
 use Rattle.stun_auth.specs.declared.feature.Feature.TheVariants.{Auto}
 use Rattle.stun_auth.specs.declared.server.reason.Refusal.{Refusal}
-use Rattle.stun_auth.specs.declared.server.reason.LongTermServerAuthErrorReason.{LongTermServerAuthErrorReason}
-use Rattle.stun_auth.specs.declared.server.reason.LongTermServerAuthErrorReason.TheVariants.{IntegrityFailed}
-use Rattle.stun_auth.specs.declared.server.reason.LongTermServerValidation.{LongTermServerValidation}
+use Rattle.stun_auth.specs.declared.server.reason.LongTermServerAuthErrorReason.{
+  LongTermServerAuthErrorReason,
+}
+use Rattle.stun_auth.specs.declared.server.reason.LongTermServerAuthErrorReason.TheVariants.{
+  IntegrityFailed,
+}
+use Rattle.stun_auth.specs.declared.server.reason.LongTermServerValidation.{
+  LongTermServerValidation,
+}
 use Rattle.stun_auth.specs.declared.server.reason.LongTermServerValidation.TheVariants.{Validated}
 use Rattle.stun_base.specs.MessageType.{is_response}
 use Rattle.stun_auth.specs.Reading.{Reading, verified_under}
@@ -21,32 +28,49 @@ use Rattle.stun_auth.specs.Registered.{Registered, key_at, new_registered}
 use Rattle.stun_auth.specs.Seen.{ClientSeen, PlaceSeen}
 use Rattle.stun_auth.specs.Server.{Sight, IsAccepted, stands_at, standing, verdict}
 
--- the users with the realm and the supported algorithms, the settings, and the place of each address that has one
+-- the users with the realm and the supported algorithms, the settings, and the place of each
+-- address that has one
 pub record ServerSeen : Type 0 where
   pub registered : Registered
   pub feature : Feature
   pub expiry : ℕ
   pub places : map.FinMap address_cmp PlaceSeen
 
--- HMAC-SHA1 alone, hashed names where the client wants them, nonces of an hour, nobody present and no place
+-- HMAC-SHA1 alone, hashed names where the client wants them, nonces of an hour, nobody present and
+-- no place
 abbrev pub new_server : List ℕ → ServerSeen
-new_server realm = record { registered = new_registered realm; feature = Auto; expiry = 3600000000000; places = map.empty }
+new_server realm =
+    record {
+      registered = new_registered realm;
+      feature = Auto;
+      expiry = 3600000000000;
+      places = map.empty;
+    }
 
 -- what one address can tell of the server
 abbrev pub sight : ServerSeen → SocketAddr → Sight
-sight s a = record { registered = s.registered; feature = s.feature; expiry = s.expiry; place = map.get s.places a }
+sight s a =
+    record {
+      registered = s.registered;
+      feature = s.feature;
+      expiry = s.expiry;
+      place = map.get s.places a;
+    }
 
 -- what a message is answered
 abbrev pub Answer : Type 0
 Answer = Result LongTermServerValidation LongTermServerAuthErrorReason
 
--- the algorithm whose digest verifies under the key that the present user of a client has for the client's algorithm
+-- the algorithm whose digest verifies under the key that the present user of a client has for the
+-- client's algorithm
 abbrev pub verified_for_client : Registered → Reading → ClientSeen → Option IntegrityAlgorithm
 verified_for_client users r c = option_and_then (verified_under r) (key_at users c.name c.algorithm)
 
 -- the same of the client of a place, if there is one
 abbrev pub client_verified : Registered → Reading → Option PlaceSeen → Option IntegrityAlgorithm
-client_verified users r place = option_and_then (verified_for_client users r) (option_and_then (λ (p : PlaceSeen). p.client) place)
+client_verified users r place =
+    option_and_then (verified_for_client users r)
+    (option_and_then (λ (p : PlaceSeen). p.client) place)
 
 -- the algorithm, or that no digest verifies
 abbrev pub validated_or_failed : Option IntegrityAlgorithm → Answer
@@ -57,7 +81,8 @@ validated_or_failed (Some a) = Ok (Validated a)
 abbrev pub is_complete : Reading → Bool
 is_complete r = is_some r.realm && is_some r.nonce && (is_some r.userhash || is_some r.username)
 
--- whether integrity is there and one of these is not, which is refused whatever nonce is current: none is made for it
+-- whether integrity is there and one of these is not, which is refused whatever nonce is current:
+-- none is made for it
 abbrev pub is_malformed : Reading → Bool
 is_malformed r = is_some r.integrity && not (is_complete r)
 
@@ -88,7 +113,8 @@ answer s now words r =
 -- the place that is left
 abbrev pub place_after : Sight → ℕ → List ℕ → Reading → Option PlaceSeen
 place_after s now words r =
-    if needs_nonce r then Some (with_accepted (standing s now words) (verdict_at s (standing s now words) r))
+    if needs_nonce r
+    then Some (with_accepted (standing s now words) (verdict_at s (standing s now words) r))
     else s.place
 
 -- whether the words are drawn: where a nonce is needed and none is current
@@ -101,20 +127,26 @@ pub record ChangesNothing (s : Sight) (now : ℕ) (words : List ℕ) (r : Readin
   pub same_place : place_after s now words r ≡ s.place
 
 -- the places with one at an address
-abbrev pub put_place : map.FinMap address_cmp PlaceSeen → SocketAddr → Option PlaceSeen → map.FinMap address_cmp PlaceSeen
+abbrev pub put_place : map.FinMap address_cmp PlaceSeen → SocketAddr → Option PlaceSeen
+    → map.FinMap address_cmp PlaceSeen
 put_place places a None = places
 put_place places a (Some place) = map.insert places a place
 
 -- the server that is left
 abbrev pub after_message : ServerSeen → SocketAddr → ℕ → List ℕ → Reading → ServerSeen
-after_message s from now words r = record s { places = put_place s.places from (place_after (sight s from) now words r) }
+after_message s from now words r =
+    record s { places = put_place s.places from (place_after (sight s from) now words r) }
 
--- a message is accepted with an algorithm: someone is accepted with it at the place where a nonce is current
+-- a message is accepted with an algorithm: someone is accepted with it at the place where a nonce
+-- is current
 abbrev pub AcceptedWith : Sight → ℕ → List ℕ → Reading → IntegrityAlgorithm → Type 0
 AcceptedWith s now words r a =
-    (name : List ℕ) × IsAccepted s.registered s.feature (standing s now words).nonce (standing s now words).offered r (record { name = name; algorithm = a })
+    (name : List ℕ)
+    × IsAccepted s.registered s.feature (standing s now words).nonce (standing s now words).offered
+    r (record { name = name; algorithm = a })
 
 -- a request or an indication is validated exactly where it is accepted
 abbrev pub ValidatesAccepted : Sight → ℕ → List ℕ → Reading → Answer → Type 0
 ValidatesAccepted s now words r given =
-    (is_response r.class ≡ false) → (a : IntegrityAlgorithm) → (given ≡ Ok (Validated a)) ↔ AcceptedWith s now words r a
+    (is_response r.class ≡ false) → (a : IntegrityAlgorithm)
+    → (given ≡ Ok (Validated a)) ↔ AcceptedWith s now words r a

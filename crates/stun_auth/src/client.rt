@@ -3,7 +3,9 @@ ghost use Rattle.std.specs.Prelude.{◌≡◌, ◌∷◌, [], Some, OnErr, codes
 ghost use Rattle.std.specs.Fmt.{WritesOnOk, WritesStyledOnOk};
 ghost use Rattle.stun_auth.specs.Reading.{reading_of};
 ghost use Rattle.stun_auth.specs.Client.{new_client};
-ghost use Rattle.stun_auth.specs.ClientStep.{IsResend, OrMemory, after_challenge, after_digest, after_stale, client_step, is_authenticated, is_code, is_repeated, reason_of, verified_under_kept, taken_up};
+ghost use Rattle.stun_auth.specs.ClientStep.{IsResend, OrMemory, after_challenge, after_digest};
+ghost use Rattle.stun_auth.specs.ClientStep.{after_stale, client_step, is_authenticated, is_code};
+ghost use Rattle.stun_auth.specs.ClientStep.{is_repeated, reason_of, verified_under_kept, taken_up};
 ghost use Rattle.stun_auth.specs.code.ReadingSeen.{reading_seen};
 ghost use Rattle.stun_auth.specs.code.ClientKept.{offer_seen, state_seen};
 ghost use Rattle.stun_auth.specs.Supported.{added};
@@ -80,9 +82,9 @@ fn is_code(code: u16, error: Option<u16>) -> bool
 
 /// Answers a server's challenges, signs requests and checks responses.
 ///
-/// A client begins without a key. The first request goes out unsigned; a 401 brings realm and nonce, from which the key
-/// is made; the request is signed and sent again; a success that is signed under the key confirms it. From then on 401s
-/// are not taken up any more.
+/// A client begins without a key. The first request goes out unsigned; a 401 brings realm and
+/// nonce, from which the key is made; the request is signed and sent again; a success that is
+/// signed under the key confirms it. From then on 401s are not taken up any more.
 ///
 /// Contracts see its settings and its state. `Debug` shows nothing of what it holds.
 #[derive(Drop)]
@@ -127,7 +129,8 @@ impl<A: Allocator> fmt::Debug for LongTermClientAuth<A> {
 }
 
 impl<A: Allocator> LongTermClientAuth<A> {
-    /// A client that supports HMAC-SHA1 alone, sends its name as the server allows and has no credentials.
+    /// A client that supports HMAC-SHA1 alone, sends its name as the server allows and has no
+    /// credentials.
     ///
     /// It does not allocate. What is kept later is in memory of this allocator.
     pub fn new(alloc: A) -> Self
@@ -142,8 +145,8 @@ impl<A: Allocator> LongTermClientAuth<A> {
         }
     }
 
-    /// Sets the user. A challenge that was taken up before keeps its key. A name of more than 513 bytes is taken, but a
-    /// request that is to have it as USERNAME cannot be signed.
+    /// Sets the user. A challenge that was taken up before keeps its key. A name of more than 513
+    /// bytes is taken, but a request that is to have it as USERNAME cannot be signed.
     pub fn set_credentials(&mut self, credentials: LongTermCredentials<A>)
         ensures { self.new ≡ record self.old { settings = record self.old.settings { credentials = Some credentials } } }
     {
@@ -179,9 +182,10 @@ impl<A: Allocator> LongTermClientAuth<A> {
     /// HMAC-SHA1 where a forged challenge says so: `signing_algorithm` tells, before a message is
     /// signed, and a loop can give up.
     ///
-    /// Where this is not HMAC-SHA1, a nonce without security bits is refused by `UnsupportedFeature`.
-    /// With a nonce that has them, so is a list that lacks the algorithm; where there is no list, and
-    /// the bits ask for no password algorithms, a client takes HMAC-SHA1 all the same.
+    /// Where this is not HMAC-SHA1, a nonce without security bits is refused by
+    /// `UnsupportedFeature`. With a nonce that has them, so is a list that lacks the algorithm;
+    /// where there is no list, and the bits ask for no password algorithms, a client takes
+    /// HMAC-SHA1 all the same.
     pub fn set_supported_integrity(&mut self, algorithm: IntegrityAlgorithm)
         ensures { self.new ≡ record self.old { settings = record self.old.settings { supported = algorithm ∷ [] } } }
     {
@@ -294,16 +298,18 @@ impl<A: Allocator> LongTermClientAuth<A> {
 impl<A: Allocator + Copy> LongTermClientAuth<A> {
     /// Answers a message from the server (RFC 8489, section 9.2.5).
     ///
-    /// A 401 is a challenge until a success was validated. It is refused by the first that holds: `Unauthorized` without
-    /// credentials, without REALM or NONCE, or where it is the challenge that was answered before; by its algorithms,
-    /// `UnsupportedFeature` where none is supported, or `Unauthorized` where the nonce asks for a list that is missing;
-    /// `UnsupportedFeature` where names are to be hashed and the nonce does not offer that. Else it is taken up. A 438 with
-    /// REALM and NONCE, signed or not, brings the next ones; the key stays. Before a first challenge it keeps nothing, and is
-    /// answered by `ResendRequest` all the same. Every other message is as good as its digest under the kept key. A refusal
-    /// changes nothing. `OutOfMemory` comes only in place of `ResendRequest`.
+    /// A 401 is a challenge until a success was validated. It is refused by the first that holds:
+    /// `Unauthorized` without credentials, without REALM or NONCE, or where it is the challenge
+    /// that was answered before; by its algorithms, `UnsupportedFeature` where none is supported,
+    /// or `Unauthorized` where the nonce asks for a list that is missing; `UnsupportedFeature`
+    /// where names are to be hashed and the nonce does not offer that. Else it is taken up. A 438
+    /// with REALM and NONCE, signed or not, brings the next ones; the key stays. Before a first
+    /// challenge it keeps nothing, and is answered by `ResendRequest` all the same. Every other
+    /// message is as good as its digest under the kept key. A refusal changes nothing.
+    /// `OutOfMemory` comes only in place of `ResendRequest`.
     ///
-    /// It sees neither id nor address: hand in only what answers an outstanding request of yours, from the address that was
-    /// asked, and count how often you ask again.
+    /// It sees neither id nor address: hand in only what answers an outstanding request of yours,
+    /// from the address that was asked, and count how often you ask again.
     pub fn validate_incoming_message(
         &mut self,
         message: &Message,

@@ -1,5 +1,7 @@
 //! Laws over the definitions that the contracts of this crate cite.
-ghost use Rattle.std.specs.Prelude.{◌≡◌, ◌≢◌, ◌<◌, ◌≤◌, ◌^◌, ◌||◌, ℕ, ◌+◌, Bool, true, false, List, [], ◌∷◌, ◌++◌, length, Ok, Err, Option, Some, None, if◌then◌else◌, IsOk, IsUtf8, ◌⊎◌};
+ghost use Rattle.std.specs.Prelude.{◌≡◌, ◌≢◌, ◌<◌, ◌≤◌, ◌^◌, ◌||◌, ℕ, ◌+◌, Bool, true};
+ghost use Rattle.std.specs.Prelude.{false, List, [], ◌∷◌, ◌++◌, length, Ok, Err, Option};
+ghost use Rattle.std.specs.Prelude.{Some, None, if◌then◌else◌, IsOk, IsUtf8, ◌⊎◌};
 ghost use Rattle.std.specs.List.{AllByRecursion};
 ghost use Rattle.std.specs.Option.{IsSome, IsSomeAnd, is_some};
 ghost use Rattle.std.specs.FinMap as map;
@@ -28,19 +30,27 @@ ghost use Rattle.stun_auth.specs.Forgetting.{after_forgetting, place_kept};
 ghost use Rattle.stun_auth.specs.ForgettingSteps.{after_steps};
 ghost use Rattle.stun_auth.specs.Handed.{AreKeysOf, just, meant, with_just, with_users};
 ghost use Rattle.stun_auth.specs.Joined.{HasAdded, IsReadBack, IsTyped, page_after};
-ghost use Rattle.stun_auth.specs.Nonces.{asks_for_algorithms, asks_for_userhash, nonce_of, security_bits, spelled_bits};
+ghost use Rattle.stun_auth.specs.Nonces.{asks_for_algorithms, asks_for_userhash};
+ghost use Rattle.stun_auth.specs.Nonces.{nonce_of, security_bits, spelled_bits};
 ghost use Rattle.stun_auth.specs.Reading.{Reading, error_code, reading_of};
 ghost use Rattle.stun_auth.specs.Reasons.{ServerRefusal};
-ghost use Rattle.stun_auth.specs.Registered.{Registered, key_at, user_by_keys, user_by_password, with_user, without_user};
+ghost use Rattle.stun_auth.specs.Registered.{Registered, key_at, user_by_keys};
+ghost use Rattle.stun_auth.specs.Registered.{user_by_password, with_user, without_user};
 ghost use Rattle.stun_auth.specs.Seen.{ClientSeen, PlaceSeen};
 ghost use Rattle.stun_auth.specs.Server.{Sight, stands_at};
 ghost use Rattle.stun_auth.specs.ServerSigning.{after_signing, server_additions, server_signed};
 ghost use Rattle.stun_auth.specs.ShortTerm.{Secret, short_term_answer};
-ghost use Rattle.stun_auth.specs.Signed.{Added, ClientMaySign, HasRoomFor, IsBuilt, IsSignable, IsSmall, IsText, IsUnsigned, IsWithinLimits, ReadsAs, ServerMaySign, added_by_client, added_by_server, additions_of, error_attribute};
-ghost use Rattle.stun_auth.specs.Validation.{ChangesNothing, ServerSeen, ValidatesAccepted, after_message, answer, draws, needs_nonce, sight, verdict_at};
+ghost use Rattle.stun_auth.specs.Signed.{Added, ClientMaySign, HasRoomFor, IsBuilt, IsSignable};
+ghost use Rattle.stun_auth.specs.Signed.{IsSmall, IsText, IsUnsigned, IsWithinLimits, ReadsAs};
+ghost use Rattle.stun_auth.specs.Signed.{ServerMaySign, added_by_client, added_by_server};
+ghost use Rattle.stun_auth.specs.Signed.{additions_of, error_attribute};
+ghost use Rattle.stun_auth.specs.Validation.{ChangesNothing, ServerSeen};
+ghost use Rattle.stun_auth.specs.Validation.{ValidatesAccepted, after_message, answer};
+ghost use Rattle.stun_auth.specs.Validation.{draws, needs_nonce, sight, verdict_at};
 
-/// What was added is what is read: after successful additions to an open message, its own attributes count as before and
-/// then the added ones, and the digest that was added last verifies under its key.
+/// What was added is what is read: after successful additions to an open message, its own
+/// attributes count as before and then the added ones, and the digest that was added last verifies
+/// under its key.
 pub fn additions_are_read_back()
     ensures added { (list : List Addition) (message : List ℕ) (room : ℕ) (page : Page)
         → IsOpen message → AllByRecursion IsTyped list
@@ -55,8 +65,9 @@ pub fn additions_are_read_back()
     stun_types::laws::signed_message_stands();
 }
 
-/// What is read of a signed message is its class, its error code, and each attribute that signing added; an attribute that
-/// it did not add is not there, and the digest verifies under the key that it was made with.
+/// What is read of a signed message is its class, its error code, and each attribute that signing
+/// added; an attribute that it did not add is not there, and the digest verifies under the key that
+/// it was made with.
 pub fn signed_messages_are_read()
     ensures { (a : Added) (message : List ℕ) (room : ℕ) (page : Page) → IsUnsigned message
         → IsText a
@@ -67,8 +78,9 @@ pub fn signed_messages_are_read()
     stun_types::laws::signed_message_stands();
 }
 
-/// What follows the deciding integrity attribute is not read: two messages that agree up to it have one reading, so that each
-/// server and each client answers them alike and is the same after either, and each password verifies them alike.
+/// What follows the deciding integrity attribute is not read: two messages that agree up to it have
+/// one reading, so that each server and each client answers them alike and is the same after
+/// either, and each password verifies them alike.
 pub fn what_follows_integrity_is_not_read()
     ensures reading { (bytes others : List ℕ) → AgreeUpToIntegrity bytes others
         → reading_of bytes ≡ reading_of others }
@@ -89,15 +101,16 @@ pub fn what_follows_integrity_is_not_read()
     stun_types::laws::what_follows_integrity_is_hidden();
 }
 
-/// The answer to a request or an indication is `Validated` with an algorithm exactly where the message is accepted with it
-/// (RFC 8489, section 9.2.4).
+/// The answer to a request or an indication is `Validated` with an algorithm exactly where the
+/// message is accepted with it (RFC 8489, section 9.2.4).
 pub fn accepted_messages_are_validated()
     ensures { (s : Sight) (now : ℕ) (words : List ℕ) (r : Reading)
         → ValidatesAccepted s now words r (answer s now words r) }
 {}
 
-/// A response and a message without all of realm, nonce and name, though it has integrity, change nothing; at a nonce that
-/// is current, neither does a message that is refused, nor one of the client who is kept there already.
+/// A response and a message without all of realm, nonce and name, though it has integrity, change
+/// nothing; at a nonce that is current, neither does a message that is refused, nor one of the
+/// client who is kept there already.
 pub fn messages_that_change_nothing()
     ensures needless { (s : Sight) (now : ℕ) (words : List ℕ) (r : Reading) → needs_nonce r ≡ false
         → ChangesNothing s now words r }
@@ -180,8 +193,8 @@ pub fn users_have_their_keys()
         → name ≢ gone → key_at (without_user users gone) name a ≡ key_at users name a }
 {}
 
-/// Forgetting changes each address's place by itself. After it each address that has a nonce has a client, or a nonce whose
-/// end is that moment or later; and each such address stays as it was.
+/// Forgetting changes each address's place by itself. After it each address that has a nonce has a
+/// client, or a nonce whose end is that moment or later; and each such address stays as it was.
 pub fn expired_nonces_are_forgotten()
     ensures place { (s : ServerSeen) (now : ℕ) (a : SocketAddr) →
         map.get (after_forgetting s now).places a ≡ place_kept now (map.get s.places a) }
@@ -203,8 +216,8 @@ pub fn steps_forget_what_has_expired()
         → after_steps s now None sizes ≡ Some left → left ≡ after_forgetting s now }
 {}
 
-/// A built message without attributes, and one with an error code alone, can be signed, and are read as what they were
-/// built with.
+/// A built message without attributes, and one with an error code alone, can be signed, and are
+/// read as what they were built with.
 pub fn built_messages_can_be_signed()
     ensures bare { (message_type transaction_id : ℕ) → message_type < 2 ^ 14
         → IsBuilt (spelled message_type transaction_id []) (class_of message_type) None }
@@ -218,8 +231,8 @@ pub fn built_messages_can_be_signed()
     stun_types::laws::signed_message_stands();
 }
 
-/// What signing added is within its limits. Signing succeeds where texts are so, and message and writer have room for what it
-/// adds: 2,148 bytes where at most two algorithms are listed.
+/// What signing added is within its limits. Signing succeeds where texts are so, and message and
+/// writer have room for what it adds: 2,148 bytes where at most two algorithms are listed.
 pub fn signing_succeeds_with_room()
     ensures within { (a : Added) (page signed : Page) → added_all (additions_of a) page ≡ Ok signed
         → IsWithinLimits a }
@@ -250,9 +263,10 @@ pub fn sides_add_by_attribute()
         → IsOk (server_signed s response page) → IsSome (added_by_server s response) }
 {}
 
-/// The nonces that a server makes are texts. They ask for password algorithms exactly where HMAC-SHA256 is supported, and for
-/// a hashed user name exactly where that is possible; they have security bits where they ask for either, and those of the
-/// same settings have the same ones (RFC 8489, section 9.2).
+/// The nonces that a server makes are texts. They ask for password algorithms exactly where
+/// HMAC-SHA256 is supported, and for a hashed user name exactly where that is possible; they have
+/// security bits where they ask for either, and those of the same settings have the same ones (RFC
+/// 8489, section 9.2).
 pub fn nonces_ask_for_what_is_supported()
     ensures text { (set : AlgorithmSet) (feature : TheFeature) (words : List ℕ)
         → IsUtf8 (nonce_of set feature words) }
@@ -283,8 +297,9 @@ pub fn sides_sign_what_is_signable()
     sides_add_by_attribute();
 }
 
-/// What a side signs with success could be signed unchecked: a message that can be added to, and that is no longer than a
-/// message may be, meets the condition of the unchecked call in a writer with the same room.
+/// What a side signs with success could be signed unchecked: a message that can be added to, and
+/// that is no longer than a message may be, meets the condition of the unchecked call in a writer
+/// with the same room.
 pub fn what_was_signed_may_be_signed()
     ensures client { (request : Bool) (state : ClientState) (message : List ℕ) (room : ℕ)
         → IsOpen message → length message ≤ LENGTH_LIMIT
@@ -300,15 +315,16 @@ pub fn what_was_signed_may_be_signed()
     sides_add_by_attribute();
 }
 
-/// Signing changes nothing of what a server adds to later messages to the address: what it signed once with success it may sign
-/// again unchecked.
+/// Signing changes nothing of what a server adds to later messages to the address: what it signed
+/// once with success it may sign again unchecked.
 pub fn signing_leaves_what_is_added()
     ensures { (s : ServerSeen) (to : SocketAddr) (response later : Bool)
         → added_by_server (sight (after_signing s to response) to) later
         ≡ added_by_server (sight s to) later }
 {}
 
-/// The security bits of a nonce are those that it begins with, whatever text follows them (RFC 8489, section 9.2).
+/// The security bits of a nonce are those that it begins with, whatever text follows them (RFC
+/// 8489, section 9.2).
 pub fn security_bits_are_read_back()
     ensures { (a b c : ℕ) (text : List ℕ) → a < 2 ^ 8 → b < 2 ^ 8 → c < 2 ^ 8
         → security_bits (spelled_bits (a ∷ b ∷ c ∷ []) ++ text) ≡ Some (a ∷ b ∷ c ∷ []) }
@@ -330,7 +346,8 @@ pub fn sides_sign_with_room()
     sides_add_by_attribute();
 }
 
-/// What is read of a message that a client signed is what it keeps of the server's challenge, where these are texts.
+/// What is read of a message that a client signed is what it keeps of the server's challenge, where
+/// these are texts.
 pub fn client_messages_are_read()
     ensures { (request : Bool) (state : ClientState) (class : MessageClass) (error : Option ℕ)
         (message : List ℕ) (room : ℕ) (page : Page) → IsBuilt message class error
@@ -343,7 +360,8 @@ pub fn client_messages_are_read()
     sides_add_by_attribute();
 }
 
-/// What is read of a message that a server signed is the challenge of the address, and the digest under its client's key.
+/// What is read of a message that a server signed is the challenge of the address, and the digest
+/// under its client's key.
 pub fn server_messages_are_read()
     ensures { (s : Sight) (response : Bool) (a : Added) (class : MessageClass) (error : Option ℕ)
         (message : List ℕ) (room : ℕ) (page : Page) → IsBuilt message class error

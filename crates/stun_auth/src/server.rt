@@ -54,16 +54,17 @@ pub fn minimum_nonce_expiry_duration() -> Duration
     Duration::from_secs(MINIMUM_NONCE_EXPIRY_SECONDS)
 }
 
-/// The server's side of long-term authentication: the users of a realm, and for each address the nonce that was made for it.
+/// The server's side of long-term authentication: the users of a realm, and for each address the
+/// nonce that was made for it.
 ///
 /// Contracts see the realm, the supported algorithms, what each user is known by (a password, or
 /// stored keys), the settings, and the place of each address: its nonce with the nonce's end, the
 /// algorithms that were offered, and the client.
 ///
-/// Each request or indication from a new address makes a place, unless it has integrity and lacks REALM, NONCE or a name
-/// (none of these need be right), so whoever can send from many addresses makes the server grow. A place stays until
-/// `forget_expired` is called after its nonce's end while it has no client, or the server is dropped. `Debug` shows nothing of
-/// what it holds.
+/// Each request or indication from a new address makes a place, unless it has integrity and lacks
+/// REALM, NONCE or a name (none of these need be right), so whoever can send from many addresses
+/// makes the server grow. A place stays until `forget_expired` is called after its nonce's end
+/// while it has no client, or the server is dropped. `Debug` shows nothing of what it holds.
 #[derive(Drop)]
 pub struct LongTermServerAuth<A: Allocator = Global> {
     alloc: A,
@@ -101,8 +102,9 @@ impl<A: Allocator> fmt::Debug for LongTermServerAuth<A> {
 }
 
 impl<A: Allocator + Copy> LongTermServerAuth<A> {
-    /// A server of a realm without users: HMAC-SHA1 alone, hashed names where a client wants them, and nonces that last
-    /// 3600 seconds. It does not allocate. A realm of more than 763 bytes is taken, but then no response can be signed.
+    /// A server of a realm without users: HMAC-SHA1 alone, hashed names where a client wants them,
+    /// and nonces that last 3600 seconds. It does not allocate. A realm of more than 763 bytes is
+    /// taken, but then no response can be signed.
     pub fn new(alloc: A, realm: String<A>) -> Self
         ensures { result ≡ new_server (string_bytes realm) }
     {
@@ -156,9 +158,10 @@ impl<A: Allocator + Copy> LongTermServerAuth<A> {
         }
     }
 
-    /// The user who was validated last at an address, with the algorithm that both sides agreed on: whom the address's last
-    /// `Validated` request or indication named. Neither the first USERNAME of a message nor the algorithm of its digest tells
-    /// that. `None` after `remove_client`. A user who was removed since is still told.
+    /// The user who was validated last at an address, with the algorithm that both sides agreed on:
+    /// whom the address's last `Validated` request or indication named. Neither the first USERNAME
+    /// of a message nor the algorithm of its digest tells that. `None` after `remove_client`. A
+    /// user who was removed since is still told.
     pub fn client(&self, address: SocketAddr) -> Option<(&str, IntegrityAlgorithm)>
         ensures { option_map (λ pair. record { name = pair.0.now; algorithm = pair.1 }) result
             ≡ option_and_then (λ (p : PlaceSeen). p.client) (map.get self.now.places address) }
@@ -172,8 +175,8 @@ impl<A: Allocator + Copy> LongTermServerAuth<A> {
         }
     }
 
-    /// Adds a user, or gives a present one another password and the keys of it. A name of more than 513 bytes is taken,
-    /// but only a USERHASH can name it.
+    /// Adds a user, or gives a present one another password and the keys of it. A name of more than
+    /// 513 bytes is taken, but only a USERHASH can name it.
     ///
     /// The one error is that an allocation fails; the server is then as before.
     pub fn add_user(&mut self, credentials: LongTermCredentials<A>) -> Result<(), AllocError>
@@ -202,8 +205,8 @@ impl<A: Allocator + Copy> LongTermServerAuth<A> {
         self.registry.set_supported(AlgorithmSet::only(algorithm));
     }
 
-    /// Says whether users may be named by a hash. It always succeeds; the `Result` leaves room for a server that keeps hashes
-    /// only where they are wanted.
+    /// Says whether users may be named by a hash. It always succeeds; the `Result` leaves room for
+    /// a server that keeps hashes only where they are wanted.
     pub fn set_anonymous_username(&mut self, feature: Feature) -> Result<(), AllocError>
         ensures ok { result ≡ Ok tt }
         ensures state { self.new ≡ record self.old { feature = feature } }
@@ -212,7 +215,8 @@ impl<A: Allocator + Copy> LongTermServerAuth<A> {
         Ok(())
     }
 
-    /// Removes a user and the user's keys: clients of that name are authenticated no more. It does not allocate.
+    /// Removes a user and the user's keys: clients of that name are authenticated no more. It does
+    /// not allocate.
     pub fn remove_user(&mut self, name: &str)
         ensures { self.new ≡ record self.old { registered = without_user self.old.registered name.now } }
     {
@@ -229,21 +233,24 @@ impl<A: Allocator + Copy> LongTermServerAuth<A> {
         self.places.set_client(address, None);
     }
 
-    /// Forgets all that is kept of an address: its nonce, the nonce's end, the algorithms that were offered to it, and its client.
-    /// Other addresses stay as they are. It does not allocate, and finds the address as a message from there does, without a
-    /// walk. The address is then met as a new one.
+    /// Forgets all that is kept of an address: its nonce, the nonce's end, the algorithms that were
+    /// offered to it, and its client. Other addresses stay as they are. It does not allocate, and
+    /// finds the address as a message from there does, without a walk. The address is then met as a
+    /// new one.
     pub fn forget(&mut self, address: SocketAddr)
         ensures { self.new ≡ without_place self.old address }
     {
         self.places.forget(address);
     }
 
-    /// Forgets each address without a client whose nonce's end is before `now`: its nonce, the nonce's end and the algorithms
-    /// that were offered to it are gone, and what was kept for them is freed. Other addresses stay as they are.
+    /// Forgets each address without a client whose nonce's end is before `now`: its nonce, the
+    /// nonce's end and the algorithms that were offered to it are gone, and what was kept for them
+    /// is freed. Other addresses stay as they are.
     ///
-    /// It does not allocate. It walks the places once, so call it now and then, as once in the time that a nonce is current,
-    /// and not at each message. A forgotten address is met as a new one: an unsigned request draws a 401 as its first did,
-    /// a signed one with an earlier nonce is refused as stale, or, where it repeats the algorithms of a forgotten offer, as a bad
+    /// It does not allocate. It walks the places once, so call it now and then, as once in the time
+    /// that a nonce is current, and not at each message. A forgotten address is met as a new one:
+    /// an unsigned request draws a 401 as its first did, a signed one with an earlier nonce is
+    /// refused as stale, or, where it repeats the algorithms of a forgotten offer, as a bad
     /// request.
     pub fn forget_expired(&mut self, now: Instant)
         ensures { self.new ≡ after_forgetting self.old now }
@@ -251,19 +258,19 @@ impl<A: Allocator + Copy> LongTermServerAuth<A> {
         self.places.forget_expired(now);
     }
 
-    /// Forgets what `forget_expired` does, at no more than `most` addresses, so that a server of many
-    /// has no long pause. It looks at those that have a place, in the order of `SocketAddr`, from
-    /// `from` on, or from the first where that is `None`. It answers the first that it did not look at,
-    /// or `None` at the end, so that the answer of each call is the `from` of the next:
+    /// Forgets what `forget_expired` does, at no more than `most` addresses, so that a server of
+    /// many has no long pause. It looks at those that have a place, in the order of `SocketAddr`,
+    /// from `from` on, or from the first where that is `None`. It answers the first that it did not
+    /// look at, or `None` at the end, so that the answer of each call is the `from` of the next:
     ///
     /// ```text
     /// next = auth.forget_expired_within(now, next, 100);
     /// ```
     ///
-    /// Calls up to a `None` forget together what `forget_expired` does, where nothing else is called
-    /// between them (law `steps_forget_what_has_expired`). An address that comes between is looked at
-    /// if it stands after `next`, and else in the next round. It does not allocate, and each address
-    /// costs two or three look-ups.
+    /// Calls up to a `None` forget together what `forget_expired` does, where nothing else is
+    /// called between them (law `steps_forget_what_has_expired`). An address that comes between is
+    /// looked at if it stands after `next`, and else in the next round. It does not allocate, and
+    /// each address costs two or three look-ups.
     pub fn forget_expired_within(
         &mut self,
         now: Instant,
@@ -276,7 +283,8 @@ impl<A: Allocator + Copy> LongTermServerAuth<A> {
         self.places.forget_expired_within(now, from, most)
     }
 
-    /// Sets how long nonces last that are made from here on: at least `minimum_nonce_expiry_duration()`, which is 30 seconds.
+    /// Sets how long nonces last that are made from here on: at least
+    /// `minimum_nonce_expiry_duration()`, which is 30 seconds.
     pub fn set_nonce_expiry_duration(&mut self, expiry: Duration)
         requires { MINIMUM_EXPIRY ≤ as_nanos expiry }
         ensures { self.new ≡ record self.old { expiry = as_nanos expiry } }

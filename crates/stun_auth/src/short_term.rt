@@ -1,9 +1,11 @@
 //! Short-term authentication (RFC 8489, section 9.1).
 
-ghost use Rattle.std.specs.Prelude.{◌≡◌, ◌≤◌, ◌+◌, length, IfOk, IsOk, OnOk, OnErr, IsOkUnless, MatchOption, Some, None, codes};
+ghost use Rattle.std.specs.Prelude.{◌≡◌, ◌≤◌, ◌+◌, length, IfOk, IsOk, OnOk, OnErr};
+ghost use Rattle.std.specs.Prelude.{IsOkUnless, MatchOption, Some, None, codes};
 ghost use Rattle.std.specs.Fmt.{WritesOnOk, WritesStyledOnOk};
 ghost use Rattle.std.specs.Option.{option_copied, option_map};
-ghost use Rattle.stun_auth.specs.ShortTerm.{ShortTermMaySign, short_term_answer, short_term_growth, short_term_refusal, short_term_signed};
+ghost use Rattle.stun_auth.specs.ShortTerm.{ShortTermMaySign, short_term_answer, short_term_growth};
+ghost use Rattle.stun_auth.specs.ShortTerm.{short_term_refusal, short_term_signed};
 
 use std::alloc::{AllocError, Allocator, Global};
 use std::fmt;
@@ -16,7 +18,8 @@ use stun_types::prelude::*;
 
 /// Signs messages with a password that both sides know, and checks theirs.
 ///
-/// Contracts see the bytes of the password and the algorithm, once both are set. `Debug` shows neither.
+/// Contracts see the bytes of the password and the algorithm, once both are set. `Debug` shows
+/// neither.
 #[derive(Drop)]
 pub struct ShortTermAuth<A: Allocator = Global> {
     kept: Option<KeptPassword<A>>,
@@ -59,7 +62,8 @@ impl<A: Allocator> fmt::Debug for ShortTermAuth<A> {
 }
 
 impl<A: Allocator> ShortTermAuth<A> {
-    /// Without credentials. It does not allocate, and does not keep the allocator: the key uses that of the password.
+    /// Without credentials. It does not allocate, and does not keep the allocator: the key uses
+    /// that of the password.
     pub fn new(_alloc: A) -> Self
         ensures { result ≡ None }
     {
@@ -83,7 +87,8 @@ impl<A: Allocator> ShortTermAuth<A> {
         self.kept.as_ref().map(|kept| kept.key.key())
     }
 
-    /// How many bytes signing adds to a message of any class: 0 without credentials, 24 for HMAC-SHA1, 36 for HMAC-SHA256.
+    /// How many bytes signing adds to a message of any class: 0 without credentials, 24 for
+    /// HMAC-SHA1, 36 for HMAC-SHA256.
     pub fn message_signature_bytes(&self) -> usize
         ensures { result ≡ short_term_growth self.now }
     {
@@ -98,8 +103,9 @@ impl<A: Allocator> ShortTermAuth<A> {
 
     /// Adds the integrity attribute to a message, under the password.
     ///
-    /// Without credentials the message stays as it is. A refusal is the first of `MessageIntegrityExists`, `TooLarge`,
-    /// `TooSmall` and `OutOfMemory` that holds, and drops the writer. The writer holds a message without FINGERPRINT.
+    /// Without credentials the message stays as it is. A refusal is the first of
+    /// `MessageIntegrityExists`, `TooLarge`, `TooSmall` and `OutOfMemory` that holds, and drops the
+    /// writer. The writer holds a message without FINGERPRINT.
     #[tactic(auto, using(crate::proofs::Growth::length_of_signed))]
     pub fn sign_outgoing_message<W: MessageWrite>(&mut self, writer: W) -> Result<W, StunWriteError>
         requires { 20 ≤ length (W.bytes writer) }
@@ -124,9 +130,10 @@ impl<A: Allocator> ShortTermAuth<A> {
         Ok(writer)
     }
 
-    /// Adds the integrity attribute to a message of which the caller knows that nothing but a failed allocation refuses it: where
-    /// credentials are set, it has no integrity attribute, and length field and writer have room for one: 24 bytes for
-    /// HMAC-SHA1, 36 for HMAC-SHA256. The message is the one that `sign_outgoing_message` gives.
+    /// Adds the integrity attribute to a message of which the caller knows that nothing but a
+    /// failed allocation refuses it: where credentials are set, it has no integrity attribute, and
+    /// length field and writer have room for one: 24 bytes for HMAC-SHA1, 36 for HMAC-SHA256. The
+    /// message is the one that `sign_outgoing_message` gives.
     #[tactic(auto, using(crate::proofs::Growth::length_of_signed))]
     pub fn sign_outgoing_message_unchecked<W: MessageWrite>(
         &mut self,
@@ -150,7 +157,8 @@ impl<A: Allocator> ShortTermAuth<A> {
         Ok(writer)
     }
 
-    /// The algorithm whose digest verifies under the password's bytes, or the refusal of `Message::validate_integrity`.
+    /// The algorithm whose digest verifies under the password's bytes, or the refusal of
+    /// `Message::validate_integrity`.
     ///
     /// Without credentials nothing is checked and the answer is `None`. It does not allocate.
     pub fn validate_incoming_message(
@@ -170,8 +178,8 @@ impl<A: Allocator> ShortTermAuth<A> {
 impl<A: Allocator + Copy> ShortTermAuth<A> {
     /// Sets the password and the algorithm to sign with.
     ///
-    /// The key is made first, so that where its allocation fails both stay as they were. For a password of up to 32 bytes
-    /// nothing is allocated.
+    /// The key is made first, so that where its allocation fails both stay as they were. For a
+    /// password of up to 32 bytes nothing is allocated.
     pub fn set_credentials(
         &mut self,
         credentials: ShortTermCredentials<A>,

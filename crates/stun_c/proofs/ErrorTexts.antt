@@ -4,7 +4,8 @@ use Rattle.std.specs.Prelude.{ℤ, pos, int_lt, unsigned_abs, ◌==◌, if◌the
 use Rattle.stun_c.specs.Codes.{error_text, refusal_text}
 
 -- one of two texts
-either : (one : Bool) (x y : List ℕ) → length x ≤ 64 → length y ≤ 64 → length (if one then x else y) ≤ 64
+either : (one : Bool) (x y : List ℕ) → length x ≤ 64 → length y ≤ 64
+    → length (if one then x else y) ≤ 64
 either true x y short other = short
 either false x y short other = other
 
@@ -41,4 +42,5 @@ short_refusal n =
     omega arith)))))))))))))))))))))))))))
 
 pub short_text : (answer : ℤ) → length (error_text answer) ≤ 64
-short_text answer = either (int_lt answer (pos 0)) _ _ (short_refusal (unsigned_abs answer)) (omega arith)
+short_text answer =
+    either (int_lt answer (pos 0)) _ _ (short_refusal (unsigned_abs answer)) (omega arith)

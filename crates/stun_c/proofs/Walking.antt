@@ -1,5 +1,6 @@
 -- A walk that goes on from a cursor comes to what is visible.
-use Rattle.std.proofs.Common.{◌≡◌, ℕ, zero, suc, ◌+◌, ◌≤◌, Bool, true, false, cond, List, [], ◌∷◌, length, drop, refl, sym, ◌∙◌, ap, arith}
+use Rattle.std.proofs.Common.{◌≡◌, ℕ, zero, suc, ◌+◌, ◌≤◌, Bool, true, false, cond}
+use Rattle.std.proofs.Common.{List, [], ◌∷◌, length, drop, refl, sym, ◌∙◌, ap, arith}
 use Rattle.std.specs.Prelude.{max, slice_get, ◌==◌, ◌||◌}
 use Rattle.std.proofs.lemmas.List.{drop-drop}
 use Rattle.stun_base.specs.Attributes.{MESSAGE_INTEGRITY, MESSAGE_INTEGRITY_SHA256, FINGERPRINT}
@@ -8,57 +9,77 @@ use Rattle.stun_types.specs.Attribute.{TypedValue, attribute_length, has_attribu
 use Rattle.stun_types.specs.Visible.{counts_behind, visible}
 use Rattle.stun_types.specs.Walk.{next_place, walk_from, walk}
 use Rattle.stun_types.specs.code.Visible.{visible_from, HasPassed}
-use Rattle.stun_types.proofs.VisibleLemmas.{HasPassed-none, HasPassed-step, counts-passed, visible_from-end, visible_from-header, visible_from-step}
-use Rattle.stun_types.proofs.WalkLemmas.{has_attribute-past_end, walk_from-end, walk_from-step, whole_within}
+use Rattle.stun_types.proofs.VisibleLemmas.{HasPassed-none, HasPassed-step}
+use Rattle.stun_types.proofs.VisibleLemmas.{counts-passed, visible_from-end}
+use Rattle.stun_types.proofs.VisibleLemmas.{visible_from-header, visible_from-step}
+use Rattle.stun_types.proofs.WalkLemmas.{has_attribute-past_end, walk_from-end}
+use Rattle.stun_types.proofs.WalkLemmas.{walk_from-step, whole_within}
 use Rattle.stun_c.specs.declared.walk.Cursor.{Cursor}
 use Rattle.stun_c.specs.Walking.{ahead, is_shown, rank, shown}
 
 -- what is shown from a place: the attribute there, where it is, and what is after it
-shown-step : (hidden place : ℕ) (bytes : List ℕ) → has_attribute (drop place bytes) ≡ true → shown hidden (walk_from place bytes)
+shown-step : (hidden place : ℕ) (bytes : List ℕ) → has_attribute (drop place bytes) ≡ true
+    → shown hidden (walk_from place bytes)
     ≡ cond (is_shown hidden (first_attribute (drop place bytes)).kind)
-    ((place, first_attribute (drop place bytes)) ∷ shown (max hidden (rank (first_attribute (drop place bytes)).kind)) (walk_from (next_place place bytes) bytes))
-    (shown (max hidden (rank (first_attribute (drop place bytes)).kind)) (walk_from (next_place place bytes) bytes))
+    ((place, first_attribute (drop place bytes))
+    ∷ shown (max hidden (rank (first_attribute (drop place bytes)).kind))
+    (walk_from (next_place place bytes) bytes))
+    (shown (max hidden (rank (first_attribute (drop place bytes)).kind))
+    (walk_from (next_place place bytes) bytes))
 unfolding shown
 shown-step hidden place bytes whole = rw (walk_from-step place bytes whole) refl
 
-pub shown-end : (hidden place : ℕ) (bytes : List ℕ) → has_attribute (drop place bytes) ≡ false → shown hidden (walk_from place bytes) ≡ []
+pub shown-end : (hidden place : ℕ) (bytes : List ℕ) → has_attribute (drop place bytes) ≡ false
+    → shown hidden (walk_from place bytes) ≡ []
 unfolding shown
 shown-end hidden place bytes none = rw (walk_from-end place bytes none) refl
 
 -- a whole attribute is at a place, and `behind` is the place after it
-pub record MetAt (place : ℕ) (bytes : List ℕ) (attribute : TypedValue) (kind behind : ℕ) : Type 0 where
+pub record MetAt (place : ℕ) (bytes : List ℕ) (attribute : TypedValue) (kind behind : ℕ) : Type
+    0 where
   pub whole : has_attribute (drop place bytes) ≡ true
   pub attribute_is : attribute ≡ first_attribute (drop place bytes)
   pub kind_is : kind ≡ attribute.kind
   pub behind_is : behind ≡ place + attribute_length (length attribute.value)
 
 -- it is shown
-pub met-shown : (hidden : ℕ) {hidden' place kind behind : ℕ} {bytes : List ℕ} {attribute : TypedValue} → MetAt place bytes attribute kind behind
+pub met-shown : (hidden : ℕ) {hidden' place kind behind : ℕ} {bytes : List ℕ}
+    {attribute : TypedValue} → MetAt place bytes attribute kind behind
     → is_shown hidden kind ≡ true → hidden' ≡ max hidden (rank kind)
-    → shown hidden (walk_from place bytes) ≡ (place, attribute) ∷ shown hidden' (walk_from behind bytes)
+    → shown hidden (walk_from place bytes)
+    ≡ (place, attribute) ∷ shown hidden' (walk_from behind bytes)
 met-shown hidden {place = place} {bytes = bytes} met is hidden_is =
-    let shows : is_shown hidden (first_attribute (drop place bytes)).kind ≡ true = rw (met.kind_is, met.attribute_is) at is in
-    shown-step hidden place bytes met.whole ∙ rw (hidden_is, met.behind_is, met.kind_is, met.attribute_is, shows) refl
+    let shows : is_shown hidden (first_attribute (drop place bytes)).kind ≡ true =
+    rw (met.kind_is, met.attribute_is) at is in
+    shown-step hidden place bytes met.whole
+    ∙ rw (hidden_is, met.behind_is, met.kind_is, met.attribute_is, shows) refl
 
 -- it is not
-pub met-hidden : (hidden : ℕ) {hidden' place kind behind : ℕ} {bytes : List ℕ} {attribute : TypedValue} → MetAt place bytes attribute kind behind
+pub met-hidden : (hidden : ℕ) {hidden' place kind behind : ℕ} {bytes : List ℕ}
+    {attribute : TypedValue} → MetAt place bytes attribute kind behind
     → is_shown hidden kind ≡ false → hidden' ≡ max hidden (rank kind)
     → shown hidden (walk_from place bytes) ≡ shown hidden' (walk_from behind bytes)
 met-hidden hidden {place = place} {bytes = bytes} met is hidden_is =
-    let hides : is_shown hidden (first_attribute (drop place bytes)).kind ≡ false = rw (met.kind_is, met.attribute_is) at is in
-    shown-step hidden place bytes met.whole ∙ rw (hidden_is, met.behind_is, met.kind_is, met.attribute_is, hides) refl
+    let hides : is_shown hidden (first_attribute (drop place bytes)).kind ≡ false =
+    rw (met.kind_is, met.attribute_is) at is in
+    shown-step hidden place bytes met.whole
+    ∙ rw (hidden_is, met.behind_is, met.kind_is, met.attribute_is, hides) refl
 
 -- it is within
-pub met_within : {place kind behind : ℕ} {bytes : List ℕ} {attribute : TypedValue} → MetAt place bytes attribute kind behind → behind ≤ length bytes
-met_within {place} {bytes = bytes} met = rw (met.behind_is, met.attribute_is) (whole_within place bytes met.whole)
+pub met_within : {place kind behind : ℕ} {bytes : List ℕ} {attribute : TypedValue}
+    → MetAt place bytes attribute kind behind → behind ≤ length bytes
+met_within {place} {bytes = bytes} met =
+    rw (met.behind_is, met.attribute_is) (whole_within place bytes met.whole)
 
 -- how much is hidden after attributes among which the three types are
 abbrev level : Bool → Bool → Bool → ℕ
-level integrity integrity_sha256 fingerprint = cond fingerprint 3 (cond integrity_sha256 2 (cond integrity 1 0))
+level integrity integrity_sha256 fingerprint =
+    cond fingerprint 3 (cond integrity_sha256 2 (cond integrity 1 0))
 
 -- that is all that counts of them
 is_shown-level : (integrity integrity_sha256 fingerprint : Bool) (kind : ℕ)
-    → is_shown (level integrity integrity_sha256 fingerprint) kind ≡ counts_behind integrity integrity_sha256 fingerprint kind
+    → is_shown (level integrity integrity_sha256 fingerprint) kind
+    ≡ counts_behind integrity integrity_sha256 fingerprint kind
 is_shown-level true true true kind = grind arith
 is_shown-level true true false kind = grind arith
 is_shown-level true false true kind = grind arith
@@ -69,7 +90,8 @@ is_shown-level false false true kind = grind arith
 is_shown-level false false false kind = grind arith
 
 level-step : (integrity integrity_sha256 fingerprint : Bool) (kind : ℕ)
-    → level (integrity || (kind == MESSAGE_INTEGRITY)) (integrity_sha256 || (kind == MESSAGE_INTEGRITY_SHA256)) (fingerprint || (kind == FINGERPRINT))
+    → level (integrity || (kind == MESSAGE_INTEGRITY))
+    (integrity_sha256 || (kind == MESSAGE_INTEGRITY_SHA256)) (fingerprint || (kind == FINGERPRINT))
     ≡ max (level integrity integrity_sha256 fingerprint) (rank kind)
 level-step true true true kind = grind arith
 level-step true true false kind = grind arith
@@ -81,29 +103,44 @@ level-step false false true kind = grind arith
 level-step false false false kind = grind arith
 
 -- so what is shown after what was passed is what is visible from there
-shown-passed : (most place : ℕ) {integrity integrity_sha256 fingerprint : Bool} (bytes : List ℕ) → length bytes ≤ place + most
+shown-passed : (most place : ℕ) {integrity integrity_sha256 fingerprint : Bool} (bytes : List ℕ)
+    → length bytes ≤ place + most
     → HasPassed place integrity integrity_sha256 fingerprint bytes
-    → shown (level integrity integrity_sha256 fingerprint) (walk_from place bytes) ≡ visible_from place bytes
+    → shown (level integrity integrity_sha256 fingerprint) (walk_from place bytes)
+    ≡ visible_from place bytes
 shown-passed zero place {integrity} {integrity_sha256} {fingerprint} bytes few passed =
     let none = has_attribute-past_end place bytes (omega arith) in
-    shown-end (level integrity integrity_sha256 fingerprint) place bytes none ∙ sym (visible_from-end place bytes none)
+    shown-end (level integrity integrity_sha256 fingerprint) place bytes none
+    ∙ sym (visible_from-end place bytes none)
 shown-passed (suc most) place {integrity} {integrity_sha256} {fingerprint} bytes few passed =
     elim (has_attribute (drop place bytes)) as (λ whole. has_attribute (drop place bytes) ≡ whole →
-    shown (level integrity integrity_sha256 fingerprint) (walk_from place bytes) ≡ visible_from place bytes) [
+    shown (level integrity integrity_sha256 fingerprint) (walk_from place bytes)
+    ≡ visible_from place bytes) [
       | true ↦ λ whole.
           let kind = (first_attribute (drop place bytes)).kind in
-          let rest = shown-passed most (next_place place bytes) bytes (omega arith) (HasPassed-step passed whole) in
-          let rest' : shown (max (level integrity integrity_sha256 fingerprint) (rank kind)) (walk_from (next_place place bytes) bytes) ≡ visible_from (next_place place bytes) bytes =
-          ap (λ hidden. shown hidden (walk_from (next_place place bytes) bytes)) (sym (level-step integrity integrity_sha256 fingerprint kind)) ∙ rest in
+          let rest =
+          shown-passed most (next_place place bytes) bytes (omega arith)
+          (HasPassed-step passed whole) in
+          let rest' : shown (max (level integrity integrity_sha256 fingerprint) (rank kind))
+          (walk_from (next_place place bytes) bytes) ≡ visible_from (next_place place bytes) bytes =
+          ap (λ hidden. shown hidden (walk_from (next_place place bytes) bytes))
+          (sym (level-step integrity integrity_sha256 fingerprint kind)) ∙ rest in
           shown-step (level integrity integrity_sha256 fingerprint) place bytes whole
-          ∙ (rw (is_shown-level integrity integrity_sha256 fingerprint kind, rest', sym (counts-passed passed)) refl ∙ sym (visible_from-step place bytes whole))
+          ∙ (rw (
+            is_shown-level integrity integrity_sha256 fingerprint kind,
+            rest',
+            sym (counts-passed passed),
+          ) refl ∙ sym (visible_from-step place bytes whole))
       | false ↦ λ none.
-          shown-end (level integrity integrity_sha256 fingerprint) place bytes none ∙ sym (visible_from-end place bytes none)
+          shown-end (level integrity integrity_sha256 fingerprint) place bytes none
+          ∙ sym (visible_from-end place bytes none)
     ] refl
 
 -- and from the header all that is visible
 pub shown_visible : (bytes : List ℕ) → shown 0 (walk bytes) ≡ visible bytes
-shown_visible bytes = shown-passed (length bytes) HEADER_LENGTH bytes (omega arith) (HasPassed-none bytes) ∙ visible_from-header bytes
+shown_visible bytes =
+    shown-passed (length bytes) HEADER_LENGTH bytes (omega arith) (HasPassed-none bytes)
+    ∙ visible_from-header bytes
 
 -- the first of those that are left after n is the one at n
 first-left : {X : Type 0} (n : ℕ) (xs : List X) → slice_get (drop n xs) 0 ≡ slice_get xs n
@@ -112,13 +149,19 @@ first-left (suc n) [] = refl
 first-left (suc n) (x ∷ xs) = first-left n xs
 
 -- a cursor that went on n times from the first place has the first n attributes behind it
-gone-on : (bytes : List ℕ) (cursors : ℕ → Cursor) → (cursors 0).place ≡ 0 → ((n : ℕ) → ahead (cursors (suc n)) bytes ≡ drop 1 (ahead (cursors n) bytes))
+gone-on : (bytes : List ℕ) (cursors : ℕ → Cursor) → (cursors 0).place ≡ 0
+    → ((n : ℕ) → ahead (cursors (suc n)) bytes ≡ drop 1 (ahead (cursors n) bytes))
     → (n : ℕ) → ahead (cursors n) bytes ≡ drop n (visible bytes)
 gone-on bytes cursors first follows zero = rw first refl
 gone-on bytes cursors first follows (suc n) =
     let one : n + 1 ≡ suc n = omega arith in
-    follows n ∙ (ap (drop 1) (gone-on bytes cursors first follows n) ∙ (drop-drop 1 n (visible bytes) ∙ ap (λ k. drop k (visible bytes)) one))
+    follows n
+    ∙ (ap (drop 1) (gone-on bytes cursors first follows n)
+    ∙ (drop-drop 1 n (visible bytes) ∙ ap (λ k. drop k (visible bytes)) one))
 
-pub walks-come : (bytes : List ℕ) (cursors : ℕ → Cursor) → (cursors 0).place ≡ 0 → ((n : ℕ) → ahead (cursors (suc n)) bytes ≡ drop 1 (ahead (cursors n) bytes))
+pub walks-come : (bytes : List ℕ) (cursors : ℕ → Cursor) → (cursors 0).place ≡ 0
+    → ((n : ℕ) → ahead (cursors (suc n)) bytes ≡ drop 1 (ahead (cursors n) bytes))
     → (n : ℕ) → slice_get (ahead (cursors n) bytes) 0 ≡ slice_get (visible bytes) n
-walks-come bytes cursors first follows n = ap (λ left. slice_get left 0) (gone-on bytes cursors first follows n) ∙ first-left n (visible bytes)
+walks-come bytes cursors first follows n =
+    ap (λ left. slice_get left 0) (gone-on bytes cursors first follows n)
+    ∙ first-left n (visible bytes)

@@ -1,5 +1,6 @@
 -- What each call answers, and what it leaves in the caller's buffer.
-use Rattle.std.specs.Prelude.{ℕ, ℤ, pos, List, ◌++◌, length, drop, nat_lt, if◌then◌else◌, Option, Some, None, Result, Ok, Err}
+use Rattle.std.specs.Prelude.{ℕ, ℤ, pos, List, ◌++◌, length, drop, nat_lt}
+use Rattle.std.specs.Prelude.{if◌then◌else◌, Option, Some, None, Result, Ok, Err}
 use Rattle.stun_base.specs.declared.wire.error.StunParseError.{StunParseError}
 use Rattle.stun_base.specs.declared.wire.error.ValidateError.{ValidateError}
 use Rattle.stun_base.specs.declared.keys.algorithm.IntegrityAlgorithm.{IntegrityAlgorithm}
@@ -30,7 +31,9 @@ unless_no_message (Some error) number = code_of (refusal_of_parse error)
 
 -- what verifying under a key answers
 abbrev pub verify_answer : List ℕ → List ℕ → ℤ
-verify_answer bytes key = unless_no_message (refusal bytes) (integrity_number (verified_algorithm bytes key) (integrity_refusal bytes))
+verify_answer bytes key =
+    unless_no_message (refusal bytes)
+    (integrity_number (verified_algorithm bytes key) (integrity_refusal bytes))
 
 -- bytes for a buffer with so much room, which they must not exceed
 abbrev pub fitted : Result (List ℕ) Refusal → ℕ → Result (List ℕ) Refusal

@@ -1,13 +1,29 @@
 -- The numbers that callers get and give, as include/stunp.h has them.
-use Rattle.std.specs.Prelude.{ℕ, ℤ, pos, neg_ℤ, int_lt, unsigned_abs, List, [], ◌∷◌, ◌++◌, codes, Option, Some, None, ◌==◌, if◌then◌else◌}
+use Rattle.std.specs.Prelude.{ℕ, ℤ, pos, neg_ℤ, int_lt, unsigned_abs, List, [], ◌∷◌}
+use Rattle.std.specs.Prelude.{◌++◌, codes, Option, Some, None, ◌==◌, if◌then◌else◌}
 use Rattle.stun_base.specs.declared.wire.error.StunParseError.{StunParseError}
-use Rattle.stun_base.specs.declared.wire.error.StunParseError.TheVariants.{Truncated as ParseTruncated, NotStun as ParseNotStun, TooLarge as ParseTooLarge, MissingAttribute, InvalidAttributeData}
+use Rattle.stun_base.specs.declared.wire.error.StunParseError.TheVariants.{
+  Truncated as ParseTruncated,
+  NotStun as ParseNotStun,
+  TooLarge as ParseTooLarge,
+  MissingAttribute,
+  InvalidAttributeData,
+}
 use Rattle.stun_base.specs.declared.wire.error.ValidateError.{ValidateError}
-use Rattle.stun_base.specs.declared.wire.error.ValidateError.TheVariants.{Parse, IntegrityFailed as DigestFailed}
+use Rattle.stun_base.specs.declared.wire.error.ValidateError.TheVariants.{
+  Parse,
+  IntegrityFailed as DigestFailed,
+}
 use Rattle.stun_base.specs.declared.keys.algorithm.IntegrityAlgorithm.{IntegrityAlgorithm}
 use Rattle.stun_base.specs.declared.keys.algorithm.IntegrityAlgorithm.TheVariants.{Sha1, Sha256}
 use Rattle.stun_c.specs.declared.codes.Refusal.{Refusal}
-use Rattle.stun_c.specs.declared.codes.Refusal.TheVariants.{Truncated, NotStun, TooLarge, NoIntegrity, MalformedIntegrity, IntegrityFailed, BadArgument, NotText, TextTooLong, BufferTooSmall, NotAllowed, Closed, AttributeExists, MessageTooLong, MissingAttribute as NotFound, MalformedAttribute}
+use Rattle.stun_c.specs.declared.codes.Refusal.TheVariants.{Truncated, NotStun, TooLarge}
+use Rattle.stun_c.specs.declared.codes.Refusal.TheVariants.{NoIntegrity, MalformedIntegrity}
+use Rattle.stun_c.specs.declared.codes.Refusal.TheVariants.{IntegrityFailed, BadArgument, NotText}
+use Rattle.stun_c.specs.declared.codes.Refusal.TheVariants.{TextTooLong, BufferTooSmall, NotAllowed}
+use Rattle.stun_c.specs.declared.codes.Refusal.TheVariants.{Closed, AttributeExists, MessageTooLong}
+use Rattle.stun_c.specs.declared.codes.Refusal.TheVariants.{MissingAttribute as NotFound}
+use Rattle.stun_c.specs.declared.codes.Refusal.TheVariants.{MalformedAttribute}
 
 -- the number of a refusal
 abbrev pub code_of : Refusal → ℤ
@@ -56,7 +72,8 @@ algorithm_number Sha256 = 2
 
 -- the algorithm of a number, if it has one
 abbrev pub algorithm_numbered : ℕ → Option IntegrityAlgorithm
-algorithm_numbered number = if number == 1 then Some Sha1 else (if number == 2 then Some Sha256 else None)
+algorithm_numbered number =
+    if number == 1 then Some Sha1 else (if number == 2 then Some Sha256 else None)
 
 -- a text and the zero byte that ends it in C
 abbrev pub ended_text : List ℕ → List ℕ
@@ -76,7 +93,8 @@ refusal_text number =
     else if number == 9 then ended_text (codes "a text is too long for its attribute")
     else if number == 10 then ended_text (codes "the buffer is too small")
     else if number == 11 then ended_text (codes "the attribute is not written by this call")
-    else if number == 12 then ended_text (codes "the message is closed by an integrity attribute or FINGERPRINT")
+    else if number == 12
+    then ended_text (codes "the message is closed by an integrity attribute or FINGERPRINT")
     else if number == 13 then ended_text (codes "the message has an attribute of this type")
     else if number == 14 then ended_text (codes "the message would be too long")
     else if number == 15 then ended_text (codes "the attribute is missing")
@@ -85,7 +103,8 @@ refusal_text number =
     else if number == 18 then ended_text (codes "the handle is empty")
     else if number == 19 then ended_text (codes "the handle is full already")
     else if number == 20 then ended_text (codes "a request of this id is outstanding")
-    else if number == 21 then ended_text (codes "the message or its address is none that this call takes")
+    else if number == 21
+    then ended_text (codes "the message or its address is none that this call takes")
     else if number == 22 then ended_text (codes "the message is not sufficiently authenticated")
     else if number == 23 then ended_text (codes "the request is not well-formed")
     else if number == 24 then ended_text (codes "the nonce is not the current one")
@@ -96,4 +115,6 @@ refusal_text number =
 
 -- what an answer says
 abbrev pub error_text : ℤ → List ℕ
-error_text answer = if int_lt answer (pos 0) then refusal_text (unsigned_abs answer) else ended_text (codes "no error")
+error_text answer =
+    if int_lt answer (pos 0) then refusal_text (unsigned_abs answer)
+    else ended_text (codes "no error")

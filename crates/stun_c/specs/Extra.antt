@@ -1,24 +1,39 @@
 -- What the calls over `stun_extra` answer: FINGERPRINT, types that are not known, and streams.
-use Rattle.std.specs.Prelude.{ℕ, ℤ, pos, ◌+◌, ◌-◌, List, [], ◌++◌, length, map, take, drop, codes, nat_lt, ◌==◌, if◌then◌else◌, Option, Some, None, Result, Ok, Err}
+use Rattle.std.specs.Prelude.{ℕ, ℤ, pos, ◌+◌, ◌-◌, List, [], ◌++◌, length, map, take, drop, codes}
+use Rattle.std.specs.Prelude.{nat_lt, ◌==◌, if◌then◌else◌, Option, Some, None, Result, Ok, Err}
 use Rattle.std.specs.Option.{option_or, option_map}
 use Rattle.stun_base.specs.Attributes.{ERROR_CODE, FINGERPRINT}
 use Rattle.stun_base.specs.MessageType.{class_in, class_number}
 use Rattle.stun_base.specs.declared.wire.attribute_type.AttributeType.{AttributeType}
 use Rattle.stun_base.specs.declared.wire.error.StunWriteError.{StunWriteError}
-use Rattle.stun_base.specs.declared.wire.error.StunWriteError.TheVariants.{NotAllowed as WriteNotAllowed, MessageIntegrityExists, AttributeExists as WriteAttributeExists, IntegrityFailed as WriteIntegrityFailed, OutOfMemory, TooLarge as WriteTooLarge, TooSmall}
+use Rattle.stun_base.specs.declared.wire.error.StunWriteError.TheVariants.{
+  NotAllowed as WriteNotAllowed,
+  MessageIntegrityExists,
+  AttributeExists as WriteAttributeExists,
+  IntegrityFailed as WriteIntegrityFailed,
+  OutOfMemory,
+  TooLarge as WriteTooLarge,
+  TooSmall,
+}
 use Rattle.stun_base.specs.declared.wire.message_type.MessageClass.TheVariants.{Error}
 use Rattle.stun_types.specs.Attribute.{TypedValue}
 use Rattle.stun_types.specs.ErrorCode.{error_value}
 use Rattle.stun_types.specs.Message.{refusal}
 use Rattle.stun_types.specs.Writing.{empty_answer, with_attribute}
 use Rattle.stun_extra.specs.Fingerprint.{fingerprint_in, with_fingerprint}
-use Rattle.stun_extra.specs.Unknown.{UNKNOWN_ATTRIBUTES, spelled_types, types_of, unknown_attributes_in, unknown_types}
+use Rattle.stun_extra.specs.Unknown.{UNKNOWN_ATTRIBUTES, spelled_types, types_of}
+use Rattle.stun_extra.specs.Unknown.{unknown_attributes_in, unknown_types}
 use Rattle.stun_extra.specs.declared.fingerprint.Fingerprint.{Fingerprint}
-use Rattle.stun_extra.specs.declared.fingerprint.Fingerprint.TheVariants.{Right, Wrong, Misplaced, Absent}
+use Rattle.stun_extra.specs.declared.fingerprint.Fingerprint.TheVariants.{Right, Wrong}
+use Rattle.stun_extra.specs.declared.fingerprint.Fingerprint.TheVariants.{Misplaced, Absent}
 use Rattle.stun_extra.specs.declared.framing.Frame.{Frame}
-use Rattle.stun_extra.specs.declared.framing.Frame.TheVariants.{Need, Message as Whole, NotStun as NoFrame}
+use Rattle.stun_extra.specs.declared.framing.Frame.TheVariants.{Need, Message as Whole}
+use Rattle.stun_extra.specs.declared.framing.Frame.TheVariants.{NotStun as NoFrame}
 use Rattle.stun_c.specs.declared.codes.Refusal.{Refusal}
-use Rattle.stun_c.specs.declared.codes.Refusal.TheVariants.{NotStun, IntegrityFailed, BadArgument, MalformedAttribute, BufferTooSmall, NotAllowed, Closed, AttributeExists, MessageTooLong}
+use Rattle.stun_c.specs.declared.codes.Refusal.TheVariants.{NotStun, IntegrityFailed}
+use Rattle.stun_c.specs.declared.codes.Refusal.TheVariants.{BadArgument, MalformedAttribute}
+use Rattle.stun_c.specs.declared.codes.Refusal.TheVariants.{BufferTooSmall, NotAllowed, Closed}
+use Rattle.stun_c.specs.declared.codes.Refusal.TheVariants.{AttributeExists, MessageTooLong}
 use Rattle.stun_c.specs.Answers.{unless_no_message}
 use Rattle.stun_c.specs.Codes.{code_of, refusal_of_parse}
 use Rattle.stun_c.specs.Reading.{value_at}
@@ -36,7 +51,8 @@ fingerprint_number Misplaced = 3
 
 -- what `stunp_check_fingerprint` answers
 abbrev pub fingerprint_answer : List ℕ → ℤ
-fingerprint_answer bytes = unless_no_message (refusal bytes) (pos (fingerprint_number (fingerprint_in bytes)))
+fingerprint_answer bytes =
+    unless_no_message (refusal bytes) (pos (fingerprint_number (fingerprint_in bytes)))
 
 -- the refusal that tells an error of writing
 abbrev pub refusal_of_write : StunWriteError → Refusal
@@ -48,8 +64,9 @@ refusal_of_write TooSmall = BufferTooSmall
 refusal_of_write WriteIntegrityFailed = IntegrityFailed
 refusal_of_write OutOfMemory = BufferTooSmall
 
--- why FINGERPRINT does not end the first `count` bytes of a buffer, if it does not: they are not there, they are no message, and
--- then what the library's call refuses (law `fingerprint_is_refused`)
+-- why FINGERPRINT does not end the first `count` bytes of a buffer, if it does not: they are not
+-- there, they are no message, and then what the library's call refuses (law
+-- `fingerprint_is_refused`)
 abbrev pub ending_refusal : List ℕ → ℕ → Option Refusal
 ending_refusal buffer count =
     if nat_lt (length buffer) count then Some BadArgument
@@ -59,7 +76,8 @@ ending_refusal buffer count =
 
 -- what `stunp_add_fingerprint` makes
 abbrev pub fingerprinted : List ℕ → ℕ → Result (List ℕ) Refusal
-fingerprinted buffer count = unless_refused (ending_refusal buffer count) (with_fingerprint (take count buffer))
+fingerprinted buffer count =
+    unless_refused (ending_refusal buffer count) (with_fingerprint (take count buffer))
 
 -- ---- types that are not known (sections 6.3.1 and 14.13)
 
@@ -70,7 +88,8 @@ ALL_KNOWN = 256
 -- why no types are told, if none are: too many are known, and then the message
 abbrev pub known_refusal : List ℕ → List ℕ → Option Refusal
 known_refusal bytes known =
-    if nat_lt ALL_KNOWN (length known) then Some BadArgument else option_map refusal_of_parse (refusal bytes)
+    if nat_lt ALL_KNOWN (length known) then Some BadArgument
+    else option_map refusal_of_parse (refusal bytes)
 
 -- a message's types that must be understood and are not known, in their order, each once
 abbrev pub unknown_of : List ℕ → List ℕ → List AttributeType
@@ -83,7 +102,8 @@ told_number (Some refusal) types = code_of refusal
 
 -- the caller's numbers where types are written to their front, as many as have room
 abbrev pub numbers_after : List AttributeType → List ℕ → List ℕ
-numbers_after types numbers = take (length numbers) (map (λ kind. kind.0) types) ++ drop (length types) numbers
+numbers_after types numbers =
+    take (length numbers) (map (λ kind. kind.0) types) ++ drop (length types) numbers
 
 -- the same, where nothing is refused
 abbrev pub types_after : Option Refusal → List AttributeType → List ℕ → List ℕ
@@ -92,7 +112,11 @@ types_after (Some refusal) types numbers = numbers
 
 -- the error of such an answer (section 14.8)
 abbrev pub error_420 : TypedValue
-error_420 = record { kind = ERROR_CODE; value = error_value (record { code = 420; reason = codes "Unknown Attribute" }) }
+error_420 =
+    record {
+      kind = ERROR_CODE;
+      value = error_value (record { code = 420; reason = codes "Unknown Attribute" });
+    }
 
 -- the front of the answer to a request: an error response with its method and its id, and the error
 unfoldable pub refused_front : List ℕ → List ℕ
@@ -115,7 +139,8 @@ answer_made message types =
 
 -- what `stunp_refuse_unknown` makes
 abbrev pub unknown_made : List ℕ → List ℕ → Result (List ℕ) Refusal
-unknown_made request known = unless (known_refusal request known) (answer_made request (unknown_of request known))
+unknown_made request known =
+    unless (known_refusal request known) (answer_made request (unknown_of request known))
 
 -- types, unless their attribute is malformed
 abbrev pub unless_odd : Option (List AttributeType) → Result (List AttributeType) Refusal
@@ -124,7 +149,8 @@ unless_odd (Some types) = Ok types
 
 -- the types that a value of UNKNOWN-ATTRIBUTES holds
 abbrev pub types_of_value : Result (List ℕ) Refusal → Result (List AttributeType) Refusal
-types_of_value (Ok value) = unless_odd (unknown_attributes_in (record { kind = UNKNOWN_ATTRIBUTES; value = value }))
+types_of_value (Ok value) =
+    unless_odd (unknown_attributes_in (record { kind = UNKNOWN_ATTRIBUTES; value = value }))
 types_of_value (Err refusal) = Err refusal
 
 -- those in the attribute at a place of a message, or why there are none
@@ -143,8 +169,8 @@ held_after (Err refusal) numbers = numbers
 
 -- ---- streams (section 6.2.2)
 
--- how many bytes what a stream begins with has, or how many of it must be there to tell: those that are there and those that it
--- needs
+-- how many bytes what a stream begins with has, or how many of it must be there to tell: those that
+-- are there and those that it needs
 abbrev pub wanted_number : ℕ → Frame → ℤ
 wanted_number there (Need more) = pos (there + more)
 wanted_number there (Whole n) = pos n

@@ -1,10 +1,13 @@
--- What the calls that read a message answer, and what they leave in the caller's numbers and buffers.
-use Rattle.std.specs.Prelude.{ℕ, ℤ, pos, ◌+◌, List, length, take, drop, find, nat_lt, not, ◌||◌, Option, Some, None, Result, Ok, Err, if◌then◌else◌}
+-- What the calls that read a message answer, and what they leave in the caller's numbers and
+-- buffers.
+use Rattle.std.specs.Prelude.{ℕ, ℤ, pos, ◌+◌, List, length, take, drop, find, nat_lt, not}
+use Rattle.std.specs.Prelude.{◌||◌, Option, Some, None, Result, Ok, Err, if◌then◌else◌}
 use Rattle.std.specs.Option.{option_map}
 use Rattle.std.specs.Str.{is_utf8}
 use Rattle.byteorder.specs.Endian.{big_number}
 use Rattle.stun_base.specs.Attributes.{ERROR_CODE, XOR_MAPPED_ADDRESS}
-use Rattle.stun_base.specs.Header.{HEADER_LENGTH, header_refusal, length_field, transaction_id_field, type_field}
+use Rattle.stun_base.specs.Header.{HEADER_LENGTH, header_refusal, length_field}
+use Rattle.stun_base.specs.Header.{transaction_id_field, type_field}
 use Rattle.stun_base.specs.MessageType.{class_in, class_number, method_of}
 use Rattle.stun_base.specs.declared.wire.error.StunParseError.{StunParseError}
 use Rattle.stun_base.specs.declared.wire.error.StunParseError.TheVariants.{MissingAttribute}
@@ -17,7 +20,8 @@ use Rattle.stun_types.specs.Visible.{visible}
 use Rattle.stun_types.specs.Walk.{Member}
 use Rattle.stun_types.specs.XorMappedAddress.{XoredAddress, xor_bytes, xor_key, xor_port, xored_of}
 use Rattle.stun_c.specs.declared.codes.Refusal.{Refusal}
-use Rattle.stun_c.specs.declared.codes.Refusal.TheVariants.{BadArgument, MalformedAttribute, MissingAttribute as NotFound, NotText}
+use Rattle.stun_c.specs.declared.codes.Refusal.TheVariants.{BadArgument, MalformedAttribute}
+use Rattle.stun_c.specs.declared.codes.Refusal.TheVariants.{MissingAttribute as NotFound, NotText}
 use Rattle.stun_c.specs.declared.header.Header.{Header}
 use Rattle.stun_c.specs.Answers.{unless_no_message}
 use Rattle.stun_c.specs.Codes.{code_of, refusal_of_attribute, refusal_of_parse}
@@ -52,7 +56,8 @@ header_after None bytes header = header_in bytes
 
 -- the bytes of the transaction id
 abbrev pub id_of_message : List ℕ → Result (List ℕ) Refusal
-id_of_message bytes = unless_refused (option_map refusal_of_parse (refusal bytes)) (take 12 (drop 8 bytes))
+id_of_message bytes =
+    unless_refused (option_map refusal_of_parse (refusal bytes)) (take 12 (drop 8 bytes))
 
 -- the first visible attribute that comes after a place (sections 14.5 to 14.7)
 abbrev pub next_member : ℕ → List ℕ → Option Member
@@ -75,7 +80,8 @@ number_after part None (Some m) number = part m.1
 
 -- why no attribute of a type is looked for: the type, then the message
 abbrev pub finding_refusal : ℕ → List ℕ → Option Refusal
-finding_refusal kind bytes = if nat_lt kind 65536 then option_map refusal_of_parse (refusal bytes) else Some BadArgument
+finding_refusal kind bytes =
+    if nat_lt kind 65536 then option_map refusal_of_parse (refusal bytes) else Some BadArgument
 
 -- what `stunp_find` answers of the attribute that it finds, if there is one
 abbrev pub find_answer : Option Refusal → Option Member → ℤ
@@ -84,7 +90,8 @@ find_answer None None = code_of NotFound
 find_answer None (Some m) = pos m.0
 
 -- the first attribute of a type as it is read, where it is there
-abbrev pub read_member : {A : Type 0} → ℕ → (TypedValue → Option A) → Option Member → Result A StunParseError
+abbrev pub read_member : {A : Type 0} → ℕ → (TypedValue → Option A) → Option Member
+    → Result A StunParseError
 read_member kind reading None = Err (MissingAttribute (record { 0 = kind }))
 read_member kind reading (Some m) = attribute_answer (reading m.1)
 
@@ -103,7 +110,8 @@ error_answer bytes = unless_no_message (refusal bytes) (code_number (error_in by
 
 -- the address that a message reports, still hidden under its id (section 14.2)
 abbrev pub address_in : List ℕ → Result XoredAddress StunParseError
-address_in bytes = read_member XOR_MAPPED_ADDRESS xored_of (first_of XOR_MAPPED_ADDRESS (visible bytes))
+address_in bytes =
+    read_member XOR_MAPPED_ADDRESS xored_of (first_of XOR_MAPPED_ADDRESS (visible bytes))
 
 -- its octets, shown, or why there are none
 abbrev pub shown_octets : Result XoredAddress StunParseError → ℕ → Result (List ℕ) Refusal
@@ -112,7 +120,9 @@ shown_octets (Err error) id = Err (refusal_of_attribute error)
 
 -- what `stunp_xor_mapped_address` writes
 abbrev pub octets_of_message : List ℕ → Result (List ℕ) Refusal
-octets_of_message bytes = unless (option_map refusal_of_parse (refusal bytes)) (shown_octets (address_in bytes) (transaction_id_field bytes))
+octets_of_message bytes =
+    unless (option_map refusal_of_parse (refusal bytes))
+    (shown_octets (address_in bytes) (transaction_id_field bytes))
 
 -- the caller's port, which the address sets where its octets were written
 abbrev pub port_after : {E : Type 0} → Result (List ℕ) Refusal → Result XoredAddress E → ℕ → ℕ
@@ -120,8 +130,8 @@ port_after (Ok octets) (Ok address) port = xor_port address.port
 port_after (Ok octets) (Err error) port = port
 port_after (Err refusal) address port = port
 
--- the address in an attribute of any type, still hidden: XOR-MAPPED-ADDRESS, XOR-PEER-ADDRESS and XOR-RELAYED-ADDRESS have one form
--- (RFC 8656, sections 18.3 and 18.5)
+-- the address in an attribute of any type, still hidden: XOR-MAPPED-ADDRESS, XOR-PEER-ADDRESS and
+-- XOR-RELAYED-ADDRESS have one form (RFC 8656, sections 18.3 and 18.5)
 abbrev pub hidden_in : TypedValue → Option XoredAddress
 hidden_in attribute = xored_of (record { kind = XOR_MAPPED_ADDRESS; value = attribute.value })
 
@@ -130,7 +140,8 @@ abbrev pub unless_malformed : Option XoredAddress → Result XoredAddress Refusa
 unless_malformed None = Err MalformedAttribute
 unless_malformed (Some address) = Ok address
 
--- the address in the attribute at a place of a message, still hidden: the place is after the header, and the attribute is whole
+-- the address in the attribute at a place of a message, still hidden: the place is after the
+-- header, and the attribute is whole
 abbrev pub address_at : List ℕ → ℕ → Result XoredAddress Refusal
 address_at bytes place =
     if nat_lt place HEADER_LENGTH || not (has_attribute (drop place bytes)) then Err BadArgument
@@ -171,7 +182,8 @@ abbrev pub sized_after : Result (List ℕ) Refusal → ℕ → ℕ
 sized_after (Ok value) number = big_number (length value) value
 sized_after (Err refusal) number = number
 
--- the value of the attribute at a place of a message: the place is after the header, and the attribute is whole
+-- the value of the attribute at a place of a message: the place is after the header, and the
+-- attribute is whole
 abbrev pub value_at : List ℕ → ℕ → Result (List ℕ) Refusal
 value_at bytes place =
     if nat_lt place HEADER_LENGTH || not (has_attribute (drop place bytes)) then Err BadArgument

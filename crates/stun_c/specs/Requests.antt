@@ -1,5 +1,6 @@
 -- What the building calls make of their arguments: bytes, or the first refusal.
-use Rattle.std.specs.Prelude.{ℕ, List, [], ◌∷◌, length, nat_lt, not, ◌==◌, ◌&&◌, if◌then◌else◌, Option, Some, None, Result, Ok, Err}
+use Rattle.std.specs.Prelude.{ℕ, List, [], ◌∷◌, length, nat_lt, not, ◌==◌, ◌&&◌}
+use Rattle.std.specs.Prelude.{if◌then◌else◌, Option, Some, None, Result, Ok, Err}
 use Rattle.std.specs.Str.{is_utf8}
 use Rattle.byteorder.specs.Endian.{big_number}
 use Rattle.stun_base.specs.declared.keys.algorithm.IntegrityAlgorithm.{IntegrityAlgorithm}
@@ -16,12 +17,15 @@ use Rattle.stun_c.specs.declared.codes.Refusal.TheVariants.{BadArgument, NotText
 
 -- a Binding request with a USERNAME (RFC 8489, sections 5, 14.3 and 18.2)
 abbrev pub binding_request : List ℕ → List ℕ → List ℕ
-binding_request id username = spelled (type_number Request 0x001) (big_number 12 id) (record { kind = USERNAME; value = username } ∷ [])
+binding_request id username =
+    spelled (type_number Request 0x001) (big_number 12 id)
+    (record { kind = USERNAME; value = username } ∷ [])
 
 -- why bytes are no user name, if they are none
 abbrev pub username_refusal : List ℕ → Option Refusal
 username_refusal username =
-    if not (is_utf8 username) then Some NotText else (if nat_lt USERNAME_LIMIT (length username) then Some TextTooLong else None)
+    if not (is_utf8 username) then Some NotText
+    else (if nat_lt USERNAME_LIMIT (length username) then Some TextTooLong else None)
 
 -- the bytes, unless something is refused
 abbrev pub unless_refused : Option Refusal → List ℕ → Result (List ℕ) Refusal
@@ -29,11 +33,13 @@ unless_refused None bytes = Ok bytes
 unless_refused (Some refusal) bytes = Err refusal
 
 -- what `stunp_build_signed` makes: the request with its integrity attribute
-abbrev pub signed_request : Option IntegrityAlgorithm → List ℕ → List ℕ → List ℕ → Result (List ℕ) Refusal
+abbrev pub signed_request : Option IntegrityAlgorithm → List ℕ → List ℕ → List ℕ
+    → Result (List ℕ) Refusal
 signed_request None id username key = Err BadArgument
 signed_request (Some algorithm) id username key =
     if not (length id == 12) then Err BadArgument
-    else unless_refused (username_refusal username) (with_integrity (binding_request id username) algorithm key)
+    else unless_refused (username_refusal username)
+    (with_integrity (binding_request id username) algorithm key)
 
 -- the bytes of a long-term key (sections 9.2.2 and 18.5.1)
 abbrev pub key_length : IntegrityAlgorithm → ℕ
@@ -41,10 +47,12 @@ key_length Sha1 = 16
 key_length Sha256 = 32
 
 -- what `stunp_long_term_key` makes (section 9.2.2)
-abbrev pub key_of_texts : Option IntegrityAlgorithm → List ℕ → List ℕ → List ℕ → Result (List ℕ) Refusal
+abbrev pub key_of_texts : Option IntegrityAlgorithm → List ℕ → List ℕ → List ℕ
+    → Result (List ℕ) Refusal
 key_of_texts None username realm password = Err BadArgument
 key_of_texts (Some algorithm) username realm password =
-    if is_utf8 username && is_utf8 realm && is_utf8 password then Ok (long_term_key algorithm username realm password) else Err NotText
+    if is_utf8 username && is_utf8 realm && is_utf8 password
+    then Ok (long_term_key algorithm username realm password) else Err NotText
 
 -- what `stunp_userhash` makes (section 14.4)
 abbrev pub userhash_of_texts : List ℕ → List ℕ → Result (List ℕ) Refusal

@@ -1,5 +1,6 @@
 -- What the walk over a message's attributes answers, which goes on from a cursor.
-use Rattle.std.specs.Prelude.{ℕ, ℤ, Bool, List, [], ◌∷◌, length, max, nat_lt, ◌==◌, ◌||◌, if◌then◌else◌, Option, Some, None}
+use Rattle.std.specs.Prelude.{ℕ, ℤ, Bool, List, [], ◌∷◌, length, max, nat_lt}
+use Rattle.std.specs.Prelude.{◌==◌, ◌||◌, if◌then◌else◌, Option, Some, None}
 use Rattle.std.specs.Option.{option_map}
 use Rattle.stun_base.specs.Attributes.{MESSAGE_INTEGRITY, MESSAGE_INTEGRITY_SHA256, FINGERPRINT}
 use Rattle.stun_base.specs.Header.{HEADER_LENGTH}
@@ -12,8 +13,8 @@ use Rattle.stun_c.specs.declared.walk.Cursor.{Cursor}
 use Rattle.stun_c.specs.Codes.{code_of, refusal_of_parse}
 use Rattle.stun_c.specs.Reading.{place_number}
 
--- how much an attribute hides of what comes after it, by its type: the more, the fewer types are still visible
--- (RFC 8489, sections 14.5 to 14.7)
+-- how much an attribute hides of what comes after it, by its type: the more, the fewer types are
+-- still visible (RFC 8489, sections 14.5 to 14.7)
 abbrev pub rank : ℕ → ℕ
 rank kind =
     if kind == MESSAGE_INTEGRITY then 1
@@ -31,16 +32,19 @@ shown hidden (m ∷ members) =
     if is_shown hidden m.1.kind then m ∷ shown (max hidden (rank m.1.kind)) members
     else shown (max hidden (rank m.1.kind)) members
 
--- what is before a cursor: at 0 all visible attributes, and at another place those from there that are visible
+-- what is before a cursor: at 0 all visible attributes, and at another place those from there that
+-- are visible
 abbrev pub ahead : Cursor → List ℕ → List Member
-ahead cursor bytes = if cursor.place == 0 then visible bytes else shown cursor.hidden (walk_from cursor.place bytes)
+ahead cursor bytes =
+    if cursor.place == 0 then visible bytes else shown cursor.hidden (walk_from cursor.place bytes)
 
--- why nothing is read at a cursor, if nothing is: at 0 the bytes are no message, and another place is not after their header
--- or past their end
+-- why nothing is read at a cursor, if nothing is: at 0 the bytes are no message, and another place
+-- is not after their header or past their end
 abbrev pub cursor_refusal : Cursor → List ℕ → Option Refusal
 cursor_refusal cursor bytes =
     if cursor.place == 0 then option_map refusal_of_parse (refusal bytes)
-    else if nat_lt cursor.place HEADER_LENGTH || nat_lt (length bytes) cursor.place then Some BadArgument
+    else if nat_lt cursor.place HEADER_LENGTH || nat_lt (length bytes) cursor.place
+    then Some BadArgument
     else None
 
 -- what `stunp_walk` answers of the attribute that it comes to, if there is one

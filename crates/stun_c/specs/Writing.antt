@@ -1,5 +1,7 @@
 -- What the calls that write a message make of the caller's buffer: bytes, or the first refusal.
-use Rattle.std.specs.Prelude.{ℕ, ◌-◌, ◌^◌, Bool, List, [], length, take, find, nat_lt, nat_le, not, ◌==◌, ◌&&◌, ◌||◌, if◌then◌else◌, is_some, Option, Some, None, Result, Ok, Err}
+use Rattle.std.specs.Prelude.{ℕ, ◌-◌, ◌^◌, Bool, List, [], length, take, find}
+use Rattle.std.specs.Prelude.{nat_lt, nat_le, not, ◌==◌, ◌&&◌, ◌||◌, if◌then◌else◌}
+use Rattle.std.specs.Prelude.{is_some, Option, Some, None, Result, Ok, Err}
 use Rattle.std.specs.Option.{option_or, option_map}
 use Rattle.std.specs.Str.{is_utf8}
 use Rattle.byteorder.specs.Endian.{big_bytes, big_number}
@@ -17,7 +19,9 @@ use Rattle.stun_types.specs.Visible.{visible}
 use Rattle.stun_types.specs.Writing.{is_set_apart, length_with, with_attribute, with_integrity}
 use Rattle.stun_types.specs.XorMappedAddress.{xor_bytes, xor_key, xor_port, xored_value}
 use Rattle.stun_c.specs.declared.codes.Refusal.{Refusal}
-use Rattle.stun_c.specs.declared.codes.Refusal.TheVariants.{BadArgument, NotText, TextTooLong, BufferTooSmall, NotAllowed, Closed, AttributeExists, MessageTooLong}
+use Rattle.stun_c.specs.declared.codes.Refusal.TheVariants.{BadArgument, NotText, TextTooLong}
+use Rattle.stun_c.specs.declared.codes.Refusal.TheVariants.{BufferTooSmall, NotAllowed, Closed}
+use Rattle.stun_c.specs.declared.codes.Refusal.TheVariants.{AttributeExists, MessageTooLong}
 use Rattle.stun_c.specs.Codes.{refusal_of_parse}
 use Rattle.stun_c.specs.Requests.{unless_refused}
 
@@ -25,7 +29,8 @@ use Rattle.stun_c.specs.Requests.{unless_refused}
 abbrev pub begun : ℕ → ℕ → List ℕ → Result (List ℕ) Refusal
 begun class method id =
     if nat_lt class 4 && nat_lt method 4096 && (length id == 12)
-    then Ok (spelled (type_number (class_of_bits class) method) (big_number 12 id) []) else Err BadArgument
+    then Ok (spelled (type_number (class_of_bits class) method) (big_number 12 id) [])
+    else Err BadArgument
 
 -- whether a message has an attribute after which no other may be added (sections 14.5 to 14.7)
 abbrev pub is_closed : List ℕ → Bool
@@ -42,7 +47,8 @@ base_refusal buffer count =
     else option_or (option_map refusal_of_parse (refusal (take count buffer)))
     (if is_closed (take count buffer) then Some Closed else None)
 
--- why a value of n bytes does not fit after a message with so much room: the length field, then the room
+-- why a value of n bytes does not fit after a message with so much room: the length field, then the
+-- room
 abbrev pub fit_refusal : List ℕ → ℕ → ℕ → Option Refusal
 fit_refusal message room n =
     if nat_lt max_length (length_with message n) then Some MessageTooLong
@@ -59,11 +65,13 @@ adding_refusal buffer count kind n =
 -- a message with an attribute more, after it in its buffer
 abbrev pub added : List ℕ → ℕ → ℕ → List ℕ → Result (List ℕ) Refusal
 added buffer count kind value =
-    unless_refused (adding_refusal buffer count kind (length value)) (with_attribute (take count buffer) (record { kind = kind; value = value }))
+    unless_refused (adding_refusal buffer count kind (length value))
+    (with_attribute (take count buffer) (record { kind = kind; value = value }))
 
 -- what `stunp_add` makes, of a type that must be a number of 16 bits
 abbrev pub added_number : List ℕ → ℕ → ℕ → List ℕ → Result (List ℕ) Refusal
-added_number buffer count kind value = if nat_lt kind 65536 then added buffer count kind value else Err BadArgument
+added_number buffer count kind value =
+    if nat_lt kind 65536 then added buffer count kind value else Err BadArgument
 
 -- the family of an address of so many octets (section 14.2)
 abbrev pub family_of_count : ℕ → ℕ
@@ -72,17 +80,24 @@ family_of_count count = if count == 4 then 1 else 2
 -- the value that hides an address under an id (section 14.2)
 unfoldable pub hidden_value : List ℕ → ℕ → ℕ → List ℕ
 hidden_value octets port id =
-    xored_value (record { family = family_of_count (length octets); port = xor_port port; octets = xor_bytes octets (xor_key id) })
+    xored_value
+    (record {
+      family = family_of_count (length octets);
+      port = xor_port port;
+      octets = xor_bytes octets (xor_key id);
+    })
 
 -- whether there are as many octets as an address has, and a port of 16 bits
 abbrev pub is_address : List ℕ → ℕ → Bool
 is_address octets port = nat_lt port 65536 && ((length octets == 4) || (length octets == 16))
 
--- what `stunp_add_xor_mapped_address` makes with its type: an attribute with a value as XOR-MAPPED-ADDRESS has it
+-- what `stunp_add_xor_mapped_address` makes with its type: an attribute with a value as
+-- XOR-MAPPED-ADDRESS has it
 abbrev pub added_address : List ℕ → ℕ → ℕ → List ℕ → ℕ → Result (List ℕ) Refusal
 added_address buffer count kind octets port =
     if is_address octets port
-    then added buffer count kind (hidden_value octets port (transaction_id_field (take count buffer))) else Err BadArgument
+    then added buffer count kind
+    (hidden_value octets port (transaction_id_field (take count buffer))) else Err BadArgument
 
 -- what `stunp_add_xor_address` makes, of a type that must be a number of 16 bits
 abbrev pub added_numbered_address : List ℕ → ℕ → ℕ → List ℕ → ℕ → Result (List ℕ) Refusal
@@ -91,12 +106,14 @@ added_numbered_address buffer count kind octets port =
 
 -- the value of an address that is not hidden (section 14.1): the same form
 abbrev pub plain_value : List ℕ → ℕ → List ℕ
-plain_value octets port = xored_value (record { family = family_of_count (length octets); port = port; octets = octets })
+plain_value octets port =
+    xored_value (record { family = family_of_count (length octets); port = port; octets = octets })
 
 -- what `stunp_add_address` makes, of a type that must be a number of 16 bits
 abbrev pub added_plain_address : List ℕ → ℕ → ℕ → List ℕ → ℕ → Result (List ℕ) Refusal
 added_plain_address buffer count kind octets port =
-    if is_address octets port then added_number buffer count kind (plain_value octets port) else Err BadArgument
+    if is_address octets port then added_number buffer count kind (plain_value octets port)
+    else Err BadArgument
 
 -- whether numbers are written in so many bytes
 abbrev pub is_size : ℕ → Bool
@@ -109,7 +126,8 @@ has_size size number = is_size size && nat_lt number (256 ^ size)
 -- what `stunp_add_number` makes: what `stunp_add` does, of the number in so many bytes
 abbrev pub added_sized : List ℕ → ℕ → ℕ → ℕ → ℕ → Result (List ℕ) Refusal
 added_sized buffer count kind size number =
-    if has_size size number then added_number buffer count kind (big_bytes size number) else Err BadArgument
+    if has_size size number then added_number buffer count kind (big_bytes size number)
+    else Err BadArgument
 
 -- why an error cannot be written: its code, then its reason (section 14.8)
 abbrev pub error_argument_refusal : ℕ → List ℕ → Option Refusal
@@ -126,14 +144,18 @@ unless (Some refusal) made = Err refusal
 -- what `stunp_add_error` makes
 abbrev pub added_error : List ℕ → ℕ → ℕ → List ℕ → Result (List ℕ) Refusal
 added_error buffer count code reason =
-    unless (error_argument_refusal code reason) (added buffer count ERROR_CODE (error_value (record { code = code; reason = reason })))
+    unless (error_argument_refusal code reason)
+    (added buffer count ERROR_CODE (error_value (record { code = code; reason = reason })))
 
 -- why an integrity attribute is not added, the first reason that holds
 abbrev pub signing_refusal : List ℕ → ℕ → IntegrityAlgorithm → Option Refusal
 signing_refusal buffer count algorithm =
-    option_or (base_refusal buffer count) (fit_refusal (take count buffer) (length buffer - count) (digest_length algorithm))
+    option_or (base_refusal buffer count)
+    (fit_refusal (take count buffer) (length buffer - count) (digest_length algorithm))
 
 -- what `stunp_sign` makes: the message with its integrity attribute (sections 14.5 and 14.6)
 abbrev pub signed : List ℕ → ℕ → Option IntegrityAlgorithm → List ℕ → Result (List ℕ) Refusal
 signed buffer count None key = Err BadArgument
-signed buffer count (Some algorithm) key = unless_refused (signing_refusal buffer count algorithm) (with_integrity (take count buffer) algorithm key)
+signed buffer count (Some algorithm) key =
+    unless_refused (signing_refusal buffer count algorithm)
+    (with_integrity (take count buffer) algorithm key)

@@ -4,7 +4,8 @@ ghost use Rattle.std.specs.Prelude.{◌≡◌, ◌≤◌, ◌<◌, ◌+◌, leng
 ghost use Rattle.stun_base.specs.Header.{transaction_id_field};
 ghost use Rattle.stun_types.specs.XorMappedAddress.{xor_bytes, xor_key};
 ghost use Rattle.stun_c.specs.Answers.{written_number, buffer_after};
-ghost use Rattle.stun_c.specs.Writing.{added, added_address, added_plain_address, base_refusal, hidden_value, is_address, plain_value};
+ghost use Rattle.stun_c.specs.Writing.{added, added_address, added_plain_address};
+ghost use Rattle.stun_c.specs.Writing.{base_refusal, hidden_value, is_address, plain_value};
 
 use crate::codes::Refusal;
 use crate::writing::{add, add_numbered, base_message};
@@ -79,7 +80,8 @@ fn is_address(octets: &[u8], port: u32) -> bool
     }
 }
 
-/// The transaction id of the message at the front of the buffer, where an attribute may be added to it.
+/// The transaction id of the message at the front of the buffer, where an attribute may be added to
+/// it.
 fn base_id(buffer: &[u8], count: usize) -> Result<TransactionId, Refusal>
     ensures ok { IfOk result (λ id. id ≡ transaction_id_field (take count buffer.now)) }
     ensures err { IfErr result (λ refusal. base_refusal buffer.now count ≡ Some refusal) }
@@ -88,7 +90,8 @@ fn base_id(buffer: &[u8], count: usize) -> Result<TransactionId, Refusal>
     Ok(message.transaction_id())
 }
 
-/// Adds an attribute of a type that hides these octets to the message in the first `count` bytes of the buffer.
+/// Adds an attribute of a type that hides these octets to the message in the first `count` bytes of
+/// the buffer.
 fn add_hidden(buffer: &mut [u8], count: usize, kind: AttributeType, octets: &[u8], port: u16) -> i64
     requires { length octets.now ≤ 16 }
     ensures answer { result ≡ written_number (added buffer.old count kind.0
@@ -107,8 +110,8 @@ fn add_hidden(buffer: &mut [u8], count: usize, kind: AttributeType, octets: &[u8
     }
 }
 
-/// Adds an attribute of a type with an address as XOR-MAPPED-ADDRESS has it to the message in the first `count` bytes of the
-/// buffer, and answers the new length or the number of the refusal.
+/// Adds an attribute of a type with an address as XOR-MAPPED-ADDRESS has it to the message in the
+/// first `count` bytes of the buffer, and answers the new length or the number of the refusal.
 pub fn add_address(
     buffer: &mut [u8],
     count: usize,

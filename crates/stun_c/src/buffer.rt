@@ -5,7 +5,8 @@ ghost use Rattle.stun_c.specs.Answers.{fitted, written_number, buffer_after};
 
 use crate::codes::Refusal;
 
-/// Copies the bytes to the front of the buffer and answers their number, or leaves it where it has fewer bytes.
+/// Copies the bytes to the front of the buffer and answers their number, or leaves it where it has
+/// fewer bytes.
 pub fn fill(buffer: &mut [u8], bytes: &[u8]) -> i64
     ensures answer { result ≡ written_number (fitted (Ok bytes.now) (length buffer.old)) }
     ensures written { buffer.new ≡ buffer_after

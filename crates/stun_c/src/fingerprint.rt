@@ -1,10 +1,12 @@
 //! FINGERPRINT, checked and added (RFC 8489, section 14.7).
 
-ghost use Rattle.std.specs.Prelude.{◌≡◌, ◌≤◌, ◌+◌, ◌++◌, length, pos, take, drop, IfErr, OnOk, Some, None};
+ghost use Rattle.std.specs.Prelude.{◌≡◌, ◌≤◌, ◌+◌, ◌++◌, length, pos};
+ghost use Rattle.std.specs.Prelude.{take, drop, IfErr, OnOk, Some, None};
 ghost use Rattle.stun_c.specs.Answers.{written_number, buffer_after};
 ghost use Rattle.stun_c.specs.code.Ended.{ended, fingerprint_after, fingerprint_value};
 ghost use Rattle.stun_c.specs.code.Room.{HasRoom};
-ghost use Rattle.stun_c.specs.Extra.{ending_refusal, fingerprint_answer, fingerprint_number, fingerprinted};
+ghost use Rattle.stun_c.specs.Extra.{ending_refusal, fingerprint_answer};
+ghost use Rattle.stun_c.specs.Extra.{fingerprint_number, fingerprinted};
 
 use crate::codes::Refusal;
 use crate::writing::{fits, set_length, shows_kind, spell};
@@ -39,7 +41,8 @@ pub fn check(message: &[u8]) -> i64
     }
 }
 
-/// Whether FINGERPRINT can be added to the message at the front of the buffer, or the first reason against it.
+/// Whether FINGERPRINT can be added to the message at the front of the buffer, or the first reason
+/// against it.
 fn endable(buffer: &[u8], count: usize) -> Result<(), Refusal>
     ensures ok { OnOk result (ending_refusal buffer.now count ≡ None) }
     ensures room { OnOk result (HasRoom count 4 (length buffer.now)) }
@@ -63,7 +66,8 @@ fn value_after(bytes: &[u8]) -> [u8; 4]
     (crc32(bytes) ^ FINGERPRINT_XOR).to_be_bytes()
 }
 
-/// Writes the FINGERPRINT after these bytes of a message to the front of a buffer that has room for it.
+/// Writes the FINGERPRINT after these bytes of a message to the front of a buffer that has room for
+/// it.
 fn spell_after(bytes: &[u8], buffer: &mut [u8])
     requires { 8 ≤ length buffer.old }
     ensures { buffer.new ≡ fingerprint_after bytes.now ++ drop 8 buffer.old }
@@ -72,8 +76,8 @@ fn spell_after(bytes: &[u8], buffer: &mut [u8])
     spell(buffer, AttributeType::FINGERPRINT, &value);
 }
 
-/// Raises the length field of the message at the front of the buffer and writes its FINGERPRINT after it. The answer is where
-/// that ends.
+/// Raises the length field of the message at the front of the buffer and writes its FINGERPRINT
+/// after it. The answer is where that ends.
 fn append(buffer: &mut [u8], count: usize) -> i64
     requires { HasRoom count 4 (length buffer.old) }
     ensures answer { result ≡ pos (count + 8) }
@@ -86,8 +90,8 @@ fn append(buffer: &mut [u8], count: usize) -> i64
     end as i64
 }
 
-/// Adds FINGERPRINT to the message in the first `count` bytes of the buffer, and answers the new length or the number of the
-/// refusal.
+/// Adds FINGERPRINT to the message in the first `count` bytes of the buffer, and answers the new
+/// length or the number of the refusal.
 pub fn add(buffer: &mut [u8], count: usize) -> i64
     ensures answer { result ≡ written_number (fingerprinted buffer.old count) }
     ensures written { buffer.new ≡ buffer_after (fingerprinted buffer.old count) buffer.old }

@@ -17,7 +17,8 @@ pub fn is_stun_packet(packet: &[u8]) -> i64
     if is_stun(packet) { 1 } else { 0 }
 }
 
-/// How many bytes the message has that bytes begin with, or its header, where these are not all there; or `NotStun`.
+/// How many bytes the message has that bytes begin with, or its header, where these are not all
+/// there; or `NotStun`.
 pub fn next_frame(bytes: &[u8]) -> i64
     ensures { result ≡ wanted_number (length bytes.now) (frame_of bytes.now) }
 {

@@ -11,8 +11,8 @@ use crate::text::text;
 use stun_base::algorithm::IntegrityAlgorithm;
 use stun_base::key::{md5_key_from_utf8, sha256_key_from_utf8, userhash};
 
-/// Copies the long-term key of a user at a realm for the algorithm of this number to the front of the buffer, and
-/// answers its length or the number of the refusal.
+/// Copies the long-term key of a user at a realm for the algorithm of this number to the front of
+/// the buffer, and answers its length or the number of the refusal.
 pub fn write_key(
     algorithm: u32,
     username: &[u8],

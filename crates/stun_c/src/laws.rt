@@ -1,6 +1,8 @@
-//! What `include/stunp.h` says of several calls: numbers of bytes, a whole walk, and what the calls over `stun_extra` refuse and write.
+//! What `include/stunp.h` says of several calls: numbers of bytes, a whole walk, and what the calls
+//! over `stun_extra` refuse and write.
 
-ghost use Rattle.std.specs.Prelude.{◌≡◌, ◌≤◌, ◌+◌, ℕ, ℤ, suc, List, [], ◌∷◌, drop, take, length, slice_get, cond, IfOk, Some};
+ghost use Rattle.std.specs.Prelude.{◌≡◌, ◌≤◌, ◌+◌, ℕ, ℤ, suc, List, [], ◌∷◌, drop};
+ghost use Rattle.std.specs.Prelude.{take, length, slice_get, cond, IfOk, Some};
 ghost use Rattle.std.specs.Option.{option_map};
 ghost use Rattle.stun_base.specs.Algorithm.{digest_length};
 ghost use Rattle.stun_base.specs.Attributes.{FINGERPRINT};
@@ -35,8 +37,8 @@ pub fn stated_lengths()
         ≡ 28 + padded_length (length username) + digest_length algorithm }
 {}
 
-/// Calls of `stunp_walk` on one message, from a cursor of zeros and each with the cursor that the one before left, come to the
-/// visible attributes, each once and in their order, and then to none.
+/// Calls of `stunp_walk` on one message, from a cursor of zeros and each with the cursor that the
+/// one before left, come to the visible attributes, each once and in their order, and then to none.
 pub fn a_walk_comes_to_what_is_visible()
     ensures { (bytes : List ℕ) (cursors : ℕ → Cursor) → (cursors 0).place ≡ 0
         → ((n : ℕ) → ahead (cursors (suc n)) bytes ≡ drop 1 (ahead (cursors n) bytes))
@@ -51,16 +53,16 @@ pub fn fingerprint_is_refused()
         (fit_refusal message room 4) }
 {}
 
-/// What `stunp_refuse_unknown` writes is spelled as any message: an error response with the method and the id of the request, its
-/// ERROR-CODE, and UNKNOWN-ATTRIBUTES.
+/// What `stunp_refuse_unknown` writes is spelled as any message: an error response with the method
+/// and the id of the request, its ERROR-CODE, and UNKNOWN-ATTRIBUTES.
 pub fn refusal_is_spelled()
     ensures { (request : List ℕ) (types : List AttributeType) → unknown_answer request types
         ≡ spelled (type_number MessageClass.Error (method_of (type_field request)))
         (transaction_id_field request) (error_420 ∷ types_attribute types ∷ []) }
 {}
 
-/// The value of the attribute at a place of a message is in the message, 4 bytes after the place: so is the text that
-/// `stunp_read_text` tells.
+/// The value of the attribute at a place of a message is in the message, 4 bytes after the place:
+/// so is the text that `stunp_read_text` tells.
 pub fn a_value_is_where_it_begins()
     ensures { (bytes : List ℕ) (place : ℕ) → IfOk (value_at bytes place)
         (λ value. take (length value) (drop (place + 4) bytes) ≡ value) }

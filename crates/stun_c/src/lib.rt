@@ -1,22 +1,34 @@
 //! The calls for programs in C and Rust, which `include/stunp.h` declares.
 //!
-//! Each calls the crates below, and its clause cites their definitions. None allocates, and calls share nothing.
+//! Each calls the crates below, and its clause cites their definitions. None allocates, and calls
+//! share nothing.
 #![tactic(auto)]
 
-ghost use Rattle.std.specs.Prelude.{◌≡◌, ◌↔◌, ◌⊎◌, drop, length, pos, slice_get, IfNone, IfSome, Ok};
+ghost use Rattle.std.specs.Prelude.{◌≡◌, ◌↔◌, ◌⊎◌, drop, length, pos};
+ghost use Rattle.std.specs.Prelude.{slice_get, IfNone, IfSome, Ok};
 ghost use Rattle.stun_base.specs.Attributes.{XOR_MAPPED_ADDRESS};
 ghost use Rattle.stun_base.specs.Header.{header_refusal};
 ghost use Rattle.stun_types.specs.Integrity.{first_of};
 ghost use Rattle.stun_types.specs.Message.{refusal};
 ghost use Rattle.stun_types.specs.Visible.{visible};
 ghost use Rattle.stun_extra.specs.Framing.{IsStunPacket, frame_of, packet_frame_of, turn_frame_of};
-ghost use Rattle.stun_c.specs.Answers.{parse_answer, verify_answer, fitted, written_number, buffer_after};
+ghost use Rattle.stun_c.specs.Answers.{parse_answer, verify_answer, fitted};
+ghost use Rattle.stun_c.specs.Answers.{written_number, buffer_after};
 ghost use Rattle.stun_c.specs.Codes.{algorithm_numbered, error_text};
-ghost use Rattle.stun_c.specs.Extra.{fingerprint_answer, fingerprinted, known_refusal, told_number, types_after, unknown_made, unknown_of, wanted_number, held_after, held_number, types_at};
-ghost use Rattle.stun_c.specs.Reading.{text_answer, text_at, text_length_after, address_at, octets_at, class_answer, method_answer, id_of_message, next_member, next_answer, number_after, error_answer, address_in, octets_of_message, plain_octets, plain_port_after, port_after, sized_after, sized_at, find_answer, finding_refusal, header_answer, header_after};
+ghost use Rattle.stun_c.specs.Extra.{fingerprint_answer, fingerprinted, known_refusal};
+ghost use Rattle.stun_c.specs.Extra.{told_number, types_after, unknown_made, unknown_of};
+ghost use Rattle.stun_c.specs.Extra.{wanted_number, held_after, held_number, types_at};
+ghost use Rattle.stun_c.specs.Reading.{text_answer, text_at, text_length_after, address_at};
+ghost use Rattle.stun_c.specs.Reading.{octets_at, class_answer, method_answer, id_of_message};
+ghost use Rattle.stun_c.specs.Reading.{next_member, next_answer, number_after, error_answer};
+ghost use Rattle.stun_c.specs.Reading.{address_in, octets_of_message, plain_octets};
+ghost use Rattle.stun_c.specs.Reading.{plain_port_after, port_after, sized_after, sized_at};
+ghost use Rattle.stun_c.specs.Reading.{find_answer, finding_refusal, header_answer, header_after};
 ghost use Rattle.stun_c.specs.Requests.{signed_request, key_of_texts, userhash_of_texts};
 ghost use Rattle.stun_c.specs.Walking.{ahead, cursor_refusal, walk_answer};
-ghost use Rattle.stun_c.specs.Writing.{begun, added_number, added_sized, added_address, added_numbered_address, added_plain_address, added_error, signed};
+ghost use Rattle.stun_c.specs.Writing.{begun, added_number, added_sized};
+ghost use Rattle.stun_c.specs.Writing.{added_address, added_numbered_address};
+ghost use Rattle.stun_c.specs.Writing.{added_plain_address, added_error, signed};
 
 mod address;
 mod buffer;
@@ -70,7 +82,8 @@ pub extern "C" fn stunp_verify(message: &[u8], key: &[u8]) -> i64
     }
 }
 
-/// Writes a Binding request with this id, USERNAME and integrity under the key, and answers its length.
+/// Writes a Binding request with this id, USERNAME and integrity under the key, and answers its
+/// length.
 #[unsafe(no_mangle)]
 pub extern "C" fn stunp_build_signed(
     algorithm: u32,
@@ -134,8 +147,8 @@ pub extern "C" fn stunp_version() -> i64
     200
 }
 
-/// The same, by a name that each release changes with what it breaks, so that a program that was compiled against another one does
-/// not link.
+/// The same, by a name that each release changes with what it breaks, so that a program that was
+/// compiled against another one does not link.
 #[unsafe(no_mangle)]
 pub extern "C" fn stunp_release_0_2() -> i64
     ensures { result ≡ pos 200 }
@@ -143,7 +156,8 @@ pub extern "C" fn stunp_release_0_2() -> i64
     200
 }
 
-/// Writes what an answer says, in English, with a zero byte at its end, and answers how many bytes there are.
+/// Writes what an answer says, in English, with a zero byte at its end, and answers how many bytes
+/// there are.
 #[unsafe(no_mangle)]
 pub extern "C" fn stunp_error_text(answer: i64, out: &mut [u8]) -> i64
     ensures answer { result ≡ written_number (fitted (Ok (error_text answer)) (length out.old)) }
@@ -190,8 +204,8 @@ pub extern "C" fn stunp_add_number(
     number::add_number(buffer, count, kind, number, size)
 }
 
-/// Adds an attribute of a type with an address, as MAPPED-ADDRESS has it, to the message in the first
-/// bytes of a buffer, and answers the new length.
+/// Adds an attribute of a type with an address, as MAPPED-ADDRESS has it, to the message in the
+/// first bytes of a buffer, and answers the new length.
 #[unsafe(no_mangle)]
 pub extern "C" fn stunp_add_address(
     buffer: &mut [u8],
@@ -208,7 +222,8 @@ pub extern "C" fn stunp_add_address(
     address::add_plain(buffer, count, kind, octets, port)
 }
 
-/// Adds an XOR-MAPPED-ADDRESS to the message in the first bytes of a buffer, and answers the new length.
+/// Adds an XOR-MAPPED-ADDRESS to the message in the first bytes of a buffer, and answers the new
+/// length.
 #[unsafe(no_mangle)]
 pub extern "C" fn stunp_add_xor_mapped_address(
     buffer: &mut [u8],
@@ -230,8 +245,8 @@ pub extern "C" fn stunp_add_xor_mapped_address(
     )
 }
 
-/// Adds an attribute of a type with an address, hidden as in XOR-MAPPED-ADDRESS, to the message in the first bytes of a buffer,
-/// and answers the new length.
+/// Adds an attribute of a type with an address, hidden as in XOR-MAPPED-ADDRESS, to the message in
+/// the first bytes of a buffer, and answers the new length.
 #[unsafe(no_mangle)]
 pub extern "C" fn stunp_add_xor_address(
     buffer: &mut [u8],
@@ -261,7 +276,8 @@ pub extern "C" fn stunp_add_error(buffer: &mut [u8], count: usize, code: u32, re
     writing::add_error(buffer, count, code, reason)
 }
 
-/// Adds the integrity attribute of an algorithm to the message in the first bytes of a buffer, and answers the new length.
+/// Adds the integrity attribute of an algorithm to the message in the first bytes of a buffer, and
+/// answers the new length.
 #[unsafe(no_mangle)]
 pub extern "C" fn stunp_sign(buffer: &mut [u8], count: usize, algorithm: u32, key: &[u8]) -> i64
     ensures answer { result ≡ written_number (signed buffer.old count
@@ -272,7 +288,8 @@ pub extern "C" fn stunp_sign(buffer: &mut [u8], count: usize, algorithm: u32, ke
     writing::sign(buffer, count, algorithm, key)
 }
 
-/// Writes what the header says that the bytes begin with, and answers 0, or why they begin with none.
+/// Writes what the header says that the bytes begin with, and answers 0, or why they begin with
+/// none.
 #[unsafe(no_mangle)]
 pub extern "C" fn stunp_read_header(bytes: &[u8], header: &mut Header) -> i64
     ensures answer { result ≡ header_answer bytes.now }
@@ -307,7 +324,8 @@ pub extern "C" fn stunp_id(message: &[u8], out: &mut [u8]) -> i64
     reading::id(message, out)
 }
 
-/// The place of the first visible attribute after a place, with its type and its value's length, or 0 where there is none.
+/// The place of the first visible attribute after a place, with its type and its value's length, or
+/// 0 where there is none.
 #[unsafe(no_mangle)]
 pub extern "C" fn stunp_next(
     message: &[u8],
@@ -325,8 +343,8 @@ pub extern "C" fn stunp_next(
     reading::next(message, place, kind, value_length)
 }
 
-/// The place of the first visible attribute that is before a cursor, with its type and its value's length, or 0 where there
-/// is none; the cursor goes past it.
+/// The place of the first visible attribute that is before a cursor, with its type and its value's
+/// length, or 0 where there is none; the cursor goes past it.
 #[unsafe(no_mangle)]
 pub extern "C" fn stunp_walk(
     message: &[u8],
@@ -351,7 +369,8 @@ pub extern "C" fn stunp_walk(
     walk::walk(message, cursor, kind, value_length)
 }
 
-/// The place of the first visible attribute of a type, with its value's length, or why there is none.
+/// The place of the first visible attribute of a type, with its value's length, or why there is
+/// none.
 #[unsafe(no_mangle)]
 pub extern "C" fn stunp_find(message: &[u8], kind: u32, value_length: &mut usize) -> i64
     ensures answer { result ≡ find_answer (finding_refusal kind message.now)
@@ -371,7 +390,8 @@ pub extern "C" fn stunp_error_code(message: &[u8]) -> i64
     reading::error_code(message)
 }
 
-/// Writes the address that a message reports, 4 or 16 octets, and its port, and answers how many octets there are.
+/// Writes the address that a message reports, 4 or 16 octets, and its port, and answers how many
+/// octets there are.
 #[unsafe(no_mangle)]
 pub extern "C" fn stunp_xor_mapped_address(message: &[u8], out: &mut [u8], port: &mut u16) -> i64
     ensures answer { result ≡ written_number (fitted (octets_of_message message.now)
@@ -384,8 +404,8 @@ pub extern "C" fn stunp_xor_mapped_address(message: &[u8], out: &mut [u8], port:
     reading::mapped_address(message, out, port)
 }
 
-/// Writes the address in the attribute at a place of a message, hidden as in XOR-MAPPED-ADDRESS, 4 or 16 octets, and its port,
-/// and answers how many octets there are.
+/// Writes the address in the attribute at a place of a message, hidden as in XOR-MAPPED-ADDRESS, 4
+/// or 16 octets, and its port, and answers how many octets there are.
 #[unsafe(no_mangle)]
 pub extern "C" fn stunp_read_xor_address(
     message: &[u8],
@@ -423,7 +443,8 @@ pub extern "C" fn stunp_read_address(
     reading::plain_at(message, place, out, port)
 }
 
-/// Writes the number in the attribute at a place of a message, 1, 2, 4 or 8 bytes, and answers how many they are.
+/// Writes the number in the attribute at a place of a message, 1, 2, 4 or 8 bytes, and answers how
+/// many they are.
 #[unsafe(no_mangle)]
 pub extern "C" fn stunp_read_number(message: &[u8], place: usize, number: &mut u64) -> i64
     ensures answer { result ≡ written_number (sized_at message.now place) }
@@ -442,7 +463,8 @@ pub extern "C" fn stunp_read_text(message: &[u8], place: usize, text_length: &mu
     value::read_text(message, place, text_length)
 }
 
-/// How many types the attribute at a place of a message holds, as UNKNOWN-ATTRIBUTES does; the first of them are written.
+/// How many types the attribute at a place of a message holds, as UNKNOWN-ATTRIBUTES does; the
+/// first of them are written.
 #[unsafe(no_mangle)]
 pub extern "C" fn stunp_read_types(message: &[u8], place: usize, types: &mut [u16]) -> i64
     ensures answer { result ≡ held_number (types_at message.now place) }
@@ -451,7 +473,8 @@ pub extern "C" fn stunp_read_types(message: &[u8], place: usize, types: &mut [u1
     value::read_types(message, place, types)
 }
 
-/// What the FINGERPRINT of a message is: 0 where it has none, 1 right, 2 wrong, 3 misplaced, or why the bytes are no message.
+/// What the FINGERPRINT of a message is: 0 where it has none, 1 right, 2 wrong, 3 misplaced, or why
+/// the bytes are no message.
 #[unsafe(no_mangle)]
 pub extern "C" fn stunp_check_fingerprint(message: &[u8]) -> i64
     ensures { result ≡ fingerprint_answer message.now }
@@ -468,7 +491,8 @@ pub extern "C" fn stunp_add_fingerprint(buffer: &mut [u8], count: usize) -> i64
     fingerprint::add(buffer, count)
 }
 
-/// How many types a message has that must be understood and are not among the known; the first of them are written.
+/// How many types a message has that must be understood and are not among the known; the first of
+/// them are written.
 #[unsafe(no_mangle)]
 pub extern "C" fn stunp_unknown_types(message: &[u8], known: &[u16], types: &mut [u16]) -> i64
     ensures answer { result ≡ told_number (known_refusal message.now known.now)
@@ -479,7 +503,8 @@ pub extern "C" fn stunp_unknown_types(message: &[u8], known: &[u16], types: &mut
     unknown::types(message, known, types)
 }
 
-/// Writes the answer 420 to a request that has such types, and answers its length, or 0 where it has none.
+/// Writes the answer 420 to a request that has such types, and answers its length, or 0 where it
+/// has none.
 #[unsafe(no_mangle)]
 pub extern "C" fn stunp_refuse_unknown(request: &[u8], known: &[u16], out: &mut [u8]) -> i64
     ensures answer { result ≡ written_number (fitted (unknown_made request.now known.now)
@@ -499,7 +524,8 @@ pub extern "C" fn stunp_is_stun(packet: &[u8]) -> i64
     framing::is_stun_packet(packet)
 }
 
-/// How many bytes the message has that a stream begins with, or its header, where that is not whole, or why it is none.
+/// How many bytes the message has that a stream begins with, or its header, where that is not
+/// whole, or why it is none.
 #[unsafe(no_mangle)]
 pub extern "C" fn stunp_next_frame(bytes: &[u8]) -> i64
     ensures { result ≡ wanted_number (length bytes.now) (frame_of bytes.now) }

@@ -1,14 +1,21 @@
-//! Messages read: their fields, their attributes by place, and the error and the address that they report.
+//! Messages read: their fields, their attributes by place, and the error and the address that they
+//! report.
 
-ghost use Rattle.std.specs.Prelude.{◌≡◌, ◌≤◌, ℕ, length, IfOk, IfErr, IfSome, IfNone, IsOkAnd, OnOk, Some, None, Ok, Err, slice_index, true};
+ghost use Rattle.std.specs.Prelude.{◌≡◌, ◌≤◌, ℕ, length, IfOk, IfErr, IfSome, IfNone};
+ghost use Rattle.std.specs.Prelude.{IsOkAnd, OnOk, Some, None, Ok, Err, slice_index, true};
 ghost use Rattle.stun_base.specs.Header.{transaction_id_field};
 ghost use Rattle.stun_types.specs.Integrity.{first_of as first_member_of};
 ghost use Rattle.stun_types.specs.Message.{refusal};
 ghost use Rattle.stun_types.specs.Visible.{visible};
-ghost use Rattle.stun_types.specs.XorMappedAddress.{has_octets, xor_bytes, xor_key, xor_port, xored_of};
+ghost use Rattle.stun_types.specs.XorMappedAddress.{has_octets, xor_bytes};
+ghost use Rattle.stun_types.specs.XorMappedAddress.{xor_key, xor_port, xored_of};
 ghost use Rattle.stun_c.specs.Answers.{fitted, written_number, buffer_after};
 ghost use Rattle.stun_c.specs.Codes.{refusal_of_attribute};
-ghost use Rattle.stun_c.specs.Reading.{address_at, octets_at, class_answer, method_answer, id_of_message, next_member, next_answer, number_after, error_in, error_answer, address_in, octets_of_message, plain_octets, plain_port_after, port_after, shown_octets, find_answer, finding_refusal};
+ghost use Rattle.stun_c.specs.Reading.{address_at, octets_at, class_answer, method_answer};
+ghost use Rattle.stun_c.specs.Reading.{id_of_message, next_member, next_answer, number_after};
+ghost use Rattle.stun_c.specs.Reading.{error_in, error_answer, address_in, octets_of_message};
+ghost use Rattle.stun_c.specs.Reading.{plain_octets, plain_port_after, port_after};
+ghost use Rattle.stun_c.specs.Reading.{shown_octets, find_answer, finding_refusal};
 
 use crate::address::{IPV4, IPV6, PORT_KEY, xor_key, xor_with};
 use crate::buffer::fill;
@@ -53,7 +60,8 @@ fn id_bytes(message: &[u8]) -> Result<&[u8], Refusal>
     Ok(&message.as_bytes()[8..20])
 }
 
-/// Copies the transaction id of a message to the front of the buffer, and answers its length or the number of the refusal.
+/// Copies the transaction id of a message to the front of the buffer, and answers its length or the
+/// number of the refusal.
 pub fn id(message: &[u8], out: &mut [u8]) -> i64
     ensures answer { result ≡ written_number (fitted (id_of_message message.now) (length out.old)) }
     ensures written { out.new ≡ buffer_after (fitted (id_of_message message.now)
@@ -73,8 +81,8 @@ fn member_after<'a>(message: &Message<'a>, place: usize) -> Option<(usize, RawAt
     message.iter_attributes().find(|found| place < found.0)
 }
 
-/// The place of the first visible attribute that comes after a place, or 0, or the number of the refusal. Its type and the
-/// length of its value are written.
+/// The place of the first visible attribute that comes after a place, or 0, or the number of the
+/// refusal. Its type and the length of its value are written.
 pub fn next(message: &[u8], place: usize, kind: &mut u16, value_length: &mut usize) -> i64
     ensures answer { result ≡ next_answer message.now place }
     ensures kind { kind.new ≡ number_after (λ a. a.kind) (refusal message.now)
@@ -151,7 +159,8 @@ fn first_of<'a>(message: &Message<'a>, kind: AttributeType) -> Option<(usize, Ra
         .find(|found| found.1.get_type() == kind)
 }
 
-/// The place of the first visible attribute of a type, or the number of the refusal. The length of its value is written.
+/// The place of the first visible attribute of a type, or the number of the refusal. The length of
+/// its value is written.
 pub fn find(message: &[u8], kind: u32, value_length: &mut usize) -> i64
     ensures answer { result ≡ find_answer (finding_refusal kind message.now)
         (first_member_of kind (visible message.now)) }
@@ -194,7 +203,8 @@ fn hidden_parts<'a>(attribute: &RawAttribute<'a>) -> Option<(u16, &'a [u8])>
     Some((BigEndian::read_u16(&value[2..]), &value[4..]))
 }
 
-/// The port and the octets of the address that a message reports, still hidden, or why it reports none.
+/// The port and the octets of the address that a message reports, still hidden, or why it reports
+/// none.
 fn address_in<'a>(message: &Message<'a>) -> Result<(u16, &'a [u8]), Refusal>
     ensures ok { IfOk result (λ parts. (id : ℕ)
         → shown_octets (address_in message.now) id ≡ Ok (xor_bytes parts.1.now (xor_key id))) }
@@ -212,7 +222,8 @@ fn address_in<'a>(message: &Message<'a>) -> Result<(u16, &'a [u8]), Refusal>
     }
 }
 
-/// The port and the octets of the address that a message reports, shown in a place for sixteen, or why it reports none.
+/// The port and the octets of the address that a message reports, shown in a place for sixteen, or
+/// why it reports none.
 fn shown_in<'a>(message: &Message<'_>, place: &'a mut [u8]) -> Result<(u16, &'a [u8]), Refusal>
     requires { length place.old ≡ 16 }
     ensures ok { IfOk result (λ parts. shown_octets (address_in message.now)
@@ -241,8 +252,8 @@ fn shown_address<'a>(message: &[u8], place: &'a mut [u8]) -> Result<(u16, &'a [u
     shown_in(&message, place)
 }
 
-/// Copies the octets of the address that a message reports to the front of the buffer and its port to the caller's, and
-/// answers how many octets there are or the number of the refusal.
+/// Copies the octets of the address that a message reports to the front of the buffer and its port
+/// to the caller's, and answers how many octets there are or the number of the refusal.
 pub fn mapped_address(message: &[u8], out: &mut [u8], port: &mut u16) -> i64
     ensures answer { result ≡ written_number (fitted (octets_of_message message.now)
         (length out.old)) }
@@ -264,7 +275,8 @@ pub fn mapped_address(message: &[u8], out: &mut [u8], port: &mut u16) -> i64
     }
 }
 
-/// The port and the octets in the attribute at a place of a message, still hidden, or why there are none.
+/// The port and the octets in the attribute at a place of a message, still hidden, or why there are
+/// none.
 #[tactic(auto, using(crate::proofs::Members::header_before))]
 fn hidden_at(message: &[u8], place: usize) -> Result<(u16, &[u8]), Refusal>
     ensures ok { IfOk result (λ parts. octets_at message.now place
@@ -309,7 +321,8 @@ fn key_in(message: &[u8]) -> [u8; 16]
     xor_key(id)
 }
 
-/// The port and the octets in the attribute at a place of a message, shown in a place for sixteen, or why there are none.
+/// The port and the octets in the attribute at a place of a message, shown in a place for sixteen,
+/// or why there are none.
 fn shown_at<'a>(
     message: &[u8],
     place: usize,
@@ -328,8 +341,9 @@ fn shown_at<'a>(
     Ok((port ^ PORT_KEY, shown))
 }
 
-/// Copies the octets of the address in the attribute at a place of a message to the front of the buffer and its port to the
-/// caller's, and answers how many octets there are or the number of the refusal.
+/// Copies the octets of the address in the attribute at a place of a message to the front of the
+/// buffer and its port to the caller's, and answers how many octets there are or the number of the
+/// refusal.
 pub fn address_at(message: &[u8], place: usize, out: &mut [u8], port: &mut u16) -> i64
     ensures answer { result ≡ written_number (fitted (octets_at message.now place)
         (length out.old)) }

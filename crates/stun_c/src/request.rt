@@ -15,7 +15,8 @@ use stun_types::attribute::Username;
 use stun_types::message::{Message, MessageWriteMutSlice};
 use stun_types::prelude::*;
 
-/// The bytes of the longest request: a header, a USERNAME of 513 bytes with its padding, and a digest of 32 bytes.
+/// The bytes of the longest request: a header, a USERNAME of 513 bytes with its padding, and a
+/// digest of 32 bytes.
 pub const LONGEST_REQUEST: usize = 20 + 4 + 516 + 4 + 32;
 
 /// The id in 12 bytes, or `BadArgument` where they are more or fewer.
@@ -30,7 +31,8 @@ pub fn transaction_id(bytes: &[u8]) -> Result<TransactionId, Refusal>
     Ok(TransactionId::from_u128(BigEndian::read_uint128(bytes, 12)).unwrap())
 }
 
-/// The user name in these bytes: `NotText` where they are not UTF-8, `TextTooLong` where they are more than 513.
+/// The user name in these bytes: `NotText` where they are not UTF-8, `TextTooLong` where they are
+/// more than 513.
 fn username(bytes: &[u8]) -> Result<Username<'_>, Refusal>
     ensures ok { IfOk result (λ username. (username_refusal bytes.now ≡ None)
         × (username ≡ bytes.now)) }
@@ -43,8 +45,8 @@ fn username(bytes: &[u8]) -> Result<Username<'_>, Refusal>
     }
 }
 
-/// Writes a Binding request with this id, USERNAME and integrity under the key, to a buffer that has room for the
-/// longest one.
+/// Writes a Binding request with this id, USERNAME and integrity under the key, to a buffer that
+/// has room for the longest one.
 #[tactic(auto, using(crate::proofs::Sizes::request_length, crate::proofs::Sizes::signing_fits))]
 pub fn signed_request<'a>(
     algorithm: u32,

@@ -1,6 +1,8 @@
-//! Types of attributes that must be understood and that a caller does not know (RFC 8489, sections 6.3.1 and 14.13).
+//! Types of attributes that must be understood and that a caller does not know (RFC 8489, sections
+//! 6.3.1 and 14.13).
 
-ghost use Rattle.std.specs.Prelude.{◌≡◌, ◌≤◌, ◌<◌, ◌+◌, ◌*◌, ◌++◌, ◌^◌, length, pos, take, drop, set, IfOk, IfErr, OnOk, Some, None, Ok, Err};
+ghost use Rattle.std.specs.Prelude.{◌≡◌, ◌≤◌, ◌<◌, ◌+◌, ◌*◌, ◌++◌, ◌^◌, length, pos, take};
+ghost use Rattle.std.specs.Prelude.{drop, set, IfOk, IfErr, OnOk, Some, None, Ok, Err};
 ghost use Rattle.byteorder.specs.Endian.{big_bytes};
 ghost use Rattle.stun_base.specs.declared.wire.message_type.MessageClass.{MessageClass};
 ghost use Rattle.stun_types.specs.Attribute.{attribute_length};
@@ -9,7 +11,9 @@ ghost use Rattle.stun_types.specs.Writing.{empty_answer, with_attribute};
 ghost use Rattle.stun_extra.specs.Unknown.{spelled_types, types_of, unknown_types};
 ghost use Rattle.stun_c.specs.Answers.{fitted, written_number, buffer_after};
 ghost use Rattle.stun_c.specs.code.Room.{HasRoom};
-ghost use Rattle.stun_c.specs.Extra.{answer_made, error_420, known_refusal, numbers_after, refused_front, told_number, types_after, types_attribute, unknown_answer, unknown_made, unknown_of};
+ghost use Rattle.stun_c.specs.Extra.{answer_made, error_420, known_refusal, numbers_after};
+ghost use Rattle.stun_c.specs.Extra.{refused_front, told_number, types_after, types_attribute};
+ghost use Rattle.stun_c.specs.Extra.{unknown_answer, unknown_made, unknown_of};
 
 use crate::codes::{Refusal, class_number};
 use crate::writing::{append, set_length, write_error, write_header, write_zeros};
@@ -33,7 +37,8 @@ fn copy_types(types: &mut [AttributeType], numbers: &[u16])
     }
 }
 
-/// The types of these numbers, in a place that has room for the most, or `BadArgument` where they are more.
+/// The types of these numbers, in a place that has room for the most, or `BadArgument` where they
+/// are more.
 fn known_types<'a>(
     numbers: &[u16],
     place: &'a mut [AttributeType],
@@ -61,7 +66,8 @@ pub fn put(numbers: &mut [u16], place: usize, number: u16)
     }
 }
 
-/// Writes the unknown types of a message to the front of the caller's, as many as have room, and returns how many there are.
+/// Writes the unknown types of a message to the front of the caller's, as many as have room, and
+/// returns how many there are.
 #[tactic(auto, using(crate::proofs::Told::told_next, crate::proofs::Told::left_next))]
 fn tell(message: &Message<'_>, known: &[AttributeType], types: &mut [u16]) -> usize
     ensures count { result ≡ length (unknown_types known.now message.now) }
@@ -92,7 +98,8 @@ fn readable<'a, 'b>(
     Ok((message, known))
 }
 
-/// How many unknown types a message has, and as many of them as have room, or the number of the refusal.
+/// How many unknown types a message has, and as many of them as have room, or the number of the
+/// refusal.
 pub fn types(message: &[u8], known: &[u16], types: &mut [u16]) -> i64
     ensures answer { result ≡ told_number (known_refusal message.now known.now)
         (unknown_of message.now known.now) }
@@ -158,7 +165,8 @@ fn put_type(place: &mut [u8], end: usize, kind: AttributeType)
     place[end..end + 2].copy_from_slice(&kind.value().to_be_bytes());
 }
 
-/// Writes the types of a message that are unknown, 2 bytes each, to a place that has room for just these.
+/// Writes the types of a message that are unknown, 2 bytes each, to a place that has room for just
+/// these.
 #[tactic(auto, using(crate::proofs::Told::spelled_next))]
 fn write_types(message: &Message<'_>, known: &[AttributeType], place: &mut [u8])
     requires { length place.old ≡ 2 * length (unknown_types known.now message.now) }
@@ -171,7 +179,8 @@ fn write_types(message: &Message<'_>, known: &[AttributeType], place: &mut [u8])
     }
 }
 
-/// Writes UNKNOWN-ATTRIBUTES with its header and its padding to the front of a buffer that has room for it.
+/// Writes UNKNOWN-ATTRIBUTES with its header and its padding to the front of a buffer that has room
+/// for it.
 fn spell_types(message: &Message<'_>, known: &[AttributeType], count: usize, buffer: &mut [u8])
     requires count { count ≡ length (unknown_types known.now message.now) }
     requires few { count < 2 ^ 14 }
@@ -188,7 +197,8 @@ fn spell_types(message: &Message<'_>, known: &[AttributeType], count: usize, buf
     write_zeros(padding);
 }
 
-/// Raises the length field after the front of an answer, and writes UNKNOWN-ATTRIBUTES there. The answer is where that ends.
+/// Raises the length field after the front of an answer, and writes UNKNOWN-ATTRIBUTES there. The
+/// answer is where that ends.
 fn append_types(message: &Message<'_>, known: &[AttributeType], count: usize, out: &mut [u8]) -> i64
     requires count { count ≡ length (unknown_types known.now message.now) }
     requires few { count < 2 ^ 14 }
@@ -205,8 +215,8 @@ fn append_types(message: &Message<'_>, known: &[AttributeType], count: usize, ou
     end as i64
 }
 
-/// Writes the answer to a request with so many unknown types to the front of a buffer, and answers its length or that it has no
-/// room.
+/// Writes the answer to a request with so many unknown types to the front of a buffer, and answers
+/// its length or that it has no room.
 #[tactic(auto, using(crate::proofs::Refused::answer_refused))]
 fn write_answer(request: &Message<'_>, known: &[AttributeType], count: usize, out: &mut [u8]) -> i64
     requires count { count ≡ length (unknown_types known.now request.now) }
@@ -231,8 +241,8 @@ fn count_types(message: &Message<'_>, known: &[AttributeType]) -> usize
     unknown_types(message, known).count()
 }
 
-/// Writes the answer to a message, which must be a request, to the front of the buffer, and answers its length, or 0 where it
-/// has no unknown type.
+/// Writes the answer to a message, which must be a request, to the front of the buffer, and answers
+/// its length, or 0 where it has no unknown type.
 fn answer(message: &Message<'_>, known: &[AttributeType], out: &mut [u8]) -> i64
     ensures answer { result ≡ written_number (fitted (answer_made message.now
         (unknown_types known.now message.now)) (length out.old)) }
@@ -249,8 +259,8 @@ fn answer(message: &Message<'_>, known: &[AttributeType], out: &mut [u8]) -> i64
     write_answer(message, known, count, out)
 }
 
-/// Writes the answer to a request that has unknown types to the front of the buffer, and answers its length, or 0 where it has
-/// none, or the number of the refusal.
+/// Writes the answer to a request that has unknown types to the front of the buffer, and answers
+/// its length, or 0 where it has none, or the number of the refusal.
 pub fn refuse(request: &[u8], known: &[u16], out: &mut [u8]) -> i64
     ensures answer { result ≡ written_number (fitted (unknown_made request.now known.now)
         (length out.old)) }

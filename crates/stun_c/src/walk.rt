@@ -1,6 +1,7 @@
 //! A walk over the visible attributes of a message, which reads each of its attributes once.
 
-ghost use Rattle.std.specs.Prelude.{◌≡◌, ◌≤◌, length, drop, max, true, false, slice_get, IfOk, IfErr, OnOk, IfSome, IfNone, OnSome, Some, None};
+ghost use Rattle.std.specs.Prelude.{◌≡◌, ◌≤◌, length, drop, max, true, false, slice_get};
+ghost use Rattle.std.specs.Prelude.{IfOk, IfErr, OnOk, IfSome, IfNone, OnSome, Some, None};
 ghost use Rattle.stun_types.specs.Attribute.{first_attribute, has_attribute};
 ghost use Rattle.stun_types.specs.Walk.{walk_from};
 ghost use Rattle.stun_c.specs.Reading.{number_after};
@@ -19,8 +20,8 @@ use stun_types::message::Message;
 pub struct Cursor {
     /// Where the next attribute begins, or 0.
     pub place: usize,
-    /// How much the attributes hide that were passed: 1 after MESSAGE-INTEGRITY, 2 after MESSAGE-INTEGRITY-SHA256, 3 after
-    /// FINGERPRINT, the greatest of these, or 0.
+    /// How much the attributes hide that were passed: 1 after MESSAGE-INTEGRITY, 2 after
+    /// MESSAGE-INTEGRITY-SHA256, 3 after FINGERPRINT, the greatest of these, or 0.
     pub hidden: u32,
 }
 
@@ -72,7 +73,8 @@ pub fn attribute_at(message: &[u8], place: usize) -> Option<RawAttribute<'_>>
     Some(RawAttribute::new(kind, &bytes[ATTRIBUTE_HEADER_LENGTH..][..length]))
 }
 
-/// The first attribute that is visible from a cursor, with its place. The cursor comes to stand after it, or at the end.
+/// The first attribute that is visible from a cursor, with its place. The cursor comes to stand
+/// after it, or at the end.
 fn advance<'a>(message: &'a [u8], cursor: &mut Cursor) -> Option<(usize, RawAttribute<'a>)>
     requires behind { 20 ≤ cursor.old.place }
     requires within { cursor.old.place ≤ length message.now }
@@ -97,7 +99,8 @@ fn advance<'a>(message: &'a [u8], cursor: &mut Cursor) -> Option<(usize, RawAttr
     None
 }
 
-/// The cursor at which a walk goes on: that of the caller, or for one at 0 that after the header of a message.
+/// The cursor at which a walk goes on: that of the caller, or for one at 0 that after the header of
+/// a message.
 #[tactic(auto, using(crate::proofs::Walking::shown_visible))]
 fn begun(message: &[u8], cursor: Cursor) -> Result<Cursor, Refusal>
     ensures ok { IfOk result (λ begun. shown begun.hidden (walk_from begun.place message.now)
@@ -120,8 +123,8 @@ fn begun(message: &[u8], cursor: Cursor) -> Result<Cursor, Refusal>
     Ok(cursor)
 }
 
-/// The place of the first visible attribute that is before a cursor, or 0, or the number of the refusal. Its type and the
-/// length of its value are written, and the cursor goes past it.
+/// The place of the first visible attribute that is before a cursor, or 0, or the number of the
+/// refusal. Its type and the length of its value are written, and the cursor goes past it.
 pub fn walk(message: &[u8], cursor: &mut Cursor, kind: &mut u16, value_length: &mut usize) -> i64
     ensures answer { result ≡ walk_answer (cursor_refusal cursor.old message.now)
         (slice_get (ahead cursor.old message.now) 0) }

@@ -1,6 +1,8 @@
 //! Messages written in the caller's buffer, an attribute at a time.
 
-ghost use Rattle.std.specs.Prelude.{◌≡◌, ◌≤◌, ◌<◌, ℕ, List, pos, nat_lt, Ok, Err, ◌+◌, ◌-◌, ◌++◌, length, take, drop, find, replicate, IfOk, IfErr, OnOk, Some, None, is_some, true, false};
+ghost use Rattle.std.specs.Prelude.{◌≡◌, ◌≤◌, ◌<◌, ℕ, List, pos, nat_lt, Ok, Err, ◌+◌};
+ghost use Rattle.std.specs.Prelude.{◌-◌, ◌++◌, length, take, drop, find, replicate};
+ghost use Rattle.std.specs.Prelude.{IfOk, IfErr, OnOk, Some, None, is_some, true, false};
 ghost use Rattle.byteorder.specs.Endian.{big_bytes};
 ghost use Rattle.stun_base.specs.Algorithm.{digest, digest_length};
 ghost use Rattle.stun_base.specs.MessageType.{class_of_bits};
@@ -9,11 +11,14 @@ ghost use Rattle.stun_types.specs.Attribute.{attribute_length};
 ghost use Rattle.stun_types.specs.Grammar.{spelled_attribute};
 ghost use Rattle.stun_types.specs.Limits.{TEXT_LIMIT, max_length};
 ghost use Rattle.stun_types.specs.Message.{with_length};
-ghost use Rattle.stun_types.specs.Writing.{is_set_apart, integrity_kind, with_attribute, with_integrity};
+ghost use Rattle.stun_types.specs.Writing.{is_set_apart, integrity_kind};
+ghost use Rattle.stun_types.specs.Writing.{with_attribute, with_integrity};
 ghost use Rattle.stun_c.specs.Answers.{fitted, written_number, buffer_after};
 ghost use Rattle.stun_c.specs.Codes.{algorithm_numbered};
 ghost use Rattle.stun_c.specs.code.Room.{HasRoom};
-ghost use Rattle.stun_c.specs.Writing.{begun, base_refusal, fit_refusal, adding_refusal, signing_refusal, added, added_number, added_error, error_argument_refusal, signed, is_closed, shows_kind};
+ghost use Rattle.stun_c.specs.Writing.{begun, base_refusal, fit_refusal, adding_refusal};
+ghost use Rattle.stun_c.specs.Writing.{signing_refusal, added, added_number, added_error};
+ghost use Rattle.stun_c.specs.Writing.{error_argument_refusal, signed, is_closed, shows_kind};
 
 use crate::buffer::fill;
 use crate::codes::{Refusal, algorithm_numbered};
@@ -76,7 +81,8 @@ pub fn base_message(buffer: &[u8], count: usize) -> Result<Message<'_>, Refusal>
     Ok(message)
 }
 
-/// Whether a value of so many bytes fits after a message with so much room: the length field first, then the room.
+/// Whether a value of so many bytes fits after a message with so much room: the length field first,
+/// then the room.
 pub fn fits(message: &Message<'_>, room: usize, value_length: usize) -> Result<(), Refusal>
     ensures ok { OnOk result (fit_refusal message.now room value_length ≡ None) }
     ensures header { OnOk result (20 ≤ length message.now) }
@@ -144,7 +150,8 @@ pub fn write_zeros(padding: &mut [u8])
     padding.fill(0);
 }
 
-/// Writes an attribute with its header and its padding to the front of a buffer that has room for it.
+/// Writes an attribute with its header and its padding to the front of a buffer that has room for
+/// it.
 pub fn spell(buffer: &mut [u8], kind: AttributeType, value: &[u8])
     requires short { length value.now ≤ max_length }
     requires room { attribute_length (length value.now) ≤ length buffer.old }
@@ -160,8 +167,8 @@ pub fn spell(buffer: &mut [u8], kind: AttributeType, value: &[u8])
     write_zeros(padding);
 }
 
-/// Raises the length field of the message at the front of the buffer and writes the attribute after it. The answer is
-/// where that ends.
+/// Raises the length field of the message at the front of the buffer and writes the attribute after
+/// it. The answer is where that ends.
 pub(crate) fn append(buffer: &mut [u8], count: usize, kind: AttributeType, value: &[u8]) -> i64
     requires { HasRoom count (length value.now) (length buffer.old) }
     ensures answer { result ≡ pos (count + attribute_length (length value.now)) }
@@ -176,8 +183,8 @@ pub(crate) fn append(buffer: &mut [u8], count: usize, kind: AttributeType, value
     end as i64
 }
 
-/// Adds an attribute to the message in the first `count` bytes of the buffer, and answers the new length or the number
-/// of the refusal.
+/// Adds an attribute to the message in the first `count` bytes of the buffer, and answers the new
+/// length or the number of the refusal.
 pub fn add(buffer: &mut [u8], count: usize, kind: AttributeType, value: &[u8]) -> i64
     ensures answer { result ≡ written_number (added buffer.old count kind.0 value.now) }
     ensures written { buffer.new ≡ buffer_after
@@ -236,8 +243,8 @@ fn digest_sha256(key: &[u8], text: &[u8]) -> [u8; SHA256_LENGTH]
     hmac_sha256(key, &[text])
 }
 
-/// Raises the length field of the message at the front of the buffer and writes its integrity attribute after it. The
-/// answer is where that ends.
+/// Raises the length field of the message at the front of the buffer and writes its integrity
+/// attribute after it. The answer is where that ends.
 fn append_integrity(
     buffer: &mut [u8],
     count: usize,
@@ -256,7 +263,8 @@ fn append_integrity(
     end as i64
 }
 
-/// The algorithm of this number, where its attribute can be added to the message at the front of the buffer.
+/// The algorithm of this number, where its attribute can be added to the message at the front of
+/// the buffer.
 fn signable(buffer: &[u8], count: usize, algorithm: u32) -> Result<IntegrityAlgorithm, Refusal>
     ensures ok { IfOk result (λ algorithm'. (algorithm_numbered algorithm ≡ Some algorithm')
         × (signing_refusal buffer.now count algorithm' ≡ None)
@@ -270,8 +278,8 @@ fn signable(buffer: &[u8], count: usize, algorithm: u32) -> Result<IntegrityAlgo
     Ok(algorithm)
 }
 
-/// Adds the integrity attribute to the message in the first `count` bytes of the buffer, and answers the new length or
-/// the number of the refusal.
+/// Adds the integrity attribute to the message in the first `count` bytes of the buffer, and
+/// answers the new length or the number of the refusal.
 pub fn sign(buffer: &mut [u8], count: usize, algorithm: u32, key: &[u8]) -> i64
     ensures answer { result ≡ written_number (signed buffer.old count
         (algorithm_numbered algorithm) key.now) }
@@ -326,7 +334,8 @@ fn header<'a>(class: u32, method: u32, id: &[u8], buffer: &'a mut [u8]) -> Resul
     Ok(writer.finish())
 }
 
-/// Writes a message without attributes to the front of the buffer, and answers its length or the number of the refusal.
+/// Writes a message without attributes to the front of the buffer, and answers its length or the
+/// number of the refusal.
 pub fn begin(class: u32, method: u32, id: &[u8], out: &mut [u8]) -> i64
     ensures answer { result ≡ written_number (fitted (begun class method id.now) (length out.old)) }
     ensures written { out.new ≡ buffer_after (fitted (begun class method id.now)
@@ -366,8 +375,8 @@ fn error_arguments(code: u32, reason: &[u8]) -> Result<u16, Refusal>
     Ok(code as u16)
 }
 
-/// Adds an ERROR-CODE to the message in the first `count` bytes of the buffer, and answers the new length or the number
-/// of the refusal.
+/// Adds an ERROR-CODE to the message in the first `count` bytes of the buffer, and answers the new
+/// length or the number of the refusal.
 pub fn add_error(buffer: &mut [u8], count: usize, code: u32, reason: &[u8]) -> i64
     ensures answer { result ≡ written_number (added_error buffer.old count code reason.now) }
     ensures written { buffer.new ≡ buffer_after

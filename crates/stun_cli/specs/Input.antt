@@ -1,5 +1,6 @@
 -- How often an input is asked for, and why a command has none.
-use Rattle.std.specs.Prelude.{◌≡◌, ◌≢◌, ◌<◌, ◌+◌, ◌-◌, ◌^◌, ◌⊎◌, ⊤, ℕ, List, Bool, true, Option, Result, IfSome, MatchResult, length, min}
+use Rattle.std.specs.Prelude.{◌≡◌, ◌≢◌, ◌<◌, ◌+◌, ◌-◌, ◌^◌, ◌⊎◌, ⊤, ℕ, List, Bool}
+use Rattle.std.specs.Prelude.{true, Option, Result, IfSome, MatchResult, length, min}
 use Rattle.std.specs.IoError.{error_kind}
 use Rattle.std.specs.declared.io.Error.{Error}
 use Rattle.std.specs.declared.io.ErrorKind.TheVariants.{Interrupted}

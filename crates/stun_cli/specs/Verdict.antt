@@ -1,18 +1,23 @@
 -- What is said of bytes under keys.
 use Rattle.std.specs.Prelude.{ℕ, List, [], ◌∷◌, ◌++◌, codes, Option, Some, None}
 use Rattle.stun_base.specs.declared.wire.error.StunParseError.{StunParseError}
-use Rattle.stun_base.specs.declared.wire.error.StunParseError.TheVariants.{Truncated, NotStun, TooLarge, MissingAttribute, InvalidAttributeData}
+use Rattle.stun_base.specs.declared.wire.error.StunParseError.TheVariants.{Truncated, NotStun}
+use Rattle.stun_base.specs.declared.wire.error.StunParseError.TheVariants.{TooLarge}
+use Rattle.stun_base.specs.declared.wire.error.StunParseError.TheVariants.{MissingAttribute}
+use Rattle.stun_base.specs.declared.wire.error.StunParseError.TheVariants.{InvalidAttributeData}
 use Rattle.stun_base.specs.declared.wire.error.ValidateError.{ValidateError}
 use Rattle.stun_base.specs.declared.wire.error.ValidateError.TheVariants.{Parse, IntegrityFailed}
 use Rattle.stun_base.specs.declared.keys.algorithm.IntegrityAlgorithm.{IntegrityAlgorithm}
 use Rattle.stun_types.specs.Message.{refusal}
 use Rattle.stun_types.specs.Integrity.{verified_by, integrity_refusal}
 use Rattle.stun_cli.specs.declared.verdict.Verdict.{Verdict}
-use Rattle.stun_cli.specs.declared.verdict.Verdict.TheVariants.{Valid, OtherDigest, NoIntegrity, MalformedIntegrity, NotAMessage}
+use Rattle.stun_cli.specs.declared.verdict.Verdict.TheVariants.{Valid, OtherDigest, NoIntegrity}
+use Rattle.stun_cli.specs.declared.verdict.Verdict.TheVariants.{MalformedIntegrity, NotAMessage}
 use Rattle.stun_cli.specs.declared.status.Status.{Status}
 use Rattle.stun_cli.specs.declared.status.Status.TheVariants.{Good, Bad}
 
--- where no digest verifies: an integrity attribute is missing or malformed, or its digest is another
+-- where no digest verifies: an integrity attribute is missing or malformed, or its digest is
+-- another
 abbrev pub verdict_without_digest : ValidateError → Verdict
 verdict_without_digest (Parse (MissingAttribute _)) = NoIntegrity
 verdict_without_digest (Parse _) = MalformedIntegrity
@@ -30,7 +35,9 @@ verdict_on_refusal None verdict = verdict
 
 -- the verdict on bytes under a key for each algorithm (RFC 8489, section 9.1.1 and 9.2.2)
 abbrev pub verdict_of : List ℕ → (IntegrityAlgorithm → List ℕ) → Verdict
-verdict_of bytes keys = verdict_on_refusal (refusal bytes) (verdict_on_integrity (verified_by keys bytes) (integrity_refusal bytes))
+verdict_of bytes keys =
+    verdict_on_refusal (refusal bytes)
+    (verdict_on_integrity (verified_by keys bytes) (integrity_refusal bytes))
 
 -- the words for a refusal
 abbrev pub refusal_text : StunParseError → List ℕ

@@ -76,8 +76,8 @@ impl<R: Read + Drop> CountedRead for Counted<R> {
 
 /// All that the reader has left, which is at most so many bytes.
 ///
-/// It fails where a read or a growth fails, where there are more bytes, and where the end does not come within 1048576
-/// reads. An interrupted read is asked again, and is one of them.
+/// It fails where a read or a growth fails, where there are more bytes, and where the end does not
+/// come within 1048576 reads. An interrupted read is asked again, and is one of them.
 pub fn read_to_end<R: CountedRead, A: Allocator>(
     alloc: A,
     reader: &mut R,

@@ -13,8 +13,8 @@ const MAX_WRITES: u32 = 1_048_576;
 
 /// Writes the text, in at most `MAX_WRITES` writes; an interrupted one is asked again.
 ///
-/// It fails where a write fails or takes nothing, or the writes do not suffice. Then a beginning of the
-/// text is there, and not the whole.
+/// It fails where a write fails or takes nothing, or the writes do not suffice. Then a beginning of
+/// the text is there, and not the whole.
 pub fn write_text<W: Write>(writer: &mut W, text: &[u8]) -> Result<(), Failure>
     ensures ok { OnOk result (Appends (W.contents writer.old) (W.contents writer.new) text.now) }
     ensures err { OnErr result (AppendsBeginning (W.contents writer.old)

@@ -1,13 +1,16 @@
--- Eight steps of the division at once: the bits of a byte may be subtracted before them, and what is above the lowest byte is
--- only moved.
-use Rattle.std.proofs.Common.{◌≡◌, ℕ, zero, suc, ◌+◌, ◌*◌, ◌/◌, ◌%◌, ◌<◌, ◌^◌, Bool, true, false, cond, List, [], ◌∷◌, ◌++◌, ◌≢◌, refl, sym, ◌∙◌, ap, arith, get_or, map, subst}
+-- Eight steps of the division at once: the bits of a byte may be subtracted before them, and what
+-- is above the lowest byte is only moved.
+use Rattle.std.proofs.Common.{◌≡◌, ℕ, zero, suc, ◌+◌, ◌*◌, ◌/◌, ◌%◌, ◌<◌, ◌^◌}
+use Rattle.std.proofs.Common.{Bool, true, false, cond, List, [], ◌∷◌, ◌++◌, ◌≢◌}
+use Rattle.std.proofs.Common.{refl, sym, ◌∙◌, ap, arith, get_or, map, subst}
 use Rattle.std.specs.Prelude.{bit_xor, fold, ◌==◌}
 use Rattle.std.specs.List.{AllByRecursion, range_with_len}
 use Rattle.std.proofs.Math.Nat.{mul_assoc, pow-suc}
 use Rattle.std.proofs.lemmas.List.FromFn.{get_or-map-range_with_len}
 use Rattle.std.proofs.lemmas.Bool.Decides.{nat_tests}
 use Rattle.std.proofs.lemmas.List.Sums.{fold-append}
-use lib.Bits.{xor_assoc, xor_comm, xor_lt, xor_shr, xor_mod, xor_self, xor_zero_l, xor_zero_r, xor_shifted}
+use lib.Bits.{xor_assoc, xor_comm, xor_lt, xor_shr, xor_mod}
+use lib.Bits.{xor_self, xor_zero_l, xor_zero_r, xor_shifted}
 use Rattle.stun_extra.specs.declared.crc32.TheConstants.{TABLE}
 use Rattle.stun_extra.specs.Crc32.{ONES, POLYNOMIAL, after_bit, after_byte, bits_of, crc32}
 
@@ -22,20 +25,27 @@ same_bit zero (suc (suc b)) a_bit b_bit = absurd (omega (arith, b_bit))
 same_bit (suc zero) (suc (suc b)) a_bit b_bit = absurd (omega (arith, b_bit))
 
 -- a bit is subtracted, or it and all that come after it before it
-after_bit-early : (remainder bits : ℕ) → bit_xor (after_bit remainder (bits % 2)) (bits / 2) ≡ after_bit (bit_xor remainder bits) 0
+after_bit-early : (remainder bits : ℕ)
+    → bit_xor (after_bit remainder (bits % 2)) (bits / 2) ≡ after_bit (bit_xor remainder bits) 0
 after_bit-early remainder bits =
     let x = remainder / 2 in
     let y = bits / 2 in
     let halves : bit_xor remainder bits / 2 ≡ bit_xor x y = xor_shr remainder bits 1 in
-    let lowest : bit_xor remainder bits % 2 ≡ bit_xor (remainder % 2) (bits % 2) = xor_mod remainder bits 1 in
+    let lowest : bit_xor remainder bits % 2 ≡ bit_xor (remainder % 2) (bits % 2) =
+    xor_mod remainder bits 1 in
     let test : (bit_xor remainder bits % 2 == 0) ≡ (remainder % 2 == bits % 2) =
     ap (λ n. n == 0) lowest ∙ same_bit (remainder % 2) (bits % 2) (omega arith) (omega arith) in
-    let by : (t : Bool) → bit_xor (cond t x (bit_xor x POLYNOMIAL)) y ≡ cond t (bit_xor x y) (bit_xor (bit_xor x y) POLYNOMIAL) =
-    λ t. elim t as (λ t. bit_xor (cond t x (bit_xor x POLYNOMIAL)) y ≡ cond t (bit_xor x y) (bit_xor (bit_xor x y) POLYNOMIAL)) [
+    let by : (t : Bool) → bit_xor (cond t x (bit_xor x POLYNOMIAL)) y
+    ≡ cond t (bit_xor x y) (bit_xor (bit_xor x y) POLYNOMIAL) =
+    λ t. elim
+    t as (λ t. bit_xor (cond t x (bit_xor x POLYNOMIAL)) y
+    ≡ cond t (bit_xor x y) (bit_xor (bit_xor x y) POLYNOMIAL)) [
       | true ↦ refl
-      | false ↦ xor_assoc x POLYNOMIAL y ∙ (ap (bit_xor x) (xor_comm POLYNOMIAL y) ∙ sym (xor_assoc x y POLYNOMIAL))
+      | false ↦ xor_assoc x POLYNOMIAL y
+          ∙ (ap (bit_xor x) (xor_comm POLYNOMIAL y) ∙ sym (xor_assoc x y POLYNOMIAL))
     ] in
-    by (remainder % 2 == bits % 2) ∙ (λ i. cond (sym test i) (sym halves i) (bit_xor (sym halves i) POLYNOMIAL))
+    by (remainder % 2 == bits % 2)
+    ∙ (λ i. cond (sym test i) (sym halves i) (bit_xor (sym halves i) POLYNOMIAL))
 
 -- the remainder after so many zeros
 abbrev zeros : ℕ → ℕ → ℕ
@@ -52,9 +62,11 @@ half_below : (bits power : ℕ) → bits < power * 2 → bits / 2 < power
 half_below bits power below = omega (arith, below)
 
 -- bits are subtracted one by one, or all of them first
-all_at_once : (n remainder bits : ℕ) → bits < 2 ^ n → after_bits n remainder bits ≡ zeros n (bit_xor remainder bits)
+all_at_once : (n remainder bits : ℕ) → bits < 2 ^ n
+    → after_bits n remainder bits ≡ zeros n (bit_xor remainder bits)
 all_at_once zero remainder bits below =
-    let none : bits ≡ 0 = omega (arith, below) in sym (ap (bit_xor remainder) none ∙ xor_zero_r remainder)
+    let none : bits ≡ 0 = omega (arith, below) in
+    sym (ap (bit_xor remainder) none ∙ xor_zero_r remainder)
 all_at_once (suc n) remainder bits below =
     let twice : bits < 2 ^ n * 2 = subst (λ p. bits < p) (pow-suc 2 n) below in
     all_at_once n (after_bit remainder (bits % 2)) (bits / 2) (half_below bits (2 ^ n) twice)
@@ -69,7 +81,8 @@ moved : (n low high : ℕ) → zeros n (bit_xor low (high * 2 ^ n)) ≡ bit_xor 
 moved zero low high = let once : high * 1 ≡ high = omega arith in ap (bit_xor low) once
 moved (suc n) low high =
     let bits = high * 2 ^ suc n in
-    let twice : bits ≡ high * 2 ^ n * 2 = ap (λ p. high * p) (pow-suc 2 n) ∙ sym (mul_assoc high (2 ^ n) 2) in
+    let twice : bits ≡ high * 2 ^ n * 2 = ap (λ p. high * p) (pow-suc 2 n)
+    ∙ sym (mul_assoc high (2 ^ n) 2) in
     let parts = even bits (high * 2 ^ n) twice in
     let first : after_bit (bit_xor low bits) 0 ≡ bit_xor (after_bit low 0) (high * 2 ^ n) =
     sym (after_bit-early low bits) ∙ (λ i. bit_xor (after_bit low (parts.0 i)) (parts.1 i)) in
@@ -84,16 +97,22 @@ after_byte-bits remainder byte =
     let b5 : byte / 32 ≡ byte / 2 / 2 / 2 / 2 / 2 = omega arith in
     let b6 : byte / 64 ≡ byte / 2 / 2 / 2 / 2 / 2 / 2 = omega arith in
     let b7 : byte / 128 ≡ byte / 2 / 2 / 2 / 2 / 2 / 2 / 2 = omega arith in
-    λ i. after_bit (after_bit (after_bit (after_bit (after_bit (after_bit (after_bit (after_bit remainder (byte % 2)) (byte / 2 % 2))
+    λ i. after_bit
+    (after_bit
+    (after_bit
+    (after_bit (after_bit (after_bit (after_bit (after_bit remainder (byte % 2)) (byte / 2 % 2))
     (b2 i % 2)) (b3 i % 2)) (b4 i % 2)) (b5 i % 2)) (b6 i % 2)) (b7 i % 2)
 
 -- so a byte is subtracted first
-after_byte-zeros : (remainder byte : ℕ) → byte < 256 → after_byte remainder byte ≡ zeros 8 (bit_xor remainder byte)
-after_byte-zeros remainder byte below = after_byte-bits remainder byte ∙ all_at_once 8 remainder byte below
+after_byte-zeros : (remainder byte : ℕ) → byte < 256
+    → after_byte remainder byte ≡ zeros 8 (bit_xor remainder byte)
+after_byte-zeros remainder byte below =
+    after_byte-bits remainder byte ∙ all_at_once 8 remainder byte below
 
 -- the remainder after a byte, by that after a byte alone
 pub after_byte-by_table : (remainder byte : ℕ) → byte < 256
-    → after_byte remainder byte ≡ bit_xor (remainder / 256) (after_byte 0 (bit_xor (remainder % 256) byte))
+    → after_byte remainder byte
+    ≡ bit_xor (remainder / 256) (after_byte 0 (bit_xor (remainder % 256) byte))
 after_byte-by_table remainder byte below =
     let high = remainder / 256 in
     let low = remainder % 256 in
@@ -102,18 +121,23 @@ after_byte-by_table remainder byte below =
     let apart : bit_xor (high * 256) low ≡ remainder = xor_shifted high 8 low low_below ∙ sum in
     let index = bit_xor low byte in
     let first : bit_xor remainder byte ≡ bit_xor index (high * 256) =
-    ap (λ r. bit_xor r byte) (sym apart) ∙ (xor_assoc (high * 256) low byte ∙ xor_comm (high * 256) index) in
+    ap (λ r. bit_xor r byte) (sym apart)
+    ∙ (xor_assoc (high * 256) low byte ∙ xor_comm (high * 256) index) in
     let alone : zeros 8 index ≡ after_byte 0 index =
-    sym (after_byte-zeros 0 index (xor_lt 8 low byte low_below below) ∙ ap (zeros 8) (xor_zero_l index)) in
+    sym (after_byte-zeros 0 index (xor_lt 8 low byte low_below below)
+    ∙ ap (zeros 8) (xor_zero_l index)) in
     after_byte-zeros remainder byte below
-    ∙ (ap (zeros 8) first ∙ (moved 8 index high ∙ (ap (λ n. bit_xor n high) alone ∙ xor_comm (after_byte 0 index) high)))
+    ∙ (ap (zeros 8) first
+    ∙ (moved 8 index high ∙ (ap (λ n. bit_xor n high) alone ∙ xor_comm (after_byte 0 index) high)))
 
 table_is : TABLE ≡ map (after_byte 0) (range_with_len 0 256)
 table_is = refl
 
 -- the table has the remainder after each byte alone
 pub TABLE-entry : (byte : ℕ) → byte < 256 → get_or TABLE byte 0 ≡ after_byte 0 byte
-TABLE-entry byte below = ap (λ t. get_or t byte 0) table_is ∙ get_or-map-range_with_len (after_byte 0) 0 256 byte byte 0 below (omega arith)
+TABLE-entry byte below =
+    ap (λ t. get_or t byte 0) table_is
+    ∙ get_or-map-range_with_len (after_byte 0) 0 256 byte byte 0 below (omega arith)
 
 -- ---- the CRC-32 has 32 bits
 
@@ -121,24 +145,32 @@ after_bit-below : (remainder bit : ℕ) → remainder < 2 ^ 32 → after_bit rem
 after_bit-below remainder bit below =
     let half : remainder / 2 < 2 ^ 32 = omega arith in
     let subtracted = xor_lt 32 (remainder / 2) POLYNOMIAL half (omega arith) in
-    elim (remainder % 2 == bit) as (λ t. cond t (remainder / 2) (bit_xor (remainder / 2) POLYNOMIAL) < 2 ^ 32) [ true ↦ half | false ↦ subtracted ]
+    elim (remainder % 2 == bit) as (λ t. cond t (remainder / 2) (bit_xor (remainder / 2) POLYNOMIAL)
+    < 2 ^ 32) [ true ↦ half | false ↦ subtracted ]
 
-fold-below : (remainder : ℕ) (bits : List ℕ) → remainder < 2 ^ 32 → fold after_bit remainder bits < 2 ^ 32
+fold-below : (remainder : ℕ) (bits : List ℕ) → remainder < 2 ^ 32
+    → fold after_bit remainder bits < 2 ^ 32
 fold-below remainder [] below = below
-fold-below remainder (bit ∷ bits) below = fold-below (after_bit remainder bit) bits (after_bit-below remainder bit below)
+fold-below remainder (bit ∷ bits) below =
+    fold-below (after_bit remainder bit) bits (after_bit-below remainder bit below)
 
-after_bytes-below : (remainder : ℕ) (bytes : List ℕ) → remainder < 2 ^ 32 → fold after_byte remainder bytes < 2 ^ 32
+after_bytes-below : (remainder : ℕ) (bytes : List ℕ) → remainder < 2 ^ 32
+    → fold after_byte remainder bytes < 2 ^ 32
 after_bytes-below remainder [] below = below
-after_bytes-below remainder (byte ∷ bytes) below = after_bytes-below (after_byte remainder byte) bytes (fold-below remainder (bits_of byte) below)
+after_bytes-below remainder (byte ∷ bytes) below =
+    after_bytes-below (after_byte remainder byte) bytes (fold-below remainder (bits_of byte) below)
 
 pub crc32-below : (bytes : List ℕ) → crc32 bytes < 2 ^ 32
-crc32-below bytes = xor_lt 32 (fold after_byte ONES bytes) ONES (after_bytes-below ONES bytes (omega arith)) (omega arith)
+crc32-below bytes =
+    xor_lt 32 (fold after_byte ONES bytes) ONES (after_bytes-below ONES bytes (omega arith))
+    (omega arith)
 
 -- ---- bytes that differ in one byte
 
 -- the polynomial has its lowest power, which no half of a word has
 highest : (n : ℕ) → n < 2 ^ 31 → bit_xor n POLYNOMIAL / 2 ^ 31 ≡ 1
-highest n below = let none : n / 2 ^ 31 ≡ 0 = omega (arith, below) in xor_shr n POLYNOMIAL 31 ∙ ap (λ k. bit_xor k 1) none
+highest n below = let none : n / 2 ^ 31 ≡ 0 =
+    omega (arith, below) in xor_shr n POLYNOMIAL 31 ∙ ap (λ k. bit_xor k 1) none
 
 apart : (one other : ℕ) → one < 2 ^ 31 → other < 2 ^ 31 → one ≡ bit_xor other POLYNOMIAL → ⊥
 apart one other below other_below same =
@@ -149,7 +181,8 @@ apart one other below other_below same =
 -- a word that both are XORed with
 cancel : (one other word : ℕ) → bit_xor one word ≡ bit_xor other word → one ≡ other
 cancel one other word same =
-    let back : (n : ℕ) → bit_xor (bit_xor n word) word ≡ n = λ n. xor_assoc n word word ∙ (ap (bit_xor n) (xor_self word) ∙ xor_zero_r n) in
+    let back : (n : ℕ) → bit_xor (bit_xor n word) word ≡ n = λ n. xor_assoc n word word
+    ∙ (ap (bit_xor n) (xor_self word) ∙ xor_zero_r n) in
     sym (back one) ∙ (ap (λ n. bit_xor n word) same ∙ back other)
 
 pub equal : (a b : ℕ) → (a == b) ≡ true → a ≡ b
@@ -159,8 +192,10 @@ pub unequal : (a b : ℕ) → (a == b) ≡ false → a ≢ b
 unequal a b other = grind (arith, nat_tests)
 
 -- one more bit keeps remainders apart
-after_bit-apart : (one other bit : ℕ) → bit < 2 → one < 2 ^ 32 → other < 2 ^ 32 → after_bit one bit ≡ after_bit other bit → one ≡ other
-after_bit-apart one other bit small below other_below same = by (one % 2 == bit) (other % 2 == bit) refl refl same
+after_bit-apart : (one other bit : ℕ) → bit < 2 → one < 2 ^ 32 → other < 2 ^ 32
+    → after_bit one bit ≡ after_bit other bit → one ≡ other
+after_bit-apart one other bit small below other_below same =
+    by (one % 2 == bit) (other % 2 == bit) refl refl same
   where
     x : ℕ
     x = one / 2
@@ -174,36 +209,54 @@ after_bit-apart one other bit small below other_below same = by (one % 2 == bit)
         let first : one % 2 ≡ bit = equal (one % 2) bit is in
         let second : other % 2 ≡ bit = equal (other % 2) bit other_is in
         omega (arith, halves, first, second)
-    by true false is other_is halves = absurd (apart x y (omega (arith, below)) (omega (arith, other_below)) halves)
-    by false true is other_is halves = absurd (apart y x (omega (arith, other_below)) (omega (arith, below)) (sym halves))
+    by true false is other_is halves =
+        absurd (apart x y (omega (arith, below)) (omega (arith, other_below)) halves)
+    by false true is other_is halves =
+        absurd (apart y x (omega (arith, other_below)) (omega (arith, below)) (sym halves))
     by false false is other_is halves =
         let first = unequal (one % 2) bit is in
         let second = unequal (other % 2) bit other_is in
         let half : one / 2 ≡ other / 2 = cancel x y POLYNOMIAL halves in
         omega (arith, half, first, second, small)
 
-bits-apart : (one other : ℕ) (bits : List ℕ) → AllByRecursion (λ bit. bit < 2) bits → one < 2 ^ 32 → other < 2 ^ 32
+bits-apart : (one other : ℕ) (bits : List ℕ) → AllByRecursion (λ bit. bit < 2) bits → one < 2 ^ 32
+    → other < 2 ^ 32
     → fold after_bit one bits ≡ fold after_bit other bits → one ≡ other
 bits-apart one other [] small below other_below same = same
 bits-apart one other (bit ∷ bits) small below other_below same =
     after_bit-apart one other bit small.0 below other_below
-    (bits-apart (after_bit one bit) (after_bit other bit) bits small.1 (after_bit-below one bit below) (after_bit-below other bit other_below) same)
+    (bits-apart (after_bit one bit) (after_bit other bit) bits small.1
+    (after_bit-below one bit below) (after_bit-below other bit other_below) same)
 
 bytes-apart : (one other : ℕ) (bytes : List ℕ) → one < 2 ^ 32 → other < 2 ^ 32
     → fold after_byte one bytes ≡ fold after_byte other bytes → one ≡ other
 bytes-apart one other [] below other_below same = same
 bytes-apart one other (byte ∷ bytes) below other_below same =
     let bit : (n : ℕ) → n % 2 < 2 = λ n. omega arith in
-    bits-apart one other (bits_of byte)
-    (bit byte, (bit (byte / 2), (bit (byte / 4), (bit (byte / 8), (bit (byte / 16), (bit (byte / 32), (bit (byte / 64), (bit (byte / 128), tt))))))))
+    bits-apart one other (bits_of byte) (
+      bit byte,
+      (
+        bit (byte / 2),
+        (
+          bit (byte / 4),
+          (
+            bit (byte / 8),
+            (bit (byte / 16), (bit (byte / 32), (bit (byte / 64), (bit (byte / 128), tt)))),
+          ),
+        ),
+      ),
+    )
     below other_below
-    (bytes-apart (after_byte one byte) (after_byte other byte) bytes (fold-below one (bits_of byte) below) (fold-below other (bits_of byte) other_below) same)
+    (bytes-apart (after_byte one byte) (after_byte other byte) bytes
+    (fold-below one (bits_of byte) below) (fold-below other (bits_of byte) other_below) same)
 
-zeros-apart : (n one other : ℕ) → one < 2 ^ 32 → other < 2 ^ 32 → zeros n one ≡ zeros n other → one ≡ other
+zeros-apart : (n one other : ℕ) → one < 2 ^ 32 → other < 2 ^ 32 → zeros n one ≡ zeros n other
+    → one ≡ other
 zeros-apart zero one other below other_below same = same
 zeros-apart (suc n) one other below other_below same =
     after_bit-apart one other 0 (omega arith) below other_below
-    (zeros-apart n (after_bit one 0) (after_bit other 0) (after_bit-below one 0 below) (after_bit-below other 0 other_below) same)
+    (zeros-apart n (after_bit one 0) (after_bit other 0) (after_bit-below one 0 below)
+    (after_bit-below other 0 other_below) same)
 
 -- another byte leaves another remainder
 after_byte-apart : (remainder byte other : ℕ) → remainder < 2 ^ 32 → byte < 256 → other < 256
@@ -212,7 +265,8 @@ after_byte-apart remainder byte other below small other_small same =
     let one = bit_xor remainder byte in
     let two = bit_xor remainder other in
     let equal_zeros : zeros 8 one ≡ zeros 8 two =
-    sym (after_byte-zeros remainder byte small) ∙ (same ∙ after_byte-zeros remainder other other_small) in
+    sym (after_byte-zeros remainder byte small)
+    ∙ (same ∙ after_byte-zeros remainder other other_small) in
     let wide : one < 2 ^ 32 = xor_lt 32 remainder byte below (omega (arith, small)) in
     let other_wide : two < 2 ^ 32 = xor_lt 32 remainder other below (omega (arith, other_small)) in
     let equal_words = zeros-apart 8 one two wide other_wide equal_zeros in
@@ -224,9 +278,14 @@ pub crc32-apart : (front behind : List ℕ) (byte other : ℕ) → byte < 256 �
 crc32-apart front behind byte other small other_small same =
     let remainder = fold after_byte ONES front in
     let below = after_bytes-below ONES front (omega arith) in
-    let divided = cancel (fold after_byte ONES (front ++ byte ∷ behind)) (fold after_byte ONES (front ++ other ∷ behind)) ONES same in
-    let behind_front : fold after_byte (after_byte remainder byte) behind ≡ fold after_byte (after_byte remainder other) behind =
-    sym (fold-append after_byte ONES front (byte ∷ behind)) ∙ (divided ∙ fold-append after_byte ONES front (other ∷ behind)) in
+    let divided =
+    cancel (fold after_byte ONES (front ++ byte ∷ behind))
+    (fold after_byte ONES (front ++ other ∷ behind)) ONES same in
+    let behind_front : fold after_byte (after_byte remainder byte) behind
+    ≡ fold after_byte (after_byte remainder other) behind =
+    sym (fold-append after_byte ONES front (byte ∷ behind))
+    ∙ (divided ∙ fold-append after_byte ONES front (other ∷ behind)) in
     after_byte-apart remainder byte other below small other_small
     (bytes-apart (after_byte remainder byte) (after_byte remainder other) behind
-    (fold-below remainder (bits_of byte) below) (fold-below remainder (bits_of other) below) behind_front)
+    (fold-below remainder (bits_of byte) below) (fold-below remainder (bits_of other) below)
+    behind_front)

@@ -1,5 +1,7 @@
 -- Messages in a stream: the header of a message is the same whatever follows it.
-use Rattle.std.proofs.Common.{◌≡◌, ℕ, zero, suc, ◌+◌, ◌-◌, ◌%◌, ◌≤◌, ◌<◌, Bool, true, false, cond, List, [], ◌∷◌, ◌++◌, length, take, drop, refl, sym, ◌∙◌, ap, arith, append_assoc, length-append, length-drop}
+use Rattle.std.proofs.Common.{◌≡◌, ℕ, zero, suc, ◌+◌, ◌-◌, ◌%◌, ◌≤◌, ◌<◌, Bool, true, false}
+use Rattle.std.proofs.Common.{cond, List, [], ◌∷◌, ◌++◌, length, take, drop, refl, sym, ◌∙◌}
+use Rattle.std.proofs.Common.{ap, arith, append_assoc, length-append, length-drop}
 use Rattle.std.specs.Prelude.{nat_lt, ◌==◌, ◌&&◌}
 use Rattle.std.specs.List.{AllByRecursion, concat}
 use Rattle.std.proofs.Math.Seq.{drop-append_seam, take-append_seam}
@@ -9,7 +11,8 @@ use Rattle.byteorder.specs.Endian.{big_number}
 use Rattle.byteorder.specs.Numbers.{big_from-append}
 use Rattle.stun_base.specs.Header.{cookie_field, is_stun, length_field, type_field}
 use Rattle.stun_types.specs.Message.{IsMessage}
-use Rattle.stun_extra.specs.Framing.{Cut, IsLeftOver, IsPartOf, cut, cut_by, cut_up_to, fed, frame_of, frame_to, with_first}
+use Rattle.stun_extra.specs.Framing.{Cut, IsLeftOver, IsPartOf, cut, cut_by}
+use Rattle.stun_extra.specs.Framing.{cut_up_to, fed, frame_of, frame_to, with_first}
 use Rattle.stun_extra.specs.declared.framing.Frame.{Frame}
 use Rattle.stun_extra.specs.declared.framing.Frame.TheVariants.{Need, Message, NotStun}
 
@@ -26,11 +29,14 @@ record SameHeader (front behind : List ℕ) : Type 0 where
 
 same_header : (front behind : List ℕ) → 20 ≤ length front → SameHeader front behind
 same_header front behind long =
-    let kind : type_field (front ++ behind) ≡ type_field front = big_from-append 2 front behind (omega (arith, long)) in
+    let kind : type_field (front ++ behind) ≡ type_field front =
+    big_from-append 2 front behind (omega (arith, long)) in
     let count : length_field (front ++ behind) ≡ length_field front =
-    ap (big_number 2) (drop-append-le 2 front behind (omega (arith, long))) ∙ big_from-append 2 (drop 2 front) behind (omega (arith, long, length-drop 2 front)) in
+    ap (big_number 2) (drop-append-le 2 front behind (omega (arith, long)))
+    ∙ big_from-append 2 (drop 2 front) behind (omega (arith, long, length-drop 2 front)) in
     let cookie : cookie_field (front ++ behind) ≡ cookie_field front =
-    ap (big_number 4) (drop-append-le 4 front behind (omega (arith, long))) ∙ big_from-append 4 (drop 4 front) behind (omega (arith, long, length-drop 4 front)) in
+    ap (big_number 4) (drop-append-le 4 front behind (omega (arith, long)))
+    ∙ big_from-append 4 (drop 4 front) behind (omega (arith, long, length-drop 4 front)) in
     record {
       stun = λ i. nat_lt (kind i) 16384 && (cookie i == 0x2112A442) && (count i % 4 == 0);
       length_is = count;
@@ -38,11 +44,20 @@ same_header front behind long =
 
 -- with a whole header its fields decide
 frame-header : (bytes : List ℕ) → 20 ≤ length bytes
-    → frame_of bytes ≡ cond (is_stun bytes) (frame_to (length bytes) (20 + length_field bytes)) NotStun
-frame-header bytes long = ap (λ b. cond b (Need (20 - length bytes)) (cond (is_stun bytes) (frame_to (length bytes) (20 + length_field bytes)) NotStun)) (is_not_lt (length bytes) 20 long)
+    → frame_of bytes
+    ≡ cond (is_stun bytes) (frame_to (length bytes) (20 + length_field bytes)) NotStun
+frame-header bytes long =
+    ap (λ b.
+    cond b (Need (20 - length bytes))
+    (cond (is_stun bytes) (frame_to (length bytes) (20 + length_field bytes)) NotStun))
+    (is_not_lt (length bytes) 20 long)
 
 frame-short : (bytes : List ℕ) → length bytes < 20 → frame_of bytes ≡ Need (20 - length bytes)
-frame-short bytes short = ap (λ b. cond b (Need (20 - length bytes)) (cond (is_stun bytes) (frame_to (length bytes) (20 + length_field bytes)) NotStun)) (is_lt (length bytes) 20 short)
+frame-short bytes short =
+    ap (λ b.
+    cond b (Need (20 - length bytes))
+    (cond (is_stun bytes) (frame_to (length bytes) (20 + length_field bytes)) NotStun))
+    (is_lt (length bytes) 20 short)
 
 -- what a whole message is known by
 pub record IsFramed (bytes : List ℕ) (n : ℕ) : Type 0 where
@@ -55,13 +70,20 @@ frame-framed : (bytes : List ℕ) (n : ℕ) → IsFramed bytes n → frame_of by
 frame-framed bytes n framed =
     frame-header bytes (omega (arith, framed.least, framed.within))
     ∙ ((λ i. cond (framed.stun i) (frame_to (length bytes) (framed.stated i)) NotStun)
-    ∙ ap (λ b. cond b (Need (n - length bytes)) (Message n)) (is_not_lt (length bytes) n framed.within))
+    ∙ ap (λ b. cond b (Need (n - length bytes)) (Message n))
+    (is_not_lt (length bytes) n framed.within))
 
 framed : (bytes : List ℕ) (n : ℕ) → frame_of bytes ≡ Message n → IsFramed bytes n
-framed bytes n answer = by (nat_lt (length bytes) 20) (is_stun bytes) (nat_lt (length bytes) (20 + length_field bytes)) refl refl refl answer
+framed bytes n answer =
+    by (nat_lt (length bytes) 20) (is_stun bytes) (nat_lt (length bytes) (20 + length_field bytes))
+    refl refl refl answer
   where
-    by : (short stun part : Bool) → nat_lt (length bytes) 20 ≡ short → is_stun bytes ≡ stun → nat_lt (length bytes) (20 + length_field bytes) ≡ part
-        → cond short (Need (20 - length bytes)) (cond stun (cond part (Need (20 + length_field bytes - length bytes)) (Message (20 + length_field bytes))) NotStun) ≡ Message n
+    by : (short stun part : Bool) → nat_lt (length bytes) 20 ≡ short → is_stun bytes ≡ stun
+        → nat_lt (length bytes) (20 + length_field bytes) ≡ part
+        → cond short (Need (20 - length bytes))
+        (cond stun
+        (cond part (Need (20 + length_field bytes - length bytes))
+        (Message (20 + length_field bytes))) NotStun) ≡ Message n
         → IsFramed bytes n
     by true stun part a b c answer = cc
     by false false part a b c answer = cc
@@ -69,7 +91,12 @@ framed bytes n answer = by (nat_lt (length bytes) 20) (is_stun bytes) (nat_lt (l
     by false true false a b c answer =
         let stated : 20 + length_field bytes ≡ n = cc in
         let enough : 20 + length_field bytes ≤ length bytes = grind (arith, nat_tests, c) in
-        record { least = omega (arith, stated); within = omega (arith, stated, enough); stun = b; stated = stated }
+        record {
+          least = omega (arith, stated);
+          within = omega (arith, stated, enough);
+          stun = b;
+          stated = stated;
+        }
 
 -- a whole message is whole whatever follows
 framed-more : (bytes more : List ℕ) (n : ℕ) → IsFramed bytes n → IsFramed (bytes ++ more) n
@@ -90,12 +117,15 @@ message-framed message is_message = record {
   stated = is_message.stated;
 }
 
-pub frame-message : (message rest : List ℕ) → IsMessage message → frame_of (message ++ rest) ≡ Message (length message)
+pub frame-message : (message rest : List ℕ) → IsMessage message
+    → frame_of (message ++ rest) ≡ Message (length message)
 frame-message message rest is_message =
-    frame-framed (message ++ rest) (length message) (framed-more message rest (length message) (message-framed message is_message))
+    frame-framed (message ++ rest) (length message)
+    (framed-more message rest (length message) (message-framed message is_message))
 
 -- a part of a message wants more
-pub frame-part : (message : List ℕ) (n : ℕ) → IsMessage message → n < length message → IsPartOf message n
+pub frame-part : (message : List ℕ) (n : ℕ) → IsMessage message → n < length message
+    → IsPartOf message n
 frame-part message n is_message below = by (nat_lt n 20) refl
   where
     part : List ℕ
@@ -117,14 +147,17 @@ frame-part message n is_message below = by (nat_lt n 20) refl
         let many : 20 ≤ n = grind (arith, nat_tests, long) in
         let header = same_header part (drop n message) (omega (arith, count, many)) in
         let whole = take-append-drop n message in
-        let stun : is_stun part ≡ true = sym header.stun ∙ (ap is_stun whole ∙ is_message.header.fields) in
-        let stated : 20 + length_field part ≡ length message = ap (λ k. 20 + k) (sym header.length_is ∙ ap length_field whole) ∙ is_message.stated in
+        let stun : is_stun part ≡ true = sym header.stun
+        ∙ (ap is_stun whole ∙ is_message.header.fields) in
+        let stated : 20 + length_field part ≡ length message =
+        ap (λ k. 20 + k) (sym header.length_is ∙ ap length_field whole) ∙ is_message.stated in
         record {
           needed = length message - n;
           answer =
               frame-header part (omega (arith, count, many))
               ∙ ((λ i. cond (stun i) (frame_to (count i) (stated i)) NotStun)
-              ∙ ap (λ b. cond b (Need (length message - n)) (Message (length message))) (is_lt n (length message) below));
+              ∙ ap (λ b. cond b (Need (length message - n)) (Message (length message)))
+              (is_lt n (length message) below));
           some = omega (arith, below);
           within = omega (arith, below);
         }
@@ -135,15 +168,18 @@ frame-part message n is_message below = by (nat_lt n 20) refl
 cut-framed : (most n : ℕ) (bytes : List ℕ) → IsFramed bytes n
     → cut_up_to (suc most) bytes ≡ with_first (take n bytes) (cut_up_to most (drop n bytes))
 unfolding cut_up_to
-cut-framed most n bytes framed = ap (λ f. cut_by f (cut_up_to most) bytes) (frame-framed bytes n framed)
+cut-framed most n bytes framed =
+    ap (λ f. cut_by f (cut_up_to most) bytes) (frame-framed bytes n framed)
 
 -- nothing is cut off where no whole message is
-cut-left_over : (most : ℕ) (bytes : List ℕ) → IsLeftOver bytes → cut_up_to most bytes ≡ record { messages = []; rest = bytes }
+cut-left_over : (most : ℕ) (bytes : List ℕ) → IsLeftOver bytes
+    → cut_up_to most bytes ≡ record { messages = []; rest = bytes }
 unfolding cut_up_to
 cut-left_over zero bytes left = refl
 cut-left_over (suc most) bytes left = by (frame_of bytes) refl
   where
-    by : (f : Frame) → frame_of bytes ≡ f → cut_by f (cut_up_to most) bytes ≡ record { messages = []; rest = bytes }
+    by : (f : Frame) → frame_of bytes ≡ f
+        → cut_by f (cut_up_to most) bytes ≡ record { messages = []; rest = bytes }
     by (Message n) answer = absurd (left n answer)
     by (Need n) answer = refl
     by NotStun answer = refl
@@ -158,29 +194,43 @@ front bytes = by (frame_of bytes) refl
   where
     by : (f : Frame) → frame_of bytes ≡ f → Front bytes
     by (Message n) answer = has_message n (framed bytes n answer)
-    by (Need n) answer = has_none (λ k other. let apart : Need n ≡ Message k = sym answer ∙ other in cc)
-    by NotStun answer = has_none (λ k other. let apart : NotStun ≡ Message k = sym answer ∙ other in cc)
+    by (Need n) answer =
+        has_none (λ k other. let apart : Need n ≡ Message k = sym answer ∙ other in cc)
+    by NotStun answer =
+        has_none (λ k other. let apart : NotStun ≡ Message k = sym answer ∙ other in cc)
 
 -- as many messages as there are bytes are enough
-cut-enough : (a b : ℕ) (bytes : List ℕ) → Front bytes → length bytes ≤ a → length bytes ≤ b → cut_up_to a bytes ≡ cut_up_to b bytes
-cut-enough a b bytes (has_none left) enough other = cut-left_over a bytes left ∙ sym (cut-left_over b bytes left)
-cut-enough zero b bytes (has_message n framed) enough other = absurd (omega (arith, enough, framed.least, framed.within))
-cut-enough (suc a) zero bytes (has_message n framed) enough other = absurd (omega (arith, other, framed.least, framed.within))
+cut-enough : (a b : ℕ) (bytes : List ℕ) → Front bytes → length bytes ≤ a → length bytes ≤ b
+    → cut_up_to a bytes ≡ cut_up_to b bytes
+cut-enough a b bytes (has_none left) enough other =
+    cut-left_over a bytes left ∙ sym (cut-left_over b bytes left)
+cut-enough zero b bytes (has_message n framed) enough other =
+    absurd (omega (arith, enough, framed.least, framed.within))
+cut-enough (suc a) zero bytes (has_message n framed) enough other =
+    absurd (omega (arith, other, framed.least, framed.within))
 cut-enough (suc a) (suc b) bytes (has_message n framed) enough other =
     let count = length-drop n bytes in
-    let others = cut-enough a b (drop n bytes) (front (drop n bytes)) (omega (arith, enough, framed.least, count)) (omega (arith, other, framed.least, count)) in
-    cut-framed a n bytes framed ∙ (ap (with_first (take n bytes)) others ∙ sym (cut-framed b n bytes framed))
+    let others =
+    cut-enough a b (drop n bytes) (front (drop n bytes))
+    (omega (arith, enough, framed.least, count)) (omega (arith, other, framed.least, count)) in
+    cut-framed a n bytes framed
+    ∙ (ap (with_first (take n bytes)) others ∙ sym (cut-framed b n bytes framed))
 
 -- the first message is cut off, and then the bytes behind it are cut
-cut-first : (bytes : List ℕ) (n : ℕ) → IsFramed bytes n → cut bytes ≡ with_first (take n bytes) (cut (drop n bytes))
+cut-first : (bytes : List ℕ) (n : ℕ) → IsFramed bytes n
+    → cut bytes ≡ with_first (take n bytes) (cut (drop n bytes))
 cut-first bytes n framed =
     let count = length-drop n bytes in
-    cut-enough (length bytes) (suc (length bytes)) bytes (has_message n framed) (omega arith) (omega arith)
+    cut-enough (length bytes) (suc (length bytes)) bytes (has_message n framed) (omega arith)
+    (omega arith)
     ∙ (cut-framed (length bytes) n bytes framed
-    ∙ ap (with_first (take n bytes)) (cut-enough (length bytes) (length (drop n bytes)) (drop n bytes) (front (drop n bytes)) (omega (arith, count)) (omega arith)))
+    ∙ ap (with_first (take n bytes))
+    (cut-enough (length bytes) (length (drop n bytes)) (drop n bytes) (front (drop n bytes))
+    (omega (arith, count)) (omega arith)))
 
 -- exactly the messages that were written are cut off
-pub cut-messages : (messages : List (List ℕ)) (rest : List ℕ) → AllByRecursion IsMessage messages → IsLeftOver rest
+pub cut-messages : (messages : List (List ℕ)) (rest : List ℕ) → AllByRecursion IsMessage messages
+    → IsLeftOver rest
     → cut (concat messages ++ rest) ≡ record { messages = messages; rest = rest }
 cut-messages [] rest all left = cut-left_over (length rest) rest left
 cut-messages (message ∷ messages) rest all left =
@@ -188,7 +238,8 @@ cut-messages (message ∷ messages) rest all left =
     let framed = framed-more message behind (length message) (message-framed message all.0) in
     ap cut (append_assoc message (concat messages) rest)
     ∙ (cut-first (message ++ behind) (length message) framed
-    ∙ ((λ i. with_first (take-append_seam message behind i) (cut (drop-append_seam message behind i)))
+    ∙ ((λ i.
+    with_first (take-append_seam message behind i) (cut (drop-append_seam message behind i)))
     ∙ ap (with_first message) (cut-messages messages rest all.1 left)))
 
 -- a cut is its two parts
@@ -196,13 +247,18 @@ alone : (c : Cut) → record { messages = [] ++ c.messages; rest = c.rest } ≡ 
 alone c = refl
 
 -- what comes in pieces is cut as if it came at once
-cut-fed_up_to : (most : ℕ) (bytes more : List ℕ) → Front bytes → length bytes ≤ most → cut (bytes ++ more) ≡ fed (cut_up_to most bytes) more
-cut-fed_up_to most bytes more (has_none left) enough = sym (alone (cut (bytes ++ more))) ∙ ap (λ c. fed c more) (sym (cut-left_over most bytes left))
-cut-fed_up_to zero bytes more (has_message n framed) enough = absurd (omega (arith, enough, framed.least, framed.within))
+cut-fed_up_to : (most : ℕ) (bytes more : List ℕ) → Front bytes → length bytes ≤ most
+    → cut (bytes ++ more) ≡ fed (cut_up_to most bytes) more
+cut-fed_up_to most bytes more (has_none left) enough =
+    sym (alone (cut (bytes ++ more))) ∙ ap (λ c. fed c more) (sym (cut-left_over most bytes left))
+cut-fed_up_to zero bytes more (has_message n framed) enough =
+    absurd (omega (arith, enough, framed.least, framed.within))
 cut-fed_up_to (suc most) bytes more (has_message n framed) enough =
     let first = take-append-le n bytes more framed.within in
     let behind = drop-append-le n bytes more framed.within in
-    let others = cut-fed_up_to most (drop n bytes) more (front (drop n bytes)) (omega (arith, enough, framed.least, length-drop n bytes)) in
+    let others =
+    cut-fed_up_to most (drop n bytes) more (front (drop n bytes))
+    (omega (arith, enough, framed.least, length-drop n bytes)) in
     cut-first (bytes ++ more) n (framed-more bytes more n framed)
     ∙ ((λ i. with_first (first i) (cut (behind i)))
     ∙ (ap (with_first (take n bytes)) others

@@ -1,5 +1,7 @@
 -- Bits that are set one by one.
-use Rattle.std.proofs.Common.{◌≡◌, ℕ, zero, suc, ◌*◌, ◌/◌, ◌%◌, ◌<◌, ◌^◌, Bool, true, false, List, length, get_or, refl, sym, ◌∙◌, ap, arith, ◌≢◌, replicate, get_or-set_same, get_or-set_other}
+use Rattle.std.proofs.Common.{◌≡◌, ℕ, zero, suc, ◌*◌, ◌/◌, ◌%◌, ◌<◌, ◌^◌, Bool, true}
+use Rattle.std.proofs.Common.{false, List, length, get_or, refl, sym, ◌∙◌, ap, arith}
+use Rattle.std.proofs.Common.{◌≢◌, replicate, get_or-set_same, get_or-set_other}
 use Rattle.std.specs.Prelude.{bit_or, ◌==◌, ◌||◌, slice_set}
 use Rattle.std.specs.Int.{bit_at}
 use Rattle.std.proofs.lemmas.Bool.Decides.{nat_tests}
@@ -28,8 +30,10 @@ or_false false = refl
 
 -- one more type is told
 pub is_told-added : (words : List ℕ) (kind other : ℕ) → kind / 64 < length words
-    → is_told (slice_set words (kind / 64) (with_bit (get_or words (kind / 64) 0) (kind % 64))) other ≡ (is_told words other || (other == kind))
-is_told-added words kind other within = by (other / 64 == kind / 64) (other % 64 == kind % 64) refl refl
+    → is_told (slice_set words (kind / 64) (with_bit (get_or words (kind / 64) 0) (kind % 64)))
+    other ≡ (is_told words other || (other == kind))
+is_told-added words kind other within =
+    by (other / 64 == kind / 64) (other % 64 == kind % 64) refl refl
   where
     word : ℕ
     word = get_or words (kind / 64) 0
@@ -52,7 +56,9 @@ is_told-added words kind other within = by (other / 64 == kind / 64) (other % 64
         let set : bit_at (with_bit word (kind % 64)) (other % 64) ≡ 1 =
         ap (bit_at (with_bit word (kind % 64))) p ∙ bit_at_set_same w64 word (kind % 64) below in
         (λ i. bit_at (at_word w i) (other % 64) == 1)
-        ∙ (ap (λ n. n == 1) set ∙ sym (ap (λ b. is_told words other || b) (alike other kind is) ∙ or_true (is_told words other)))
+        ∙ (ap (λ n. n == 1) set
+        ∙ sym (ap (λ b. is_told words other || b) (alike other kind is)
+        ∙ or_true (is_told words other)))
     by true false same_word other_place =
         let w : other / 64 ≡ kind / 64 = equal (other / 64) (kind / 64) same_word in
         let p = unequal (other % 64) (kind % 64) other_place in
@@ -61,13 +67,16 @@ is_told-added words kind other within = by (other / 64 == kind / 64) (other % 64
         bit_at_set_other w64 word (kind % 64) below (other % 64) p in
         (λ i. bit_at (at_word w i) (other % 64) == 1)
         ∙ (ap (λ n. n == 1) kept ∙ (ap (λ k. bit_at (get_or words k 0) (other % 64) == 1) (sym w)
-        ∙ sym (ap (λ b. is_told words other || b) (differ other kind not_it) ∙ or_false (is_told words other))))
+        ∙ sym (ap (λ b. is_told words other || b) (differ other kind not_it)
+        ∙ or_false (is_told words other))))
     by false b other_word place =
         let w : other / 64 ≢ kind / 64 = unequal (other / 64) (kind / 64) other_word in
         let not_it : other ≢ kind = λ is. w (ap (λ n. n / 64) is) in
-        let kept : get_or longer (other / 64) 0 ≡ get_or words (other / 64) 0 = rw get_or-set_other refl in
+        let kept : get_or longer (other / 64) 0 ≡ get_or words (other / 64) 0 =
+        rw get_or-set_other refl in
         (λ i. bit_at (kept i) (other % 64) == 1)
-        ∙ sym (ap (λ b. is_told words other || b) (differ other kind not_it) ∙ or_false (is_told words other))
+        ∙ sym (ap (λ b. is_told words other || b) (differ other kind not_it)
+        ∙ or_false (is_told words other))
 
 -- none is told
 zero_words : (n i : ℕ) → get_or {A = ℕ} (replicate n 0) i 0 ≡ zero
@@ -77,4 +86,5 @@ zero_words (suc n) (suc i) = zero_words n i
 
 pub is_told-none : (n kind : ℕ) → is_told (replicate n 0) kind ≡ false
 is_told-none n kind =
-    ap (λ word. bit_at word (kind % 64) == 1) (zero_words n (kind / 64)) ∙ ap (λ n. n == 1) (bit_at-zero (kind % 64))
+    ap (λ word. bit_at word (kind % 64) == 1) (zero_words n (kind / 64))
+    ∙ ap (λ n. n == 1) (bit_at-zero (kind % 64))

@@ -1,4 +1,5 @@
--- The types of attributes: of STUN (RFC 8489, section 18.3), of ICE (RFC 8445, section 16.1) and of TURN (RFC 8656, section 18).
+-- The types of attributes: of STUN (RFC 8489, section 18.3), of ICE (RFC 8445, section 16.1) and of
+-- TURN (RFC 8656, section 18).
 use Rattle.std.specs.Prelude.{ℕ}
 
 -- MAPPED-ADDRESS (RFC 8489, section 14.1)

@@ -1,6 +1,7 @@
--- FINGERPRINT (RFC 8489, section 14.7): the last attribute of a message, whose value is the CRC-32 of the message up to it, XORed
--- with a number. The length in the header counts it already.
-use Rattle.std.specs.Prelude.{ℕ, ◌+◌, Bool, List, length, take, bit_xor, ◌==◌, ◌&&◌, Option, Some, None, if◌then◌else◌}
+-- FINGERPRINT (RFC 8489, section 14.7): the last attribute of a message, whose value is the CRC-32
+-- of the message up to it, XORed with a number. The length in the header counts it already.
+use Rattle.std.specs.Prelude.{ℕ, ◌+◌, Bool, List, length, take, bit_xor}
+use Rattle.std.specs.Prelude.{◌==◌, ◌&&◌, Option, Some, None, if◌then◌else◌}
 use Rattle.byteorder.specs.Endian.{big_bytes, big_number}
 use Rattle.stun_base.specs.Attributes.{FINGERPRINT}
 use Rattle.stun_base.specs.declared.wire.error.StunWriteError.{StunWriteError}
@@ -13,7 +14,8 @@ use Rattle.stun_types.specs.Walk.{Member, walk}
 use Rattle.stun_types.specs.Writing.{length_with, size_refusal, with_attribute}
 use Rattle.stun_extra.specs.Crc32.{crc32}
 use Rattle.stun_extra.specs.declared.fingerprint.Fingerprint.{Fingerprint}
-use Rattle.stun_extra.specs.declared.fingerprint.Fingerprint.TheVariants.{Right, Wrong, Misplaced, Absent}
+use Rattle.stun_extra.specs.declared.fingerprint.Fingerprint.TheVariants.{Right, Wrong}
+use Rattle.stun_extra.specs.declared.fingerprint.Fingerprint.TheVariants.{Misplaced, Absent}
 
 -- the number with which the CRC-32 of a message is XORed
 abbrev pub FINGERPRINT_XOR : ℕ

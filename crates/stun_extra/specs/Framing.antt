@@ -1,5 +1,6 @@
 -- Messages in a stream of bytes (RFC 8489, section 6.2.2).
-use Rattle.std.specs.Prelude.{◌≡◌, ◌≤◌, ℕ, zero, suc, ◌+◌, ◌-◌, Bool, List, [], ◌∷◌, ◌++◌, length, take, drop, slice_index, nat_lt, ◌/◌, ◌==◌, replicate, if◌then◌else◌}
+use Rattle.std.specs.Prelude.{◌≡◌, ◌≤◌, ℕ, zero, suc, ◌+◌, ◌-◌, Bool, List, [], ◌∷◌, ◌++◌, length}
+use Rattle.std.specs.Prelude.{take, drop, slice_index, nat_lt, ◌/◌, ◌==◌, replicate, if◌then◌else◌}
 use Rattle.byteorder.specs.Endian.{big_bytes, big_number}
 use Rattle.stun_base.specs.Header.{HEADER_LENGTH, BeginsWithHeader, is_stun, length_field}
 use Rattle.stun_types.specs.Attribute.{padded_length}
@@ -10,7 +11,8 @@ use Rattle.stun_extra.specs.declared.framing.Frame.TheVariants.{Need, Message, N
 abbrev pub frame_to : ℕ → ℕ → Frame
 frame_to there whole = if nat_lt there whole then Need (whole - there) else Message whole
 
--- what bytes begin with: the header comes first, and its length tells how many bytes the message has (section 5)
+-- what bytes begin with: the header comes first, and its length tells how many bytes the message
+-- has (section 5)
 abbrev pub frame_of : List ℕ → Frame
 frame_of bytes =
     if nat_lt (length bytes) HEADER_LENGTH then Need (HEADER_LENGTH - length bytes)
@@ -57,7 +59,11 @@ cut bytes = cut_up_to (length bytes) bytes
 
 -- more bytes come behind what was left, and are cut with it
 abbrev pub fed : Cut → List ℕ → Cut
-fed before more = record { messages = before.messages ++ (cut (before.rest ++ more)).messages; rest = (cut (before.rest ++ more)).rest }
+fed before more =
+    record {
+      messages = before.messages ++ (cut (before.rest ++ more)).messages;
+      rest = (cut (before.rest ++ more)).rest;
+    }
 
 -- no whole message is at the front
 abbrev pub IsLeftOver : List ℕ → Type 0
@@ -75,11 +81,12 @@ packet_frame_of bytes =
     if nat_lt (length bytes) 2 then Need (2 - length bytes)
     else frame_to (length bytes) (2 + big_number 2 bytes)
 
--- ChannelData in a stream: the number of a channel, the length of the data, the data, and padding up to a multiple of 4 bytes
--- (RFC 8656, sections 12.4 and 12.5)
+-- ChannelData in a stream: the number of a channel, the length of the data, the data, and padding
+-- up to a multiple of 4 bytes (RFC 8656, sections 12.4 and 12.5)
 abbrev pub channel_data : ℕ → List ℕ → List ℕ
 channel_data channel bytes =
-    big_bytes 2 channel ++ big_bytes 2 (length bytes) ++ bytes ++ replicate (padded_length (length bytes) - length bytes) 0
+    big_bytes 2 channel ++ big_bytes 2 (length bytes) ++ bytes
+    ++ replicate (padded_length (length bytes) - length bytes) 0
 
 -- whether bytes begin with the number of a channel, 0x4000 to 0x4FFF (RFC 8656, section 12)
 abbrev pub is_channel : List ℕ → Bool
@@ -89,10 +96,12 @@ is_channel bytes = slice_index bytes 0 / 16 == 4
 abbrev pub turn_frame_of : List ℕ → Frame
 turn_frame_of bytes =
     if nat_lt (length bytes) 4 then Need (4 - length bytes)
-    else if is_channel bytes then frame_to (length bytes) (4 + padded_length (big_number 2 (drop 2 bytes)))
+    else if is_channel bytes
+    then frame_to (length bytes) (4 + padded_length (big_number 2 (drop 2 bytes)))
     else frame_of bytes
 
--- by a reader of frames so many bytes of a whole, fewer than it has, want more, and no more than it has
+-- by a reader of frames so many bytes of a whole, fewer than it has, want more, and no more than it
+-- has
 pub record IsPartBy (reader : List ℕ → Frame) (whole : List ℕ) (n : ℕ) : Type 0 where
   pub needed : ℕ
   pub answer : reader (take n whole) ≡ Need needed

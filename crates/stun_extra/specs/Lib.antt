@@ -2,11 +2,14 @@
 
 -- CRC-32, as a division of polynomials
 pub mod Crc32
--- FINGERPRINT: what is written at the end of a message, and what is found there (RFC 8489, section 14.7)
+-- FINGERPRINT: what is written at the end of a message, and what is found there (RFC 8489, section
+-- 14.7)
 pub mod Fingerprint
--- types that must be understood and are not known, and UNKNOWN-ATTRIBUTES (sections 6.3.1 and 14.13)
+-- types that must be understood and are not known, and UNKNOWN-ATTRIBUTES (sections 6.3.1 and
+-- 14.13)
 pub mod Unknown
--- messages in a stream of bytes, and in packets among those of other protocols (sections 6.2.2 and 8)
+-- messages in a stream of bytes, and in packets among those of other protocols (sections 6.2.2 and
+-- 8)
 pub mod Framing
 -- the types of attributes of STUN, ICE and TURN
 pub mod AttributeTypes

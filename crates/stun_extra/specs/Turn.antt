@@ -1,6 +1,9 @@
--- The values of TURN's attributes (RFC 8656, section 18), byte by byte. What is reserved in them is zero when written, and ignored when
--- read. Those of one number, of nothing or of bytes alone are read as `Values` says.
-use Rattle.std.specs.Prelude.{◌≡◌, ◌≤◌, ◌<◌, ◌^◌, ℕ, Bool, true, false, List, [], ◌∷◌, ◌++◌, length, slice_index, Option, Some, None, nat_le, nat_lt, ◌==◌, ◌&&◌, if◌then◌else◌}
+-- The values of TURN's attributes (RFC 8656, section 18), byte by byte. What is reserved in them is
+-- zero when written, and ignored when read. Those of one number, of nothing or of bytes alone are
+-- read as `Values` says.
+use Rattle.std.specs.Prelude.{◌≡◌, ◌≤◌, ◌<◌, ◌^◌, ℕ, Bool, true, false, List}
+use Rattle.std.specs.Prelude.{[], ◌∷◌, ◌++◌, length, slice_index, Option, Some}
+use Rattle.std.specs.Prelude.{None, nat_le, nat_lt, ◌==◌, ◌&&◌, if◌then◌else◌}
 use Rattle.std.proofs.Common.{arith, rules, refl, ◌/◌, ◌%◌, ◌+◌, ◌*◌}
 use Rattle.std.proofs.lemmas.Bool.Decides.{nat_tests}
 use Rattle.byteorder.specs.Endian.{big_bytes, big_number}
@@ -27,7 +30,8 @@ channel_value channel = big_bytes 2 channel ++ 0 ∷ 0 ∷ []
 -- the channel in an attribute of this type
 abbrev pub channel_of : TypedValue → Option ℕ
 channel_of attribute =
-    if attribute.kind == CHANNEL_NUMBER && (length attribute.value == 4) && is_channel_number (big_number 2 attribute.value)
+    if attribute.kind == CHANNEL_NUMBER && (length attribute.value == 4)
+    && is_channel_number (big_number 2 attribute.value)
     then Some (big_number 2 attribute.value) else None
 
 -- REQUESTED-ADDRESS-FAMILY and ADDITIONAL-ADDRESS-FAMILY (sections 18.6 and 18.11): the number of
@@ -38,7 +42,8 @@ family_number Ipv6 = 0x02
 
 -- the family of a number, where it is one
 abbrev pub numbered_family : ℕ → Option AddressFamily
-numbered_family number = if number == 0x01 then Some Ipv4 else (if number == 0x02 then Some Ipv6 else None)
+numbered_family number =
+    if number == 0x01 then Some Ipv4 else (if number == 0x02 then Some Ipv6 else None)
 
 abbrev pub family_value : AddressFamily → List ℕ
 family_value family = family_number family ∷ 0 ∷ 0 ∷ 0 ∷ []
@@ -56,7 +61,8 @@ even_port_value requested = (if requested then 0x80 else 0) ∷ []
 -- that bit of an attribute of this type
 abbrev pub even_port_of : TypedValue → Option Bool
 even_port_of attribute =
-    if attribute.kind == EVEN_PORT && (length attribute.value == 1) then Some (nat_le 0x80 (slice_index attribute.value 0)) else None
+    if attribute.kind == EVEN_PORT && (length attribute.value == 1)
+    then Some (nat_le 0x80 (slice_index attribute.value 0)) else None
 
 -- REQUESTED-TRANSPORT (section 18.8): the number of the protocol, and three reserved bytes
 abbrev pub transport_value : ℕ → List ℕ
@@ -64,19 +70,24 @@ transport_value protocol = protocol ∷ 0 ∷ 0 ∷ 0 ∷ []
 
 -- the number of the protocol in an attribute of this type
 abbrev pub transport_of : TypedValue → Option ℕ
-transport_of attribute = if attribute.kind == REQUESTED_TRANSPORT && (length attribute.value == 4) then Some (slice_index attribute.value 0) else None
+transport_of attribute =
+    if attribute.kind == REQUESTED_TRANSPORT && (length attribute.value == 4)
+    then Some (slice_index attribute.value 0) else None
 
--- XOR-PEER-ADDRESS and XOR-RELAYED-ADDRESS (sections 18.3 and 18.5): an attribute of this type is read as XOR-MAPPED-ADDRESS is
+-- XOR-PEER-ADDRESS and XOR-RELAYED-ADDRESS (sections 18.3 and 18.5): an attribute of this type is
+-- read as XOR-MAPPED-ADDRESS is
 abbrev pub xored_address_of : ℕ → TypedValue → Option XoredAddress
 xored_address_of kind attribute =
-    if attribute.kind == kind then xored_of (record { kind = XOR_MAPPED_ADDRESS; value = attribute.value }) else None
+    if attribute.kind == kind
+    then xored_of (record { kind = XOR_MAPPED_ADDRESS; value = attribute.value }) else None
 
 -- ---- what is written is read again
 
 pub channel_of-written : (channel : ℕ) → IsChannel channel
     → channel_of (record { kind = CHANNEL_NUMBER; value = channel_value channel }) ≡ Some channel
 channel_of-written channel fits =
-    let read : channel / 256 % 256 * 256 + (channel % 256 * 1 + 0) ≡ channel = omega (arith, fits) in
+    let read : channel / 256 % 256 * 256 + (channel % 256 * 1 + 0) ≡ channel =
+    omega (arith, fits) in
     let low = fits.0 in
     let high = fits.1 in
     rw read (grind (arith, nat_tests))
@@ -92,7 +103,8 @@ even_port_of-written true holds = refl
 even_port_of-written false holds = refl
 
 pub transport_of-written : (protocol : ℕ) → protocol < 2 ^ 8
-    → transport_of (record { kind = REQUESTED_TRANSPORT; value = transport_value protocol }) ≡ Some protocol
+    → transport_of (record { kind = REQUESTED_TRANSPORT; value = transport_value protocol })
+    ≡ Some protocol
 transport_of-written protocol fits = search rules
 
 pub xored_address_of-written : (kind : ℕ) (address : XoredAddress) → IsXored address

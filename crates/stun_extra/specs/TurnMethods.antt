@@ -1,7 +1,8 @@
 -- The methods of TURN (RFC 8656, section 17).
 use Rattle.std.specs.Prelude.{ℕ, Option, Some, None, ◌==◌, if◌then◌else◌}
 use Rattle.stun_extra.specs.declared.turn.TurnMethod.{TurnMethod}
-use Rattle.stun_extra.specs.declared.turn.TurnMethod.TheVariants.{Allocate, Refresh, Send, Data, CreatePermission, ChannelBind}
+use Rattle.stun_extra.specs.declared.turn.TurnMethod.TheVariants.{Allocate, Refresh, Send, Data}
+use Rattle.stun_extra.specs.declared.turn.TurnMethod.TheVariants.{CreatePermission, ChannelBind}
 
 -- the number of a method
 abbrev pub method_number : TurnMethod → ℕ

@@ -1,5 +1,8 @@
--- Types of attributes that must be understood and are not known (RFC 8489, sections 6.3.1 and 14.13).
-use Rattle.std.specs.Prelude.{◌≡◌, ◌<◌, ◌+◌, ◌*◌, ◌/◌, ◌%◌, ◌^◌, ℕ, Bool, List, [], ◌∷◌, codes, filter, map, length, nat_lt, not, ◌==◌, ◌&&◌, ◌≢◌, ◌⊎◌, Option, Some, None, if◌then◌else◌}
+-- Types of attributes that must be understood and are not known (RFC 8489, sections 6.3.1 and
+-- 14.13).
+use Rattle.std.specs.Prelude.{◌≡◌, ◌<◌, ◌+◌, ◌*◌, ◌/◌, ◌%◌, ◌^◌, ℕ, Bool, List, []}
+use Rattle.std.specs.Prelude.{◌∷◌, codes, filter, map, length, nat_lt, not, ◌==◌}
+use Rattle.std.specs.Prelude.{◌&&◌, ◌≢◌, ◌⊎◌, Option, Some, None, if◌then◌else◌}
 use Rattle.std.proofs.Common.{arith, refl}
 use Rattle.std.specs.List.{AllByRecursion, flat_map, list_any}
 use Rattle.byteorder.specs.Endian.{big_bytes}
@@ -41,7 +44,8 @@ kinds_of members = map (λ m. m.1.kind) members
 abbrev pub types_of : List ℕ → List AttributeType
 types_of kinds = map (λ kind. record { 0 = kind }) kinds
 
--- the types of visible attributes that must be understood and are not known, in their order, each once
+-- the types of visible attributes that must be understood and are not known, in their order, each
+-- once
 abbrev pub unknown_types : List AttributeType → List ℕ → List AttributeType
 unknown_types known bytes = types_of (once (filter (is_unknown known) (kinds_of (visible bytes))))
 
@@ -49,11 +53,12 @@ unknown_types known bytes = types_of (once (filter (is_unknown known) (kinds_of 
 abbrev pub HasUnknown : List AttributeType → List ℕ → Type 0
 HasUnknown known bytes = unknown_types known bytes ≢ []
 
--- a response ends its transaction as failed, whatever else it says: it has such an attribute, or is an error response without
--- ERROR-CODE (sections 6.3.3 and 6.3.4)
+-- a response ends its transaction as failed, whatever else it says: it has such an attribute, or is
+-- an error response without ERROR-CODE (sections 6.3.3 and 6.3.4)
 abbrev pub EndsFailed : List AttributeType → List ℕ → Type 0
 EndsFailed known response =
-    HasUnknown known response ⊎ ((class_in response ≡ Error) × (first_of ERROR_CODE (visible response) ≡ None))
+    HasUnknown known response
+    ⊎ ((class_in response ≡ Error) × (first_of ERROR_CODE (visible response) ≡ None))
 
 -- the value of UNKNOWN-ATTRIBUTES: types, 2 bytes each (section 14.13)
 abbrev pub spelled_types : List AttributeType → List ℕ
@@ -65,13 +70,22 @@ IsRefused known message = (class_in message ≡ Request) × HasUnknown known mes
 
 -- ERROR-CODE of such an answer
 abbrev pub unknown_attribute_error : TypedValue
-unknown_attribute_error = record { kind = ERROR_CODE; value = error_value (record { code = 420; reason = codes "Unknown Attribute" }) }
+unknown_attribute_error =
+    record {
+      kind = ERROR_CODE;
+      value = error_value (record { code = 420; reason = codes "Unknown Attribute" });
+    }
 
--- the answer to it: an error response with ERROR-CODE, and with UNKNOWN-ATTRIBUTES of these types (section 6.3.1)
+-- the answer to it: an error response with ERROR-CODE, and with UNKNOWN-ATTRIBUTES of these types
+-- (section 6.3.1)
 unfoldable pub refusing_answer : List AttributeType → List ℕ → List ℕ
 refusing_answer known request =
     spelled (type_number Error (method_of (type_field request))) (transaction_id_field request)
-    (unknown_attribute_error ∷ record { kind = UNKNOWN_ATTRIBUTES; value = spelled_types (unknown_types known request) } ∷ [])
+    (unknown_attribute_error
+    ∷ record {
+      kind = UNKNOWN_ATTRIBUTES;
+      value = spelled_types (unknown_types known request);
+    } ∷ [])
 
 -- the types that bytes spell, 2 bytes each
 abbrev pub types_in : List ℕ → List AttributeType
@@ -82,14 +96,16 @@ types_in (a ∷ b ∷ rest) = record { 0 = a * 256 + b } ∷ types_in rest
 -- the types in an UNKNOWN-ATTRIBUTES, whose value has 2 bytes for each
 abbrev pub unknown_attributes_in : TypedValue → Option (List AttributeType)
 unknown_attributes_in attribute =
-    if attribute.kind == UNKNOWN_ATTRIBUTES && (length attribute.value % 2 == 0) then Some (types_in attribute.value) else None
+    if attribute.kind == UNKNOWN_ATTRIBUTES && (length attribute.value % 2 == 0)
+    then Some (types_in attribute.value) else None
 
 -- types are numbers of 16 bits
 abbrev pub AreTypes : List AttributeType → Type 0
 AreTypes types = AllByRecursion (λ kind. kind.0 < 2 ^ 16) types
 
 -- types that are written are read again
-types_in-spelled : (types : List AttributeType) → AreTypes types → types_in (spelled_types types) ≡ types
+types_in-spelled : (types : List AttributeType) → AreTypes types
+    → types_in (spelled_types types) ≡ types
 types_in-spelled [] fit = refl
 types_in-spelled (kind ∷ types) fit =
     let number : kind.0 / 256 % 256 * 256 + kind.0 % 256 ≡ kind.0 = omega (arith, fit.0) in
@@ -101,5 +117,7 @@ spelled_types-even [] = refl
 spelled_types-even (kind ∷ types) = omega (arith, spelled_types-even types)
 
 pub unknown_attributes_in-written : (types : List AttributeType) → AreTypes types
-    → unknown_attributes_in (record { kind = UNKNOWN_ATTRIBUTES; value = spelled_types types }) ≡ Some types
-unknown_attributes_in-written types fit = rw (spelled_types-even types, types_in-spelled types fit) refl
+    → unknown_attributes_in (record { kind = UNKNOWN_ATTRIBUTES; value = spelled_types types })
+    ≡ Some types
+unknown_attributes_in-written types fit =
+    rw (spelled_types-even types, types_in-spelled types fit) refl

@@ -1,5 +1,7 @@
--- How values of one form are read: a number, nothing, or bytes. Of another length than their type has they are malformed.
-use Rattle.std.specs.Prelude.{◌≡◌, ◌<◌, ◌^◌, ℕ, List, [], length, Option, Some, None, ◌==◌, ◌&&◌, if◌then◌else◌}
+-- How values of one form are read: a number, nothing, or bytes. Of another length than their type
+-- has they are malformed.
+use Rattle.std.specs.Prelude.{◌≡◌, ◌<◌, ◌^◌, ℕ, List, [], length, Option}
+use Rattle.std.specs.Prelude.{Some, None, ◌==◌, ◌&&◌, if◌then◌else◌}
 use Rattle.std.proofs.Common.{rules, sym, ap, ◌∙◌}
 use Rattle.std.proofs.lemmas.List.{append-nil}
 use Rattle.byteorder.specs.Endian.{big_bytes, big_number}
@@ -12,16 +14,21 @@ DOMAIN_LIMIT = 255
 
 -- the value of an attribute of this type, where it has exactly so many bytes
 abbrev pub value_of : ℕ → ℕ → TypedValue → Option (List ℕ)
-value_of kind count attribute = if attribute.kind == kind && (length attribute.value == count) then Some attribute.value else None
+value_of kind count attribute =
+    if attribute.kind == kind && (length attribute.value == count) then Some attribute.value
+    else None
 
--- the number that is the value of an attribute of this type, in exactly so many bytes, the highest first
+-- the number that is the value of an attribute of this type, in exactly so many bytes, the highest
+-- first
 abbrev pub number_of : ℕ → ℕ → TypedValue → Option ℕ
 number_of kind count attribute =
-    if attribute.kind == kind && (length attribute.value == count) then Some (big_number count attribute.value) else None
+    if attribute.kind == kind && (length attribute.value == count)
+    then Some (big_number count attribute.value) else None
 
 -- an attribute of this type whose value is empty
 abbrev pub flag_of : ℕ → TypedValue → Option (Unit {0})
-flag_of kind attribute = if attribute.kind == kind && (length attribute.value == 0) then Some tt else None
+flag_of kind attribute =
+    if attribute.kind == kind && (length attribute.value == 0) then Some tt else None
 
 -- the value of an attribute of this type, of any length
 abbrev pub bytes_of : ℕ → TypedValue → Option (List ℕ)
@@ -30,22 +37,28 @@ bytes_of kind attribute = if attribute.kind == kind then Some attribute.value el
 -- ---- what is written is read again
 
 -- a number is read from its bytes
-number-written : (count number : ℕ) → number < 256 ^ count → big_number count (big_bytes count number) ≡ number
+number-written : (count number : ℕ) → number < 256 ^ count
+    → big_number count (big_bytes count number) ≡ number
 number-written count number fits =
-    ap (big_number count) (sym (append-nil (big_bytes count number))) ∙ big_number-reads_back count number [] fits
+    ap (big_number count) (sym (append-nil (big_bytes count number)))
+    ∙ big_number-reads_back count number [] fits
 
-pub number_of_4-written : (kind number : ℕ) → number < 2 ^ 32 → number_of kind 4 (record { kind = kind; value = big_bytes 4 number }) ≡ Some number
+pub number_of_4-written : (kind number : ℕ) → number < 2 ^ 32
+    → number_of kind 4 (record { kind = kind; value = big_bytes 4 number }) ≡ Some number
 number_of_4-written kind number fits = let read = number-written 4 number fits in search rules
 
-pub number_of_8-written : (kind number : ℕ) → number < 2 ^ 64 → number_of kind 8 (record { kind = kind; value = big_bytes 8 number }) ≡ Some number
+pub number_of_8-written : (kind number : ℕ) → number < 2 ^ 64
+    → number_of kind 8 (record { kind = kind; value = big_bytes 8 number }) ≡ Some number
 number_of_8-written kind number fits = let read = number-written 8 number fits in search rules
 
 pub value_of-written : (kind count : ℕ) (value : List ℕ) → length value ≡ count
     → value_of kind count (record { kind = kind; value = value }) ≡ Some value
 value_of-written kind count value whole = search rules
 
-pub flag_of-written : (kind : ℕ) (flag : Unit {0}) → Unit {0} → flag_of kind (record { kind = kind; value = [] }) ≡ Some flag
+pub flag_of-written : (kind : ℕ) (flag : Unit {0}) → Unit {0}
+    → flag_of kind (record { kind = kind; value = [] }) ≡ Some flag
 flag_of-written kind flag holds = search rules
 
-pub bytes_of-written : (kind : ℕ) (value : List ℕ) → Unit {0} → bytes_of kind (record { kind = kind; value = value }) ≡ Some value
+pub bytes_of-written : (kind : ℕ) (value : List ℕ) → Unit {0}
+    → bytes_of kind (record { kind = kind; value = value }) ≡ Some value
 bytes_of-written kind value holds = search rules

@@ -1,12 +1,15 @@
 //! FINGERPRINT (RFC 8489, section 14.7): written at the end of a message, and checked.
-ghost use Rattle.std.specs.Prelude.{◌≡◌, ◌≤◌, ℕ, false, List, length, IfOk, IsOk, IsOkUnless, MatchOption, None, Err};
+ghost use Rattle.std.specs.Prelude.{◌≡◌, ◌≤◌, ℕ, false, List, length, IfOk};
+ghost use Rattle.std.specs.Prelude.{IsOk, IsOkUnless, MatchOption, None, Err};
 ghost use Rattle.stun_base.specs.Attributes.{FINGERPRINT};
 ghost use Rattle.stun_base.specs.declared.keys.algorithm.IntegrityAlgorithm.{IntegrityAlgorithm};
 ghost use Rattle.stun_types.specs.Integrity.{first_of, verified_by};
 ghost use Rattle.stun_types.specs.Message.{IsMessage};
 ghost use Rattle.stun_types.specs.Visible.{visible};
 ghost use Rattle.stun_types.specs.Writing.{HasOneMore};
-ghost use Rattle.stun_extra.specs.Fingerprint.{fingerprint_at, fingerprint_attribute, fingerprint_in, fingerprint_number, fingerprint_refusal, with_fingerprint};
+ghost use Rattle.stun_extra.specs.Fingerprint.{fingerprint_at, fingerprint_attribute};
+ghost use Rattle.stun_extra.specs.Fingerprint.{fingerprint_in, fingerprint_number};
+ghost use Rattle.stun_extra.specs.Fingerprint.{fingerprint_refusal, with_fingerprint};
 
 use crate::crc32::crc32;
 use byteorder::{BigEndian, ByteOrder};
@@ -83,9 +86,10 @@ fn fingerprint_number(bytes: &[u8]) -> u32
 
 /// Adds FINGERPRINT to a message and ends the writing, so that nothing comes behind it.
 ///
-/// The message may be signed before: its digest verifies as it did, since it covers only what is before it, and a length that
-/// ends after it. It refuses by the first of these: the message has a FINGERPRINT (`AttributeExists`), it would be longer than
-/// 65532 bytes after its header (`TooLarge`), no room for 8 bytes (`TooSmall`), an allocation fails (`OutOfMemory`). A refusal
+/// The message may be signed before: its digest verifies as it did, since it covers only what is
+/// before it, and a length that ends after it. It refuses by the first of these: the message has a
+/// FINGERPRINT (`AttributeExists`), it would be longer than 65532 bytes after its header
+/// (`TooLarge`), no room for 8 bytes (`TooSmall`), an allocation fails (`OutOfMemory`). A refusal
 /// drops the writer.
 pub fn finish_with_fingerprint<W: MessageWrite>(mut writer: W) -> Result<W::Output, StunWriteError>
     requires { 20 ≤ length (W.bytes writer) }

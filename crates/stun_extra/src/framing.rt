@@ -1,6 +1,8 @@
-//! Messages in a stream of bytes, as over TCP (RFC 8489, section 6.2.2), and in packets among those of other protocols.
+//! Messages in a stream of bytes, as over TCP (RFC 8489, section 6.2.2), and in packets among those
+//! of other protocols.
 ghost use Rattle.std.specs.Prelude.{◌≡◌, ◌↔◌, IsTrue};
-ghost use Rattle.stun_extra.specs.Framing.{IsStunPacket, frame_of, frame_to, packet_frame_of, turn_frame_of};
+ghost use Rattle.stun_extra.specs.Framing.{IsStunPacket, frame_of, frame_to};
+ghost use Rattle.stun_extra.specs.Framing.{packet_frame_of, turn_frame_of};
 
 use byteorder::{BigEndian, ByteOrder};
 use stun_base::header::{HEADER_LENGTH, MessageHeader};
@@ -8,7 +10,8 @@ use stun_base::header::{HEADER_LENGTH, MessageHeader};
 /// The number of bytes of the length before a packet (RFC 4571, section 2).
 pub const PACKET_HEADER_LENGTH: usize = 2;
 
-/// The number of bytes before the data of ChannelData: the channel and the length (RFC 8656, section 12.4).
+/// The number of bytes before the data of ChannelData: the channel and the length (RFC 8656,
+/// section 12.4).
 pub const CHANNEL_HEADER_LENGTH: usize = 4;
 
 /// What bytes of a stream begin with.
@@ -16,7 +19,8 @@ pub const CHANNEL_HEADER_LENGTH: usize = 4;
 pub enum Frame {
     /// A part of a message: it has at least so many bytes more, one or more.
     Need(usize),
-    /// A message of so many bytes, by its header. Whether its attributes are whole, `Message::from_bytes` tells.
+    /// A message of so many bytes, by its header. Whether its attributes are whole,
+    /// `Message::from_bytes` tells.
     Message(usize),
     /// No message of STUN, whatever follows.
     NotStun,
@@ -24,7 +28,8 @@ pub enum Frame {
 
 /// What these bytes of a stream begin with, where a message is to begin. It does not allocate.
 ///
-/// With fewer bytes than a header has, `Need` is what the header lacks; with a header, what the message lacks.
+/// With fewer bytes than a header has, `Need` is what the header lacks; with a header, what the
+/// message lacks.
 pub fn next_frame(bytes: &[u8]) -> Frame
     ensures { result ≡ frame_of bytes.now }
 {
@@ -40,8 +45,9 @@ pub fn next_frame(bytes: &[u8]) -> Frame
     }
 }
 
-/// What these bytes of a stream begin with, where a packet behind its length in 2 bytes is to begin, as ICE sends packets over TCP
-/// (RFC 4571, section 2). `Message` counts these 2 bytes, and so may be an empty packet; `NotStun` is never answered.
+/// What these bytes of a stream begin with, where a packet behind its length in 2 bytes is to
+/// begin, as ICE sends packets over TCP (RFC 4571, section 2). `Message` counts these 2 bytes, and
+/// so may be an empty packet; `NotStun` is never answered.
 pub fn next_packet_frame(bytes: &[u8]) -> Frame
     ensures { result ≡ packet_frame_of bytes.now }
 {
@@ -52,8 +58,9 @@ pub fn next_packet_frame(bytes: &[u8]) -> Frame
     frame_to(bytes.len(), PACKET_HEADER_LENGTH + length)
 }
 
-/// What these bytes of a stream begin with, where a message or the ChannelData of TURN is to begin (RFC 8656, sections 12.4 and
-/// 12.5). `Message` is ChannelData, with its header of 4 bytes and its padding, where the first byte is 0x40 to 0x4F.
+/// What these bytes of a stream begin with, where a message or the ChannelData of TURN is to begin
+/// (RFC 8656, sections 12.4 and 12.5). `Message` is ChannelData, with its header of 4 bytes and its
+/// padding, where the first byte is 0x40 to 0x4F.
 pub fn next_turn_frame(bytes: &[u8]) -> Frame
     ensures { result ≡ turn_frame_of bytes.now }
 {
@@ -78,8 +85,8 @@ fn frame_to(there: usize, whole: usize) -> Frame
     }
 }
 
-/// Whether a packet is to be given to STUN, where other protocols share its port (RFC 8489, section 8; RFC 7983, section 7): its
-/// first byte is 0 to 3, and it begins with a header of STUN.
+/// Whether a packet is to be given to STUN, where other protocols share its port (RFC 8489, section
+/// 8; RFC 7983, section 7): its first byte is 0 to 3, and it begins with a header of STUN.
 pub fn is_stun(packet: &[u8]) -> bool
     ensures { IsTrue result ↔ IsStunPacket packet.now }
 {

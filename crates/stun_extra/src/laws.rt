@@ -1,5 +1,6 @@
 //! Laws. A law is a function whose contract is the law; it does nothing.
-ghost use Rattle.std.specs.Prelude.{◌≡◌, ◌≤◌, ◌<◌, ◌^◌, ℕ, Some, List, ◌∷◌, ◌++◌, filter, length, cond, ◌==◌};
+ghost use Rattle.std.specs.Prelude.{◌≡◌, ◌≤◌, ◌<◌, ◌^◌, ℕ, Some, List};
+ghost use Rattle.std.specs.Prelude.{◌∷◌, ◌++◌, filter, length, cond, ◌==◌};
 ghost use Rattle.std.specs.List.{AllByRecursion, concat, list_any};
 ghost use Rattle.stun_base.specs.Attributes.{FINGERPRINT};
 ghost use Rattle.stun_types.specs.Integrity.{first_of};
@@ -8,7 +9,8 @@ ghost use Rattle.stun_types.specs.Visible.{visible};
 ghost use Rattle.stun_types.specs.Walk.{Member};
 ghost use Rattle.stun_extra.specs.Crc32.{crc32};
 ghost use Rattle.stun_extra.specs.Fingerprint.{fingerprint_in};
-ghost use Rattle.stun_extra.specs.Framing.{IsLeftOver, IsPartBy, IsPartOf, channel_data, cut, fed, frame_of, framed_packet, packet_frame_of, turn_frame_of};
+ghost use Rattle.stun_extra.specs.Framing.{IsLeftOver, IsPartBy, IsPartOf, channel_data, cut, fed};
+ghost use Rattle.stun_extra.specs.Framing.{frame_of, framed_packet, packet_frame_of, turn_frame_of};
 ghost use Rattle.stun_extra.specs.Unknown.{once};
 ghost use Rattle.stun_extra.specs.declared.fingerprint.Fingerprint.{Fingerprint};
 ghost use Rattle.stun_extra.specs.declared.framing.Frame.{Frame};
@@ -19,7 +21,8 @@ pub fn one_changed_byte_changes_the_crc()
         → crc32 (front ++ byte ∷ behind) ≡ crc32 (front ++ other ∷ behind) → byte ≡ other }
 {}
 
-/// Of two messages with the same FINGERPRINT at the same place that differ in one byte before it, one at most is right.
+/// Of two messages with the same FINGERPRINT at the same place that differ in one byte before it,
+/// one at most is right.
 pub fn one_changed_byte_makes_fingerprint_wrong()
     ensures { (front behind : List ℕ) (byte other : ℕ) (m : Member)
         → byte < 256 → other < 256 → length front < m.0
@@ -36,7 +39,8 @@ pub fn each_number_is_there_once()
         ≡ cond (list_any (λ y. y == x) xs) 1 0 }
 {}
 
-/// A stream of messages is cut into exactly these messages, whatever the pieces are in which it comes.
+/// A stream of messages is cut into exactly these messages, whatever the pieces are in which it
+/// comes.
 pub fn stream_is_cut_into_its_messages()
     ensures whole { (message rest : List ℕ) → IsMessage message
         → frame_of (message ++ rest) ≡ Frame.Message (length message) }
@@ -56,7 +60,8 @@ pub fn packet_is_framed()
         → n < length (framed_packet packet) → IsPartBy packet_frame_of (framed_packet packet) n }
 {}
 
-/// Where messages and ChannelData come, each is cut off whole, and a part of ChannelData wants more.
+/// Where messages and ChannelData come, each is cut off whole, and a part of ChannelData wants
+/// more.
 pub fn turn_is_framed()
     ensures message { (message rest : List ℕ) → IsMessage message
         → turn_frame_of (message ++ rest) ≡ Frame.Message (length message) }

@@ -1,4 +1,5 @@
-//! Types of attributes that must be understood and are not known (RFC 8489, sections 6.3.1 and 14.13).
+//! Types of attributes that must be understood and are not known (RFC 8489, sections 6.3.1 and
+//! 14.13).
 ghost use Rattle.std.specs.Prelude.{◌≡◌, ◌<◌, ◌^◌, ◌↔◌, IsTrue, length};
 ghost use Rattle.std.specs.Iterator.{YieldsFirst, item_count};
 ghost use Rattle.stun_extra.specs.Unknown.{HasUnknown, is_known, unknown_types};
@@ -18,8 +19,8 @@ pub use attribute::UnknownAttributes;
 /// The type of UNKNOWN-ATTRIBUTES (RFC 8489, section 18.3).
 pub const UNKNOWN_ATTRIBUTES: AttributeType = AttributeType(0x000A);
 
-/// The types of a message's visible attributes that must be understood, below 0x8000, and that a caller does not know, each
-/// once, in their order; seen as the list of those that are left.
+/// The types of a message's visible attributes that must be understood, below 0x8000, and that a
+/// caller does not know, each once, in their order; seen as the list of those that are left.
 ///
 /// It does not allocate: it has 4 KiB of its own, a bit for each such type.
 #[derive(Debug, Drop)]
@@ -41,8 +42,9 @@ impl<'a> Model for UnknownTypes<'a> {
 
 /// The types of a message that must be understood and that are not among these.
 ///
-/// A server answers a request that has one with the error 420 and the attribute `UnknownAttributes`, an agent drops an
-/// indication or a response that has one (RFC 8489, sections 6.3.1 to 6.3.4).
+/// A server answers a request that has one with the error 420 and the attribute
+/// `UnknownAttributes`, an agent drops an indication or a response that has one (RFC 8489, sections
+/// 6.3.1 to 6.3.4).
 pub fn unknown_types<'a>(message: &Message<'a>, known: &'a [AttributeType]) -> UnknownTypes<'a>
     ensures types { result ≡ unknown_types known.now message.now }
     ensures few { length result < 2 ^ 14 }
@@ -61,8 +63,8 @@ fn is_known(known: &[AttributeType], kind: AttributeType) -> bool
     known.iter().any(|one| one.value() == kind.value())
 }
 
-/// Whether a message has a visible attribute that must be understood and whose type is not among these. An indication that has one
-/// is dropped (RFC 8489, section 6.3.2).
+/// Whether a message has a visible attribute that must be understood and whose type is not among
+/// these. An indication that has one is dropped (RFC 8489, section 6.3.2).
 pub fn has_unknown(message: &Message<'_>, known: &[AttributeType]) -> bool
     ensures { IsTrue result ↔ HasUnknown known.now message.now }
 {

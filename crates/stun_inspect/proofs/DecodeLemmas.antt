@@ -5,8 +5,10 @@ use Rattle.stun_inspect.specs.Decode.{IsLineOn, AreLinesOn}
 
 -- lines on attributes, and then a line on one more
 pub lines-more : (message : List ℕ) (told : List Told) (more : Told) (text line : List ℕ)
-    → AreLinesOn message told text → IsLineOn message more line → AreLinesOn message (told ++ more ∷ []) (text ++ line)
-lines-more message [] more text line none is_line = (line, [], is_line, refl, rw none (sym (append-nil line)))
+    → AreLinesOn message told text → IsLineOn message more line
+    → AreLinesOn message (told ++ more ∷ []) (text ++ line)
+lines-more message [] more text line none is_line =
+    (line, [], is_line, refl, rw none (sym (append-nil line)))
 lines-more message (first ∷ others) more text line lines is_line = (
   lines.0,
   lines.1 ++ line,

@@ -1,5 +1,6 @@
 -- What is told of a message, and which of it nothing hides.
-use Rattle.std.proofs.Common.{◌≡◌, ℕ, Bool, true, false, cond, Some, None, List, [], ◌∷◌, ◌++◌, drop, refl, sym, ap}
+use Rattle.std.proofs.Common.{◌≡◌, ℕ, Bool, true, false, cond, Some, None}
+use Rattle.std.proofs.Common.{List, [], ◌∷◌, ◌++◌, drop, refl, sym, ap}
 use Rattle.std.specs.Prelude.{◌==◌, ◌&&◌, ◌||◌, not, is_none, map, filter}
 use Rattle.std.proofs.lemmas.List.{map-append}
 use Rattle.stun_base.specs.Attributes.{MESSAGE_INTEGRITY_SHA256, FINGERPRINT}
@@ -15,7 +16,10 @@ use Rattle.stun_inspect.specs.Telling.{hider, told_at, told_of, shown}
 
 -- the cases of both, in the same order
 cases_agree : (fingerprint last integrity_sha256 integrity stronger : Bool) (a b c : AttributeType)
-    → is_none (cond fingerprint (Some a) (cond last None (cond integrity_sha256 (Some b) (cond (integrity && not stronger) (Some c) None))))
+    → is_none
+    (cond fingerprint (Some a)
+    (cond last None
+    (cond integrity_sha256 (Some b) (cond (integrity && not stronger) (Some c) None))))
     ≡ (not fingerprint && (not integrity_sha256 || last) && (not integrity || stronger || last))
 cases_agree true last integrity_sha256 integrity stronger a b c = refl
 cases_agree false false true integrity stronger a b c = refl
@@ -31,18 +35,23 @@ cases_agree false true false true false a b c = refl
 
 -- nothing hides what is visible, and something hides the rest
 hider-none : (integrity integrity_sha256 fingerprint : Bool) (kind : ℕ)
-    → is_none (hider integrity integrity_sha256 fingerprint kind) ≡ counts_behind integrity integrity_sha256 fingerprint kind
+    → is_none (hider integrity integrity_sha256 fingerprint kind)
+    ≡ counts_behind integrity integrity_sha256 fingerprint kind
 hider-none integrity integrity_sha256 fingerprint kind =
-    cases_agree fingerprint (kind == FINGERPRINT) integrity_sha256 integrity (kind == MESSAGE_INTEGRITY_SHA256) _ _ _
+    cases_agree fingerprint (kind == FINGERPRINT) integrity_sha256 integrity
+    (kind == MESSAGE_INTEGRITY_SHA256) _ _ _
 
 -- what is told of attributes shows those that are visible among all
-shown-told : (all members : List Member) → shown (map (told_at all) members) ≡ filter (counts all) members
+shown-told : (all members : List Member)
+    → shown (map (told_at all) members) ≡ filter (counts all) members
 shown-told all [] = refl
 shown-told all (m ∷ members) =
     let rest = shown-told all members in
     let same : is_none (told_at all m).hidden_by ≡ counts all m = hider-none _ _ _ m.1.kind in
     rw same (elim (counts all m) as (λ is_shown.
-    map (λ t. (t.place, t.attribute)) (cond is_shown (told_at all m ∷ filter (λ t. is_none t.hidden_by) (map (told_at all) members)) (filter (λ t. is_none t.hidden_by) (map (told_at all) members)))
+    map (λ t. (t.place, t.attribute))
+    (cond is_shown (told_at all m ∷ filter (λ t. is_none t.hidden_by) (map (told_at all) members))
+    (filter (λ t. is_none t.hidden_by) (map (told_at all) members)))
     ≡ cond is_shown (m ∷ filter (counts all) members) (filter (counts all) members)) [
       | true ↦ ap (λ ms. m ∷ ms) rest
       | false ↦ rest
@@ -54,12 +63,28 @@ unfolding visible
 shown-visible bytes = shown-told (walk bytes) (walk bytes)
 
 -- the attribute at a place is told after those before it
-pub told-step : {place kind behind : ℕ} {integrity integrity_sha256 fingerprint : Bool} {bytes : List ℕ} {attribute : TypedValue} {told : List Told}
-    → HasPassed place integrity integrity_sha256 fingerprint bytes → StandsAt place bytes attribute kind behind
+pub told-step : {place kind behind : ℕ} {integrity integrity_sha256 fingerprint : Bool}
+    {bytes : List ℕ} {attribute : TypedValue} {told : List Told}
+    → HasPassed place integrity integrity_sha256 fingerprint bytes
+    → StandsAt place bytes attribute kind behind
     → told ≡ map (told_at (walk bytes)) (before place (walk bytes))
-    → told ++ record { place = place; attribute = attribute; hidden_by = hider integrity integrity_sha256 fingerprint kind } ∷ []
+    → told ++ record {
+      place = place;
+      attribute = attribute;
+      hidden_by = hider integrity integrity_sha256 fingerprint kind;
+    } ∷ []
     ≡ map (told_at (walk bytes)) (before behind (walk bytes))
 told-step {place} {bytes = bytes} passed stands so_far =
     let step = before-step place bytes passed.is_place stands.whole in
-    rw (stands.behind_is, stands.kind_is, stands.attribute_is, so_far, step, passed.integrity_seen, passed.integrity_sha256_seen, passed.fingerprint_seen)
-    (sym (map-append (told_at (walk bytes)) (before place (walk bytes)) ((place, first_attribute (drop place bytes)) ∷ [])))
+    rw (
+      stands.behind_is,
+      stands.kind_is,
+      stands.attribute_is,
+      so_far,
+      step,
+      passed.integrity_seen,
+      passed.integrity_sha256_seen,
+      passed.fingerprint_seen,
+    )
+    (sym (map-append (told_at (walk bytes)) (before place (walk bytes))
+    ((place, first_attribute (drop place bytes)) ∷ [])))

@@ -21,34 +21,46 @@ NAME_LENGTH = 28
 -- the rest, of a FINGERPRINT whether it is right, and a line feed
 abbrev pub line_with : List ℕ → Told → List ℕ → List ℕ → List ℕ
 line_with message told name rest =
-    name ++ (codes " " ++ (type_text told.attribute.kind ++ (codes " at " ++ (decimal told.place ++ (codes " " ++ (rest ++ (ending_of message told ++ 10 ∷ [])))))))
+    name ++ (codes " "
+    ++ (type_text told.attribute.kind
+    ++ (codes " at "
+    ++ (decimal told.place ++ (codes " " ++ (rest ++ (ending_of message told ++ 10 ∷ [])))))))
 
 -- it is one line
 abbrev pub IsLineOn : List ℕ → Told → List ℕ → Type 0
 IsLineOn message told line =
-    (name : List ℕ) × (rest : List ℕ) × (length name ≡ NAME_LENGTH) × IsLine line × (line ≡ line_with message told name rest)
+    (name : List ℕ) × (rest : List ℕ) × (length name ≡ NAME_LENGTH) × IsLine line
+    × (line ≡ line_with message told name rest)
 
 -- a text is one line on each attribute, in order
 abbrev pub AreLinesOn : List ℕ → List Told → List ℕ → Type 0
 AreLinesOn message [] text = text ≡ []
 AreLinesOn message (first ∷ others) text =
-    (line : List ℕ) × (rest : List ℕ) × IsLineOn message first line × AreLinesOn message others rest × (text ≡ line ++ rest)
+    (line : List ℕ) × (rest : List ℕ) × IsLineOn message first line × AreLinesOn message others rest
+    × (text ≡ line ++ rest)
 
 -- three lines on the header: on class, method and transaction id
 abbrev pub IsHeader : List ℕ → Type 0
 IsHeader text =
-    (first : List ℕ) × (second : List ℕ) × (third : List ℕ) × IsLine first × IsLine second × IsLine third
+    (first : List ℕ) × (second : List ℕ) × (third : List ℕ) × IsLine first × IsLine second
+    × IsLine third
     × (text ≡ first ++ (second ++ third))
 
 -- what is said of a message: the lines on its header, and then a line on each attribute
 abbrev pub Describes : List ℕ → List ℕ → Type 0
-Describes message text = (header : List ℕ) × (lines : List ℕ) × IsHeader header × AreLinesOn message (told_of message) lines × (text ≡ header ++ lines)
+Describes message text =
+    (header : List ℕ) × (lines : List ℕ) × IsHeader header
+    × AreLinesOn message (told_of message) lines × (text ≡ header ++ lines)
 
 -- the message is described, or the line for what refuses the bytes is printed
-abbrev pub PrintsUnlessRefused : Option StunParseError → List ℕ → Status → Option (List ℕ) → Option (List ℕ) → Type 0
-PrintsUnlessRefused None bytes status before after = (status ≡ Good) × (text : List ℕ) × Describes bytes text × Appends before after text
-PrintsUnlessRefused (Some error) bytes status before after = (status ≡ Bad) × Appends before after (refusal_line error)
+abbrev pub PrintsUnlessRefused : Option StunParseError → List ℕ → Status → Option (List ℕ)
+    → Option (List ℕ) → Type 0
+PrintsUnlessRefused None bytes status before after =
+    (status ≡ Good) × (text : List ℕ) × Describes bytes text × Appends before after text
+PrintsUnlessRefused (Some error) bytes status before after =
+    (status ≡ Bad) × Appends before after (refusal_line error)
 
 -- what is printed for bytes, and the status that goes with it
 abbrev pub PrintsDecoded : List ℕ → Status → Option (List ℕ) → Option (List ℕ) → Type 0
-PrintsDecoded bytes status before after = PrintsUnlessRefused (refusal bytes) bytes status before after
+PrintsDecoded bytes status before after =
+    PrintsUnlessRefused (refusal bytes) bytes status before after

@@ -1,12 +1,14 @@
 -- What each command prints where it has an answer, over a reader and a writer that tell contracts
 -- their bytes. Real standard input and output do not.
-use Rattle.std.specs.Prelude.{◌≡◌, ◌≢◌, ℕ, List, [], ◌∷◌, ◌++◌, codes, true, Option, Some, None, Result, IfSome, IfOk}
+use Rattle.std.specs.Prelude.{◌≡◌, ◌≢◌, ℕ, List, [], ◌∷◌, ◌++◌, codes, true}
+use Rattle.std.specs.Prelude.{Option, Some, None, Result, IfSome, IfOk}
 use Rattle.std.specs.Io.KnownBytes.{Appends}
 use Rattle.hex.specs.Hex.{encode_lower}
 use Rattle.stun_base.specs.Keys.{short_term_key, long_term_key, userhash}
 use Rattle.stun_base.specs.declared.keys.algorithm.IntegrityAlgorithm.{IntegrityAlgorithm}
 use Rattle.stun_inspect.specs.declared.command.Command.{Command}
-use Rattle.stun_inspect.specs.declared.command.Command.TheVariants.{Help, Version, Decode, Verify, Key, Userhash, Nonce}
+use Rattle.stun_inspect.specs.declared.command.Command.TheVariants.{Help, Version, Decode}
+use Rattle.stun_inspect.specs.declared.command.Command.TheVariants.{Verify, Key, Userhash, Nonce}
 use Rattle.stun_inspect.specs.declared.command.User.{User}
 use Rattle.stun_inspect.specs.declared.failure.Failure.{Failure}
 use Rattle.stun_cli.specs.declared.status.Status.{Status}
@@ -17,10 +19,12 @@ use Rattle.stun_cli.specs.Line.{IsLine}
 use Rattle.stun_cli.specs.Verdict.{verdict_of}
 use Rattle.stun_inspect.specs.Verify.{PrintsVerdict}
 
--- the key for each algorithm of a user at a realm, or of a password alone (RFC 8489, sections 9.1.1 and 9.2.2)
+-- the key for each algorithm of a user at a realm, or of a password alone (RFC 8489, sections 9.1.1
+-- and 9.2.2)
 abbrev pub keys_for : Option User → List ℕ → IntegrityAlgorithm → List ℕ
 keys_for None password = short_term_key password
-keys_for (Some user) password = λ algorithm. long_term_key algorithm user.name.now user.realm.now password
+keys_for (Some user) password =
+    λ algorithm. long_term_key algorithm user.name.now user.realm.now password
 
 -- a text is printed, and the answer is good
 abbrev pub PrintsText : List ℕ → Status → Option (List ℕ) → Option (List ℕ) → Type 0
@@ -32,21 +36,27 @@ PrintsLine status before after = (line : List ℕ) × IsLine line × PrintsText 
 
 -- bytes are printed as a line of hexadecimal digits
 abbrev pub PrintsDigits : List ℕ → Status → Option (List ℕ) → Option (List ℕ) → Type 0
-PrintsDigits bytes status before after = PrintsText (encode_lower bytes ++ 10 ∷ []) status before after
+PrintsDigits bytes status before after =
+    PrintsText (encode_lower bytes ++ 10 ∷ []) status before after
 
--- what a command answers and prints: of a message where the input is raw, and under a password that is among the words
-abbrev pub Answers : Command → Option (List ℕ) → Result Status Failure → Option (List ℕ) → Option (List ℕ) → Type 0
+-- what a command answers and prints: of a message where the input is raw, and under a password that
+-- is among the words
+abbrev pub Answers : Command → Option (List ℕ) → Result Status Failure → Option (List ℕ)
+    → Option (List ℕ) → Type 0
 Answers Help given result before after = IfOk result (λ status. status ≡ Good)
 Answers Version given result before after =
     IfOk result (λ status. PrintsText (codes "stun_inspect 0.2.0" ++ 10 ∷ []) status before after)
 Answers Decode given result before after =
-    IfSome given (λ input. IfOk result (λ status. is_raw input ≡ true → PrintsDecoded input status before after))
+    IfSome given
+    (λ input. IfOk result (λ status. is_raw input ≡ true → PrintsDecoded input status before after))
 Answers (Verify who) given result before after =
     who.password.now ≢ codes "-" → IfSome given (λ input. IfOk result (λ status. is_raw input ≡ true
     → PrintsVerdict (verdict_of input (keys_for who.user who.password.now)) status before after))
 Answers (Key algorithm user password) given result before after =
     password.now ≢ codes "-" → IfOk result (λ status.
-    PrintsDigits (long_term_key algorithm user.name.now user.realm.now password.now) status before after)
+    PrintsDigits (long_term_key algorithm user.name.now user.realm.now password.now) status before
+    after)
 Answers (Userhash user) given result before after =
     IfOk result (λ status. PrintsDigits (userhash user.name.now user.realm.now) status before after)
-Answers (Nonce nonce) given result before after = IfOk result (λ status. PrintsLine status before after)
+Answers (Nonce nonce) given result before after =
+    IfOk result (λ status. PrintsLine status before after)

@@ -2,7 +2,9 @@
 use Rattle.std.specs.Prelude.{ℕ, List, [], ◌∷◌, ◌++◌, codes}
 use Rattle.stun_base.specs.declared.keys.algorithm.IntegrityAlgorithm.TheVariants.{Sha1, Sha256}
 use Rattle.stun_cli.specs.declared.verdict.Verdict.{Verdict}
-use Rattle.stun_cli.specs.declared.verdict.Verdict.TheVariants.{Valid, OtherDigest, NoIntegrity, MalformedIntegrity, NotAMessage, BadInput}
+use Rattle.stun_cli.specs.declared.verdict.Verdict.TheVariants.{Valid, OtherDigest, NoIntegrity}
+use Rattle.stun_cli.specs.declared.verdict.Verdict.TheVariants.{MalformedIntegrity, NotAMessage}
+use Rattle.stun_cli.specs.declared.verdict.Verdict.TheVariants.{BadInput}
 use Rattle.stun_cli.specs.Verdict.{refusal_line}
 
 -- the line for a verdict; that on an input without bytes is none of a message

@@ -9,4 +9,5 @@ use Rattle.stun_inspect.specs.Verdict.{line_of}
 -- the verdict's line is printed, and perhaps notes after it; the status goes with the verdict
 abbrev pub PrintsVerdict : Verdict → Status → Option (List ℕ) → Option (List ℕ) → Type 0
 PrintsVerdict verdict status before after =
-    (status ≡ status_of verdict) × (notes : List ℕ) × Appends before after (line_of verdict ++ notes)
+    (status ≡ status_of verdict) × (notes : List ℕ)
+    × Appends before after (line_of verdict ++ notes)

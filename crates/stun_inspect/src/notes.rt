@@ -5,8 +5,9 @@ use std::alloc::{AllocError, Allocator};
 use stun_types::attribute::{Realm, Userhash, Username};
 use stun_types::message::Message;
 
-/// A line for each of USERNAME and REALM that is visible and not the user's, and for a visible USERHASH whether it is. There is none
-/// for a password alone, and none where the bytes are no message.
+/// A line for each of USERNAME and REALM that is visible and not the user's, and for a visible
+/// USERHASH whether it is. There is none for a password alone, and none where the bytes are no
+/// message.
 pub fn notes_on<A: Allocator>(
     alloc: A,
     bytes: &[u8],

@@ -1,6 +1,8 @@
 //! The attributes of a message one by one, also those that are hidden.
-ghost use Rattle.std.specs.Prelude.{◌≡◌, ◌<◌, drop, true, false, OnSome, IfSome, IfNone, IfOk, ◌==◌, ◌||◌};
-ghost use Rattle.stun_base.specs.Attributes.{MESSAGE_INTEGRITY, MESSAGE_INTEGRITY_SHA256, FINGERPRINT};
+ghost use Rattle.std.specs.Prelude.{◌≡◌, ◌<◌, drop, true, false, OnSome};
+ghost use Rattle.std.specs.Prelude.{IfSome, IfNone, IfOk, ◌==◌, ◌||◌};
+ghost use Rattle.stun_base.specs.Attributes.{MESSAGE_INTEGRITY};
+ghost use Rattle.stun_base.specs.Attributes.{MESSAGE_INTEGRITY_SHA256, FINGERPRINT};
 ghost use Rattle.stun_types.specs.Attribute.{has_attribute, first_attribute};
 ghost use Rattle.stun_types.specs.Visible.{visible};
 ghost use Rattle.stun_inspect.specs.Telling.{hider, told_of, shown};

@@ -23,8 +23,8 @@ pub fn line(verdict: Verdict) -> &'static str
     }
 }
 
-/// The verdict on bytes under credentials: a password, or a user at a realm, who has a long-term key
-/// for each algorithm (RFC 8489, sections 9.1.1 and 9.2.2).
+/// The verdict on bytes under credentials: a password, or a user at a realm, who has a long-term
+/// key for each algorithm (RFC 8489, sections 9.1.1 and 9.2.2).
 pub fn verdict_on<A: Allocator>(
     bytes: &[u8],
     credentials: &MessageIntegrityCredentials<A>,

@@ -1,53 +1,39 @@
--- Sentence 3: an agent that is driven, turn by turn, and the plan of each request. In the order to read it.
+-- Sentence 3: an agent that is driven, turn by turn, and the plan of each request. In the order to
+-- read it.
 
 -- what an answer of the agent says of the reason to refuse that its contract names
 pub mod Sending
-
 -- how much is left to do: the slots that are left, and the ends
 pub mod Work
-
 -- the next awaited moment, and that a turn leaves none up to its own
 pub mod NextLemmas
-
 -- a turn, call by call
 pub mod TurnLemmas
-
 -- the turns at awaited moments, and a whole run, turn by turn
 pub mod DriveLemmas
-
 -- what calls leave of the transactions, beside what they count
 pub mod AfterCalls
-
 -- one request among others: what a call of the agent leaves of it
 pub mod OneTransaction
-
 -- a run up to one of its events, and what it keeps
 pub mod RunLemmas
-
 -- a driven run keeps the plan of each of its requests, whoever makes the calls
 pub mod Driven
-
 -- a request that nothing disturbs keeps its plan
 pub mod ScheduleLaw
-
 -- all steps of a request that is asked once: there are none before it is asked, and none after its
 -- end
 pub mod Once
-
 -- the steps of a run are counted one by one: each call adds the tally of its step, and sums of
 -- tallies are counts over the steps
 pub mod Counting
-
 -- a run that stopped goes on: what it left awaits no moment below the next event's
 pub mod GoingOn
-
 -- each list of events has a run: each call that is not the last of a turn leaves less to do
 pub mod Existence
-
 -- a loop that is never late makes a driven run: until the moment that it is told to wait until, no
 -- moment is awaited
 pub mod AgentLoopLemmas
-
 -- a request in a loop that may be late: its transmissions and its end are at the first turns at
 -- which they are due
 pub mod LateLemmas

@@ -13,13 +13,16 @@ use Rattle.stun_proto.specs.declared.replay.call.ServerCall.TheVariants as Call
 use Rattle.stun_proto.specs.Isolation.{own, sight_over}
 use Rattle.stun_proto.specs.Serving.{Reply, Validated}
 
--- At each index of the list: a request or an indication from an address is validated with an algorithm if and only if it has a
--- realm, the nonce that is current at the address, algorithms that agree, and the digest under the key of the present user whom
--- it names. All of this holds at the place that the address's own earlier calls leave.
+-- At each index of the list: a request or an indication from an address is validated with an
+-- algorithm if and only if it has a realm, the nonce that is current at the address, algorithms
+-- that agree, and the digest under the key of the present user whom it names. All of this holds at
+-- the place that the address's own earlier calls leave.
 abbrev pub ValidatesAccepted : ServerSeen → List ServerCall → List Reply → Type 0
 ValidatesAccepted start calls given =
-    (i : ℕ) (a : SocketAddr) (now : ℕ) (message : Vec ℕ Global) (words : List ℕ) (algorithm : IntegrityAlgorithm)
+    (i : ℕ) (a : SocketAddr) (now : ℕ) (message : Vec ℕ Global) (words : List ℕ)
+    (algorithm : IntegrityAlgorithm)
     → slice_get calls i ≡ Some (Call.Validate a now message words)
     → refusal message.items ≡ None → is_response (class_in message.items) ≡ false
     → (slice_get given i ≡ Some (Validated algorithm))
-    ↔ AcceptedWith (sight_over (sight start a) (own a (take i calls))) now words (reading_of message.items) algorithm
+    ↔ AcceptedWith (sight_over (sight start a) (own a (take i calls))) now words
+    (reading_of message.items) algorithm

@@ -15,25 +15,34 @@ use Rattle.stun_proto.specs.Serving.{after_call, after_calls, replies, reply}
 
 -- a server answers two messages alike, and is the same after either
 pub record AreAnsweredAlike (message other : Vec ℕ Global) : Type 0 where
-  -- one call, whatever server, address, moment and words: the same reply, and the same server after it with the place of the address
+  -- one call, whatever server, address, moment and words: the same reply, and the same server after
+  -- it with the place of the address
   pub replied : (s : ServerSeen) (from : SocketAddr) (now : ℕ) (words : List ℕ)
       → reply s (Validate from now message words) ≡ reply s (Validate from now other words)
   pub kept : (s : ServerSeen) (from : SocketAddr) (now : ℕ) (words : List ℕ)
-      → after_call s (Validate from now message words) ≡ after_call s (Validate from now other words)
-  -- any run in which one is in the place of the other: the same replies to all calls, and the same server after them
-  pub run_replied : (s : ServerSeen) (earlier later : List ServerCall) (from : SocketAddr) (now : ℕ) (words : List ℕ)
+      → after_call s (Validate from now message words)
+      ≡ after_call s (Validate from now other words)
+  -- any run in which one is in the place of the other: the same replies to all calls, and the same
+  -- server after them
+  pub run_replied : (s : ServerSeen) (earlier later : List ServerCall) (from : SocketAddr) (now : ℕ)
+      (words : List ℕ)
       → replies s (earlier ++ Validate from now message words ∷ later)
       ≡ replies s (earlier ++ Validate from now other words ∷ later)
-  pub run_kept : (s : ServerSeen) (earlier later : List ServerCall) (from : SocketAddr) (now : ℕ) (words : List ℕ)
+  pub run_kept : (s : ServerSeen) (earlier later : List ServerCall) (from : SocketAddr) (now : ℕ)
+      (words : List ℕ)
       → after_calls s (earlier ++ Validate from now message words ∷ later)
       ≡ after_calls s (earlier ++ Validate from now other words ∷ later)
 
 -- so it is where both are messages that agree up to their deciding attribute
 abbrev pub AgreeingAreAnsweredAlike : Type 0
-AgreeingAreAnsweredAlike = (message other : Vec ℕ Global) → refusal message.items ≡ None → refusal other.items ≡ None
+AgreeingAreAnsweredAlike =
+    (message other : Vec ℕ Global) → refusal message.items ≡ None → refusal other.items ≡ None
     → AgreeUpToIntegrity message.items other.items → AreAnsweredAlike message other
 
--- and where one goes on from the end of the other's deciding attribute in whatever way, if that shows no stronger one after it
+-- and where one goes on from the end of the other's deciding attribute in whatever way, if that
+-- shows no stronger one after it
 abbrev pub ContinuedAreAnsweredAlike : Type 0
-ContinuedAreAnsweredAlike = (message other : Vec ℕ Global) (m : Member) → refusal message.items ≡ None
-    → refusal other.items ≡ None → IsContinuedAnew message.items other.items m → AreAnsweredAlike message other
+ContinuedAreAnsweredAlike =
+    (message other : Vec ℕ Global) (m : Member) → refusal message.items ≡ None
+    → refusal other.items ≡ None → IsContinuedAnew message.items other.items m
+    → AreAnsweredAlike message other

@@ -1,5 +1,6 @@
 -- What a client and a server can agree on (RFC 8489, section 9.2).
-use Rattle.std.specs.Prelude.{◌≡◌, ◌≤◌, ◌↔◌, ◌⊎◌, not, ◌&&◌, if◌then◌else◌, nat_lt, List, Contains, filter, Option, Some, None}
+use Rattle.std.specs.Prelude.{◌≡◌, ◌≤◌, ◌↔◌, ◌⊎◌, not, ◌&&◌, if◌then◌else◌}
+use Rattle.std.specs.Prelude.{nat_lt, List, Contains, filter, Option, Some, None}
 use Rattle.std.specs.List.{reduce}
 use Rattle.stun_base.specs.Algorithm.{strength}
 use Rattle.stun_base.specs.declared.keys.algorithm.IntegrityAlgorithm.{IntegrityAlgorithm}
@@ -13,9 +14,10 @@ use Rattle.stun_auth.specs.Feature.{is_possible}
 abbrev pub stronger : IntegrityAlgorithm → IntegrityAlgorithm → IntegrityAlgorithm
 stronger a b = if nat_lt (strength a) (strength b) then b else a
 
--- the strongest of the client's algorithms that the server has; none where they share none, or where the client must send a hash
--- of its name and the server takes none
-abbrev pub best : List IntegrityAlgorithm → List IntegrityAlgorithm → Feature → Feature → Option IntegrityAlgorithm
+-- the strongest of the client's algorithms that the server has; none where they share none, or
+-- where the client must send a hash of its name and the server takes none
+abbrev pub best : List IntegrityAlgorithm → List IntegrityAlgorithm → Feature → Feature
+    → Option IntegrityAlgorithm
 best client server wanted given =
     if is_required wanted && not (is_possible given) then None
     else reduce stronger (filter (λ a. has a server) client)
@@ -27,19 +29,24 @@ abbrev pub HashIsRefused : Feature → Feature → Type 0
 HashIsRefused wanted given = (wanted ≡ Required) × (given ≡ Disabled)
 
 -- both lists have the algorithm
-abbrev pub IsShared : List IntegrityAlgorithm → List IntegrityAlgorithm → IntegrityAlgorithm → Type 0
+abbrev pub IsShared : List IntegrityAlgorithm → List IntegrityAlgorithm → IntegrityAlgorithm
+    → Type 0
 IsShared client server a = Contains client a × Contains server a
 
 -- both lists have the algorithm, and none that both have is stronger
-pub record IsStrongestShared (client server : List IntegrityAlgorithm) (a : IntegrityAlgorithm) : Type 0 where
+pub record IsStrongestShared (client server : List IntegrityAlgorithm)
+    (a : IntegrityAlgorithm) : Type 0 where
   pub shared : IsShared client server a
   pub strongest : (b : IntegrityAlgorithm) → IsShared client server b → strength b ≤ strength a
 
--- an algorithm is the answer exactly where it may be agreed on and is the strongest that both have; there is none exactly where
--- nothing may be agreed on, or both share nothing
-pub record IsBest (client server : List IntegrityAlgorithm) (wanted given : Feature) (answer : Option IntegrityAlgorithm) : Type 0 where
-  pub some : (a : IntegrityAlgorithm) → (answer ≡ Some a) ↔ ((HashIsRefused wanted given → ⊥) × IsStrongestShared client server a)
-  pub none : (answer ≡ None) ↔ (HashIsRefused wanted given ⊎ ((a : IntegrityAlgorithm) → IsShared client server a → ⊥))
+-- an algorithm is the answer exactly where it may be agreed on and is the strongest that both have;
+-- there is none exactly where nothing may be agreed on, or both share nothing
+pub record IsBest (client server : List IntegrityAlgorithm) (wanted given : Feature)
+    (answer : Option IntegrityAlgorithm) : Type 0 where
+  pub some : (a : IntegrityAlgorithm)
+      → (answer ≡ Some a) ↔ ((HashIsRefused wanted given → ⊥) × IsStrongestShared client server a)
+  pub none : (answer ≡ None)
+      ↔ (HashIsRefused wanted given ⊎ ((a : IntegrityAlgorithm) → IsShared client server a → ⊥))
 
 -- the strongest algorithm that both support is what `best` answers
 abbrev pub BestIsStrongest : Type 0

@@ -1,5 +1,6 @@
 -- What the steps of a run add to the counters of its agent (RFC 8489, section 6.2).
-use Rattle.std.specs.Prelude.{ℕ, ◌≡◌, ◌≤◌, Bool, true, false, List, filter, length, sum_by, Option, Some, None}
+use Rattle.std.specs.Prelude.{ℕ, ◌≡◌, ◌≤◌, Bool, true, false, List}
+use Rattle.std.specs.Prelude.{filter, length, sum_by, Option, Some, None}
 use Rattle.stun_base.specs.declared.wire.message_type.MessageClass.{MessageClass}
 use Rattle.stun_base.specs.MessageType.{class_in, is_indication, is_response}
 use Rattle.stun_agent.specs.Agent.{Agent}
@@ -56,13 +57,18 @@ Adds old more new = old ≤ last_count → new ≡ raised old more
 
 -- the counters that the steps alone decide
 pub record AreCounted (steps : List Step) (old new : Statistics) : Type 0 where
-  pub timed_out : Adds old.transactions_timed_out (count_of is_time_out steps) new.transactions_timed_out
-  pub cancelled : Adds old.transactions_cancelled (count_of is_cancellation steps) new.transactions_cancelled
-  pub indications_sent : Adds old.indications_sent (count_of (is_sent is_indication) steps) new.indications_sent
-  pub responses_sent : Adds old.responses_sent (count_of (is_sent is_response) steps) new.responses_sent
+  pub timed_out : Adds old.transactions_timed_out (count_of is_time_out steps)
+      new.transactions_timed_out
+  pub cancelled : Adds old.transactions_cancelled (count_of is_cancellation steps)
+      new.transactions_cancelled
+  pub indications_sent : Adds old.indications_sent (count_of (is_sent is_indication) steps)
+      new.indications_sent
+  pub responses_sent : Adds old.responses_sent (count_of (is_sent is_response) steps)
+      new.responses_sent
   pub bytes_sent : Adds old.bytes_sent (sum_by sent_bytes steps) new.bytes_sent
 
--- the same where the agent counts; an agent that does not count begins with nothing and keeps nothing
+-- the same where the agent counts; an agent that does not count begins with nothing and keeps
+-- nothing
 abbrev pub CountsSteps : List Step → Option Statistics → Option Statistics → Type 0
 CountsSteps steps None new = new ≡ None
 CountsSteps steps (Some old) None = ⊥
@@ -70,5 +76,6 @@ CountsSteps steps (Some old) (Some new) = AreCounted steps old new
 
 -- each run counts its steps
 abbrev pub RunsCountSteps : Type 0
-RunsCountSteps = (until : ℕ) (a b : Agent) (events : List (ℕ × AgentEvent)) (steps : List Step) → IsDriven until a events steps b
+RunsCountSteps = (until : ℕ) (a b : Agent) (events : List (ℕ × AgentEvent)) (steps : List Step)
+    → IsDriven until a events steps b
     → CountsSteps steps a.statistics b.statistics

@@ -21,5 +21,6 @@ event_value (Event.SendRequest bytes to) = SendRequest bytes.items to
 event_value (Event.Receive bytes from) = Receive bytes.items from
 event_value (Event.Cancel id) = Cancel id
 event_value (Event.CancelRetransmissions id) = CancelRetransmissions id
-event_value (Event.Configure id initial retransmits last max) = Configure id initial retransmits last max
+event_value (Event.Configure id initial retransmits last max) =
+    Configure id initial retransmits last max
 event_value (Event.ValidatePeer address) = ValidatePeer address

@@ -3,9 +3,12 @@ use Rattle.std.specs.Prelude.{ℕ, ◌*◌, List, [], ◌∷◌}
 use Rattle.std.specs.declared.net.socket_addr.SocketAddr.{SocketAddr}
 use Rattle.stun_proto.specs.Steps.{Step, Transmitted, TimedOut}
 
--- a Binding request without attributes, of the id 7: type 0x0001, length 0, magic cookie, id (section 5)
+-- a Binding request without attributes, of the id 7: type 0x0001, length 0, magic cookie, id
+-- (section 5)
 abbrev pub binding_request : List ℕ
-binding_request = 0x00 ∷ 0x01 ∷ 0 ∷ 0 ∷ 0x21 ∷ 0x12 ∷ 0xA4 ∷ 0x42 ∷ 0 ∷ 0 ∷ 0 ∷ 0 ∷ 0 ∷ 0 ∷ 0 ∷ 0 ∷ 0 ∷ 0 ∷ 0 ∷ 7 ∷ []
+binding_request =
+    0x00 ∷ 0x01 ∷ 0 ∷ 0 ∷ 0x21 ∷ 0x12 ∷ 0xA4 ∷ 0x42 ∷ 0 ∷ 0 ∷ 0 ∷ 0 ∷ 0 ∷ 0 ∷ 0 ∷ 0 ∷ 0 ∷ 0 ∷ 0
+    ∷ 7 ∷ []
 
 -- so many milliseconds, in nanoseconds
 abbrev pub ms : ℕ → ℕ
@@ -15,10 +18,12 @@ ms n = n * 1000000
 abbrev pub sent_at : ℕ → SocketAddr → Step
 sent_at milliseconds to = Transmitted (ms milliseconds) 7 to binding_request
 
--- over UDP with the default settings, asked at 0: each timeout is twice the one before, and after the seventh transmission 8 seconds pass
+-- over UDP with the default settings, asked at 0: each timeout is twice the one before, and after
+-- the seventh transmission 8 seconds pass
 abbrev pub udp_steps : SocketAddr → List Step
 udp_steps to =
-    sent_at 0 to ∷ sent_at 500 to ∷ sent_at 1500 to ∷ sent_at 3500 to ∷ sent_at 7500 to ∷ sent_at 15500 to ∷ sent_at 31500 to
+    sent_at 0 to ∷ sent_at 500 to ∷ sent_at 1500 to ∷ sent_at 3500 to ∷ sent_at 7500 to
+    ∷ sent_at 15500 to ∷ sent_at 31500 to
     ∷ TimedOut (ms 39500) 7 ∷ []
 
 -- over TCP it is sent once, and ends at the same moment (section 6.2.2)

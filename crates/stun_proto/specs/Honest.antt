@@ -9,7 +9,9 @@ use Rattle.stun_base.specs.Keys.{userhash}
 use Rattle.stun_base.specs.Moments.{moment_after}
 use Rattle.stun_base.specs.declared.keys.algorithm.IntegrityAlgorithm.{IntegrityAlgorithm}
 use Rattle.stun_types.specs.Limits.{TEXT_LIMIT, USERNAME_LIMIT}
-use Rattle.stun_auth.specs.declared.client.answer.LongTermClientAuthErrorReason.TheVariants.{UnsupportedFeature}
+use Rattle.stun_auth.specs.declared.client.answer.LongTermClientAuthErrorReason.TheVariants.{
+  UnsupportedFeature,
+}
 use Rattle.stun_auth.specs.Algorithms.{listed}
 use Rattle.stun_auth.specs.Client.{Challenge, authenticated, initial}
 use Rattle.stun_auth.specs.Registered.{Registered}
@@ -18,21 +20,24 @@ use Rattle.stun_auth.specs.Validation.{ServerSeen, sight}
 use Rattle.stun_proto.specs.Best.{best}
 use Rattle.stun_proto.specs.Matching.{AreJoined, AreOfOthers, AreTexts, IsRegistered}
 use Rattle.stun_proto.specs.Negotiation.{Meeting, Met, negotiated}
-use Rattle.stun_proto.specs.declared.replay.negotiation.Outcome.TheVariants.{Validated, ClientRefused}
+use Rattle.stun_proto.specs.declared.replay.negotiation.Outcome.TheVariants.{Validated}
+use Rattle.stun_proto.specs.declared.replay.negotiation.Outcome.TheVariants.{ClientRefused}
 
 -- no two present users share a hash
 abbrev pub HaveOwnHashes : Registered → Type 0
-HaveOwnHashes users = (a b : List ℕ) → is_some (map.get users.secrets a) ≡ true → is_some (map.get users.secrets b) ≡ true
+HaveOwnHashes users = (a b : List ℕ) → is_some (map.get users.secrets a) ≡ true
+    → is_some (map.get users.secrets b) ≡ true
     → userhash a users.realm ≡ userhash b users.realm → a ≡ b
 
--- a new client is ready: it has a registered user's credentials, comes from an address without a place, and is in time
+-- a new client is ready: it has a registered user's credentials, comes from an address without a
+-- place, and is in time
 pub record IsReady (m : Meeting) (who : NameAndPassword) (server : ServerSeen) : Type 0 where
   pub credentials : m.settings.credentials ≡ Some who
   pub registered : IsRegistered server.registered who
   pub hashes : HaveOwnHashes server.registered
   pub new_address : map.get server.places m.from ≡ None
-  -- the calls between are those of other addresses: none is on users or settings, none forgets expired nonces, and the address's
-  -- place stays
+  -- the calls between are those of other addresses: none is on users or settings, none forgets
+  -- expired nonces, and the address's place stays
   pub others_first : AreOfOthers m.from m.first.before
   pub others_second : AreOfOthers m.from m.second.before
   -- the second request is read while the nonce is current
@@ -48,10 +53,13 @@ abbrev pub client_at : ServerSeen → SocketAddr → Option ClientSeen
 client_at server a = option_and_then (λ (p : PlaceSeen). p.client) (map.get server.places a)
 
 -- both sides have come to an algorithm
-pub record AgreesOn (from : SocketAddr) (who : NameAndPassword) (a : IntegrityAlgorithm) (met : Met) : Type 0 where
+pub record AgreesOn (from : SocketAddr) (who : NameAndPassword) (a : IntegrityAlgorithm)
+    (met : Met) : Type 0 where
   pub ending : met.ending ≡ Ok (Validated a)
-  pub server_client : client_at met.server from ≡ Some (record { name = who.username; algorithm = a })
-  pub joined : (c : Challenge) × (p : PlaceSeen) × (met.client ≡ authenticated c) × AreJoined (sight met.server from) p c who
+  pub server_client : client_at met.server from
+      ≡ Some (record { name = who.username; algorithm = a })
+  pub joined : (c : Challenge) × (p : PlaceSeen) × (met.client ≡ authenticated c)
+      × AreJoined (sight met.server from) p c who
 
 -- the client gives up and keeps nothing, and the server has a place for its address, with no client
 pub record GivesUp (from : SocketAddr) (met : Met) : Type 0 where
@@ -65,7 +73,9 @@ ComesTo from who None met = GivesUp from met
 
 -- the strongest algorithm that a client and a server support, if there is one
 abbrev pub strongest : Meeting → ServerSeen → Option IntegrityAlgorithm
-strongest m server = best m.settings.supported (listed server.registered.algorithms) m.settings.feature server.feature
+strongest m server =
+    best m.settings.supported (listed server.registered.algorithms) m.settings.feature
+    server.feature
 
 -- a client that is honest in this sense and its server come to the strongest algorithm of both,
 -- where there is one; else the client gives up
@@ -76,7 +86,8 @@ StrongestIsAgreed = (m : Meeting) (who : NameAndPassword) (server : ServerSeen)
 
 -- ---- signings that succeed
 
--- realm and user name fit their attributes (sections 14.3 and 14.9), and a nonce is made of sixteen random words
+-- realm and user name fit their attributes (sections 14.3 and 14.9), and a nonce is made of sixteen
+-- random words
 pub record AreShort (its_realm its_name its_words : List ℕ) : Type 0 where
   pub realm : length its_realm ≤ TEXT_LIMIT
   pub username : length its_name ≤ USERNAME_LIMIT
@@ -85,5 +96,6 @@ pub record AreShort (its_realm its_name its_words : List ℕ) : Type 0 where
 -- then no signing is refused
 abbrev pub ShortNamesAreSigned : Type 0
 ShortNamesAreSigned = (m : Meeting) (who : NameAndPassword) (server : ServerSeen)
-    → AreTexts server.registered.realm who.username → AreShort server.registered.realm who.username m.first.words → IsReady m who server
+    → AreTexts server.registered.realm who.username
+    → AreShort server.registered.realm who.username m.first.words → IsReady m who server
     → IsHonest m who server

@@ -17,7 +17,8 @@ use Rattle.stun_proto.specs.declared.replay.call.ServerCall.TheVariants as Call
 use Rattle.stun_proto.specs.Signing.{if_signed, place_offered, signing}
 use Rattle.stun_proto.specs.Serving.{Reply, registered_after, feature_after, expiry_after, replies}
 
--- whether a call is one of the address, or one that concerns every address: on users and settings, and forgetting what has expired
+-- whether a call is one of the address, or one that concerns every address: on users and settings,
+-- and forgetting what has expired
 abbrev pub concerns : SocketAddr → ServerCall → Bool
 concerns a (Call.Validate from now message words) = same_address from a
 concerns a (Call.Sign to message) = same_address to a
@@ -40,19 +41,24 @@ own a (call ∷ calls) = if concerns a call then call ∷ own a calls else own a
 abbrev pub own_replies : SocketAddr → List ServerCall → List Reply → List Reply
 own_replies a [] given = []
 own_replies a (call ∷ calls) [] = []
-own_replies a (call ∷ calls) (r ∷ given) = if concerns a call then r ∷ own_replies a calls given else own_replies a calls given
+own_replies a (call ∷ calls) (r ∷ given) =
+    if concerns a call then r ∷ own_replies a calls given else own_replies a calls given
 
 -- the place, where the bytes are a message
-abbrev pub place_unless : Option StunParseError → Option PlaceSeen → Option PlaceSeen → Option PlaceSeen
+abbrev pub place_unless : Option StunParseError → Option PlaceSeen → Option PlaceSeen
+    → Option PlaceSeen
 place_unless (Some error) before after = before
 place_unless None before after = after
 
 -- what a call of its own makes of an address's place
 abbrev pub own_place_after : Sight → ServerCall → Option PlaceSeen
 own_place_after s (Call.Validate from now message words) =
-    place_unless (refusal message.items) s.place (place_after s now words (reading_of message.items))
+    place_unless (refusal message.items) s.place
+    (place_after s now words (reading_of message.items))
 own_place_after s (Call.Sign to message) =
-    place_unless (refusal message.items) s.place (if_signed (signing s message.items) s.place (place_offered s (is_response (class_in message.items))))
+    place_unless (refusal message.items) s.place
+    (if_signed (signing s message.items) s.place
+    (place_offered s (is_response (class_in message.items))))
 own_place_after s (Call.AddUser name password) = s.place
 own_place_after s (Call.RemoveUser name) = s.place
 own_place_after s (Call.AddIntegrity algorithm) = s.place
@@ -77,9 +83,12 @@ abbrev pub sight_over : Sight → List ServerCall → Sight
 sight_over s [] = s
 sight_over s (call ∷ calls) = sight_over (sight_after s call) calls
 
--- the replies to each address are those of the run over its own calls alone, from the same start: whatever the run is
-abbrev pub IsolatedBy : (ServerSeen → List ServerCall → List Reply) → ServerSeen → List ServerCall → List Reply → Type 0
-IsolatedBy run start calls given = (a : SocketAddr) → own_replies a calls given ≡ run start (own a calls)
+-- the replies to each address are those of the run over its own calls alone, from the same start:
+-- whatever the run is
+abbrev pub IsolatedBy : (ServerSeen → List ServerCall → List Reply) → ServerSeen → List ServerCall
+    → List Reply → Type 0
+IsolatedBy run start calls given =
+    (a : SocketAddr) → own_replies a calls given ≡ run start (own a calls)
 
 -- the run of this library's server
 abbrev pub IsIsolated : ServerSeen → List ServerCall → List Reply → Type 0

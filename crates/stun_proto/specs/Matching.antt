@@ -18,7 +18,8 @@ use Rattle.stun_auth.specs.Signed.{hashed_name, plain_name}
 use Rattle.stun_proto.specs.Isolation.{concerns}
 use Rattle.stun_proto.specs.declared.replay.call.ServerCall.{ServerCall}
 
--- calls of other addresses alone: none of this one, none on users or settings, and none that forgets expired nonces
+-- calls of other addresses alone: none of this one, none on users or settings, and none that
+-- forgets expired nonces
 abbrev pub AreOfOthers : SocketAddr → List ServerCall → Type 0
 AreOfOthers a calls = All (λ call. concerns a call ≡ false) calls
 
@@ -37,7 +38,8 @@ pub record IsRegistered (users : Registered) (who : NameAndPassword) : Type 0 wh
 
 -- the challenge that a client keeps is the one that the server has kept at the place, and the
 -- client has a registered user's key
-pub record Matches (users : Registered) (feature : Feature) (p : PlaceSeen) (c : Challenge) (who : NameAndPassword) : Type 0 where
+pub record Matches (users : Registered) (feature : Feature) (p : PlaceSeen) (c : Challenge)
+    (who : NameAndPassword) : Type 0 where
   pub realm : c.realm ≡ users.realm
   pub nonce : c.nonce ≡ p.nonce
   -- the nonce was made under the present settings
@@ -51,8 +53,10 @@ pub record Matches (users : Registered) (feature : Feature) (p : PlaceSeen) (c :
       ≡ Some (record { username = who.username; secret = known.secret })
   pub key : c.key ≡ long_term_key c.algorithm who.username users.realm who.password
 
--- a client's challenge and what its address can tell of the server match, and the client is known there
-pub record AreJoined (v : Sight) (p : PlaceSeen) (c : Challenge) (who : NameAndPassword) : Type 0 where
+-- a client's challenge and what its address can tell of the server match, and the client is known
+-- there
+pub record AreJoined (v : Sight) (p : PlaceSeen) (c : Challenge) (who : NameAndPassword) : Type
+    0 where
   pub place : v.place ≡ Some p
   pub client : p.client ≡ Some (record { name = who.username; algorithm = c.algorithm })
   pub matches : Matches v.registered v.feature p c who

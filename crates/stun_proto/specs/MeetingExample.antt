@@ -7,7 +7,9 @@ use Rattle.stun_base.specs.Credentials.{NameAndPassword}
 use Rattle.stun_base.specs.declared.keys.algorithm.IntegrityAlgorithm.TheVariants.{Sha1, Sha256}
 use Rattle.stun_auth.specs.declared.algorithm_set.AlgorithmSet.TheVariants.{Both}
 use Rattle.stun_auth.specs.declared.feature.Feature.TheVariants.{Required}
-use Rattle.stun_auth.specs.declared.server.reason.LongTermServerAuthErrorReason.TheVariants.{Unauthorized}
+use Rattle.stun_auth.specs.declared.server.reason.LongTermServerAuthErrorReason.TheVariants.{
+  Unauthorized,
+}
 use Rattle.stun_auth.specs.Additions.{Page}
 use Rattle.stun_auth.specs.Client.{ClientSettings, initial}
 use Rattle.stun_auth.specs.ClientStep.{UNAUTHORIZED, client_step}

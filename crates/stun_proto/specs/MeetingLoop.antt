@@ -9,9 +9,11 @@ use Rattle.std.specs.declared.net.socket_addr.SocketAddr.{SocketAddr}
 use Rattle.stun_base.specs.Credentials.{NameAndPassword}
 use Rattle.stun_base.specs.declared.keys.algorithm.IntegrityAlgorithm.{IntegrityAlgorithm}
 use Rattle.stun_base.specs.declared.wire.error.StunWriteError.{StunWriteError}
-use Rattle.stun_auth.specs.declared.client.answer.LongTermClientAuthErrorReason.TheVariants as Client
+use Rattle.stun_auth.specs.declared.client.answer.LongTermClientAuthErrorReason.TheVariants
+    as Client
 use Rattle.stun_auth.specs.declared.client.answer.LongTermClientValidation.TheVariants as Read
-use Rattle.stun_auth.specs.declared.server.reason.LongTermServerAuthErrorReason.TheVariants as Server
+use Rattle.stun_auth.specs.declared.server.reason.LongTermServerAuthErrorReason.TheVariants
+    as Server
 use Rattle.stun_auth.specs.declared.server.reason.LongTermServerValidation.TheVariants as Served
 use Rattle.stun_auth.specs.Additions.{Page, added_all, page_of}
 use Rattle.stun_auth.specs.Client.{ClientSettings, ClientState, initial}
@@ -22,11 +24,14 @@ use Rattle.stun_auth.specs.ServerSigning.{after_signing, server_signed}
 use Rattle.stun_auth.specs.Validation.{Answer, ServerSeen, after_message, answer, sight}
 use Rattle.stun_proto.specs.Honest.{ComesTo, IsHonest, strongest}
 use Rattle.stun_proto.specs.Matching.{AreTexts}
-use Rattle.stun_proto.specs.Negotiation.{Meeting, Met, Round, ended, failure, negotiated, outcome_of_success, request, success, unwritten}
+use Rattle.stun_proto.specs.Negotiation.{Meeting, Met, Round, ended, failure, negotiated}
+use Rattle.stun_proto.specs.Negotiation.{outcome_of_success, request, success, unwritten}
 use Rattle.stun_proto.specs.ServerLoop.{AreMade}
 use Rattle.stun_proto.specs.Serving.{Reply}
 use Rattle.stun_proto.specs.Signing.{if_signed}
-use Rattle.stun_proto.specs.declared.replay.negotiation.Outcome.TheVariants.{AlreadyValidated, ServerRefused, ClientRefused}
+use Rattle.stun_proto.specs.declared.replay.negotiation.Outcome.TheVariants.{AlreadyValidated}
+use Rattle.stun_proto.specs.declared.replay.negotiation.Outcome.TheVariants.{ServerRefused}
+use Rattle.stun_proto.specs.declared.replay.negotiation.Outcome.TheVariants.{ClientRefused}
 
 -- ---- what the clauses of one call say
 

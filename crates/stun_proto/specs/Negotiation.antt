@@ -1,5 +1,5 @@
--- A client and a server that meet (RFC 8489, sections 9.2.3 to 9.2.5), computed step by step over the bytes of their messages:
--- a request, its challenge, the request with credentials, its success.
+-- A client and a server that meet (RFC 8489, sections 9.2.3 to 9.2.5), computed step by step over
+-- the bytes of their messages: a request, its challenge, the request with credentials, its success.
 use Rattle.std.specs.Prelude.{ℕ, List, [], ◌∷◌, true}
 use Rattle.std.specs.declared.result.Result.{Result}
 use Rattle.std.specs.declared.result.Result.TheVariants.{Ok, Err}
@@ -10,9 +10,11 @@ use Rattle.stun_base.specs.declared.wire.error.StunWriteError.{StunWriteError}
 use Rattle.stun_base.specs.declared.wire.message_type.MessageClass.TheVariants as Class
 use Rattle.stun_types.specs.ErrorCode.{CodeAndReason, default_reason}
 use Rattle.stun_types.specs.Grammar.{spelled}
-use Rattle.stun_auth.specs.declared.client.answer.LongTermClientAuthErrorReason.TheVariants as Client
+use Rattle.stun_auth.specs.declared.client.answer.LongTermClientAuthErrorReason.TheVariants
+    as Client
 use Rattle.stun_auth.specs.declared.client.answer.LongTermClientValidation.TheVariants as Read
-use Rattle.stun_auth.specs.declared.server.reason.LongTermServerAuthErrorReason.TheVariants as Server
+use Rattle.stun_auth.specs.declared.server.reason.LongTermServerAuthErrorReason.TheVariants
+    as Server
 use Rattle.stun_auth.specs.declared.server.reason.LongTermServerValidation.TheVariants as Served
 use Rattle.stun_auth.specs.Additions.{Page, added_all}
 use Rattle.stun_auth.specs.Client.{ClientSettings, ClientState}
@@ -27,12 +29,16 @@ use Rattle.stun_auth.specs.Additions.{page_of}
 use Rattle.stun_proto.specs.Serving.{after_calls}
 use Rattle.stun_proto.specs.declared.replay.call.ServerCall.{ServerCall}
 use Rattle.stun_proto.specs.declared.replay.negotiation.Outcome.{Outcome}
-use Rattle.stun_proto.specs.declared.replay.negotiation.Outcome.TheVariants.{Validated, AlreadyValidated, ServerRefused, ClientRefused}
+use Rattle.stun_proto.specs.declared.replay.negotiation.Outcome.TheVariants.{Validated}
+use Rattle.stun_proto.specs.declared.replay.negotiation.Outcome.TheVariants.{AlreadyValidated}
+use Rattle.stun_proto.specs.declared.replay.negotiation.Outcome.TheVariants.{ServerRefused}
+use Rattle.stun_proto.specs.declared.replay.negotiation.Outcome.TheVariants.{ClientRefused}
 
 -- ---- who meets
 
--- a request and its answer: the id, the moment at which the server reads the request, the random words of a nonce, and the server's
--- calls just before the 401 is read, or before the second request is
+-- a request and its answer: the id, the moment at which the server reads the request, the random
+-- words of a nonce, and the server's calls just before the 401 is read, or before the second
+-- request is
 pub record Round : Type 0 where
   pub id : ℕ
   pub now : ℕ
@@ -103,28 +109,36 @@ abbrev pub success_read : IntegrityAlgorithm → ServerSeen → ClientStep → M
 success_read a server step = ended (outcome_of_success a step.answer) step.state server
 
 -- signed by the server
-abbrev pub succeeded : Meeting → IntegrityAlgorithm → ClientState → ServerSeen → Result Page StunWriteError → Met
+abbrev pub succeeded : Meeting → IntegrityAlgorithm → ClientState → ServerSeen
+    → Result Page StunWriteError → Met
 succeeded m a state server (Err reason) = unwritten reason state server
-succeeded m a state server (Ok page) = success_read a (after_signing server m.from true) (client_step m.settings state (reading_of page.bytes))
+succeeded m a state server (Ok page) =
+    success_read a (after_signing server m.from true)
+    (client_step m.settings state (reading_of page.bytes))
 
 -- the second request: answered by the server
 abbrev pub second_answered : Meeting → ClientState → ServerSeen → Answer → Met
 second_answered m state server (Err reason) = ended (ServerRefused reason) state server
-second_answered m state server (Ok (Served.Validated a)) = succeeded m a state server (responded (success m.second.id) (sight server m.from))
+second_answered m state server (Ok (Served.Validated a)) =
+    succeeded m a state server (responded (success m.second.id) (sight server m.from))
 
 abbrev pub second_read : Meeting → ClientState → ServerSeen → Reading → Met
 second_read m state server r =
-    second_answered m state (after_message server m.from m.second.now m.second.words r) (answer (sight server m.from) m.second.now m.second.words r)
+    second_answered m state (after_message server m.from m.second.now m.second.words r)
+    (answer (sight server m.from) m.second.now m.second.words r)
 
 -- signed by the client, and read by the server after the second list of calls
 abbrev pub second_asked : Meeting → ClientState → ServerSeen → Result Page StunWriteError → Met
 second_asked m state server (Err reason) = unwritten reason state server
-second_asked m state server (Ok page) = second_read m state (after_calls server m.second.before) (reading_of page.bytes)
+second_asked m state server (Ok page) =
+    second_read m state (after_calls server m.second.before) (reading_of page.bytes)
 
 -- the challenge: answered by the client
 abbrev pub challenge_answered : Meeting → ServerSeen → ClientState → ClientAnswer → Met
-challenge_answered m server state (Ok (Read.ResendRequest a)) = second_asked m state server (asked m.second.id state)
-challenge_answered m server state (Ok (Read.Validated a)) = ended (ClientRefused Client.Unauthorized) state server
+challenge_answered m server state (Ok (Read.ResendRequest a)) =
+    second_asked m state server (asked m.second.id state)
+challenge_answered m server state (Ok (Read.Validated a)) =
+    ended (ClientRefused Client.Unauthorized) state server
 challenge_answered m server state (Err reason) = ended (ClientRefused reason) state server
 
 abbrev pub challenge_read : Meeting → ServerSeen → ClientStep → Met
@@ -134,7 +148,8 @@ challenge_read m server step = challenge_answered m server step.state step.answe
 abbrev pub challenged : Meeting → ClientState → ServerSeen → Result Page StunWriteError → Met
 challenged m state server (Err reason) = unwritten reason state server
 challenged m state server (Ok page) =
-    challenge_read m (after_calls (after_signing server m.from true) m.first.before) (client_step m.settings state (reading_of page.bytes))
+    challenge_read m (after_calls (after_signing server m.from true) m.first.before)
+    (client_step m.settings state (reading_of page.bytes))
 
 -- the first request: answered by the server
 abbrev pub first_answered : Meeting → ClientState → ServerSeen → Answer → Met
@@ -145,7 +160,8 @@ first_answered m state server (Err reason) = ended (ServerRefused reason) state 
 
 abbrev pub first_read : Meeting → ClientState → ServerSeen → Reading → Met
 first_read m state server r =
-    first_answered m state (after_message server m.from m.first.now m.first.words r) (answer (sight server m.from) m.first.now m.first.words r)
+    first_answered m state (after_message server m.from m.first.now m.first.words r)
+    (answer (sight server m.from) m.first.now m.first.words r)
 
 -- signed by the client, and read by the server
 abbrev pub first_asked : Meeting → ClientState → ServerSeen → Result Page StunWriteError → Met

@@ -1,5 +1,6 @@
 -- A nonce that has run out, and the one that takes its place (RFC 8489, sections 9.2.4 and 9.2.5).
-use Rattle.std.specs.Prelude.{◌≡◌, ℕ, ◌<◌, ◌≤◌, nat_le, not, ◌&&◌, List, Bool, true, false, if◌then◌else◌, Some}
+use Rattle.std.specs.Prelude.{◌≡◌, ℕ, ◌<◌, ◌≤◌, nat_le, not, ◌&&◌, List}
+use Rattle.std.specs.Prelude.{Bool, true, false, if◌then◌else◌, Some}
 use Rattle.std.specs.List.{All}
 use Rattle.std.specs.Str.{bytes_eq}
 use Rattle.std.specs.declared.net.socket_addr.SocketAddr.{SocketAddr}
@@ -8,7 +9,9 @@ use Rattle.stun_base.specs.Address.{same_address}
 use Rattle.stun_base.specs.Credentials.{NameAndPassword}
 use Rattle.stun_base.specs.Moments.{last_moment}
 use Rattle.stun_base.specs.declared.wire.message_type.MessageClass.TheVariants.{Request}
-use Rattle.stun_auth.specs.declared.server.reason.LongTermServerAuthErrorReason.TheVariants.{StaleNonce}
+use Rattle.stun_auth.specs.declared.server.reason.LongTermServerAuthErrorReason.TheVariants.{
+  StaleNonce,
+}
 use Rattle.stun_auth.specs.declared.server.reason.LongTermServerValidation.TheVariants.{Validated}
 use Rattle.stun_auth.specs.Additions.{Page, added_all}
 use Rattle.stun_auth.specs.Client.{Challenge, ClientSettings, ClientState, authenticated}
@@ -33,8 +36,8 @@ pub record Arrival : Type 0 where
   pub now : ℕ
   pub words : List ℕ
 
--- what the client is set to, its address, whether calls meanwhile may remove it there, its two requests, and the server's calls before
--- the first, the error and the second
+-- what the client is set to, its address, whether calls meanwhile may remove it there, its two
+-- requests, and the server's calls before the first, the error and the second
 pub record Renewal : Type 0 where
   pub settings : ClientSettings
   pub from : SocketAddr
@@ -47,17 +50,20 @@ pub record Renewal : Type 0 where
 
 -- what the server answers to a request
 abbrev pub answer_at : Renewal → Arrival → ServerSeen → Page → Answer
-answer_at m arrival server page = answer (sight server m.from) arrival.now arrival.words (reading_of page.bytes)
+answer_at m arrival server page =
+    answer (sight server m.from) arrival.now arrival.words (reading_of page.bytes)
 
 -- the server after a request
 abbrev pub after_request : Renewal → Arrival → ServerSeen → Page → ServerSeen
-after_request m arrival server page = after_message server m.from arrival.now arrival.words (reading_of page.bytes)
+after_request m arrival server page =
+    after_message server m.from arrival.now arrival.words (reading_of page.bytes)
 
 -- the server that reads the first request
 abbrev pub at_first : Renewal → ServerSeen → ServerSeen
 at_first m server = after_calls server m.before_first
 
--- the nonce that is current when the server reads the first request, and its end: the one that is kept and has not expired, or else one that is made
+-- the nonce that is current when the server reads the first request, and its end: the one that is
+-- kept and has not expired, or else one that is made
 abbrev pub drawn : Renewal → ServerSeen → List ℕ
 drawn m server = (standing (sight (at_first m server) m.from) m.first.now m.first.words).nonce
 
@@ -66,7 +72,8 @@ end m server = (standing (sight (at_first m server) m.from) m.first.now m.first.
 
 -- the server that signs the error
 abbrev pub at_error : Renewal → ServerSeen → Page → ServerSeen
-at_error m server asking = after_calls (after_request m m.first (at_first m server) asking) m.before_error
+at_error m server asking =
+    after_calls (after_request m m.first (at_first m server) asking) m.before_error
 
 -- the client that has read it
 abbrev pub told : Renewal → ClientState → Page → ClientState
@@ -74,11 +81,13 @@ told m state telling = (client_step m.settings state (reading_of telling.bytes))
 
 -- the server that reads the second request
 abbrev pub at_second : Renewal → ServerSeen → Page → ServerSeen
-at_second m server asking = after_calls (after_signing (at_error m server asking) m.from true) m.before_second
+at_second m server asking =
+    after_calls (after_signing (at_error m server asking) m.from true) m.before_second
 
 -- ---- the messages
 
--- a request that the client signs: of any method, with any attributes of its own, in a writer with any room
+-- a request that the client signs: of any method, with any attributes of its own, in a writer with
+-- any room
 pub record IsAsked (state : ClientState) (asking : Page) : Type 0 where
   pub message : Page
   pub unsigned : IsUnsigned message.bytes
@@ -94,25 +103,29 @@ pub record IsTold (s : Sight) (telling : Page) : Type 0 where
 
 -- ---- the law
 
--- whether a call leaves users, settings and the nonce of an address: messages from there are read up to its end. Where the client there
--- may be removed, expired nonces are forgotten up to that end alone, and else at any moment, since a place with a client is kept. The
--- address itself is not forgotten
+-- whether a call leaves users, settings and the nonce of an address: messages from there are read
+-- up to its end. Where the client there may be removed, expired nonces are forgotten up to that end
+-- alone, and else at any moment, since a place with a client is kept. The address itself is not
+-- forgotten
 abbrev pub leaves_nonce : SocketAddr → ℕ → Bool → ServerCall → Bool
-leaves_nonce a end removable (Call.Validate from now message words) = if same_address from a then nat_le now end else true
+leaves_nonce a end removable (Call.Validate from now message words) =
+    if same_address from a then nat_le now end else true
 leaves_nonce a end removable (Call.Sign to message) = true
 leaves_nonce a end removable (Call.AddUser name password) = false
 leaves_nonce a end removable (Call.RemoveUser name) = false
 leaves_nonce a end removable (Call.AddIntegrity algorithm) = false
 leaves_nonce a end removable (Call.SetIntegrity algorithm) = false
 leaves_nonce a end removable (Call.SetAnonymous feature) = false
-leaves_nonce a end removable (Call.RemoveClient address) = if same_address address a then removable else true
+leaves_nonce a end removable (Call.RemoveClient address) =
+    if same_address address a then removable else true
 leaves_nonce a end removable (Call.SetExpiry expiry) = false
 leaves_nonce a end removable (Call.ForgetExpired now) = if removable then nat_le now end else true
 leaves_nonce a end removable (Call.Forget address) = not (same_address address a)
 
--- whether a call leaves users, settings and the place of an address, whatever nonce is kept there: messages from there are read at any
--- moment, also after the nonce's end, which make another. Where the client there may be removed, expired nonces are forgotten up to
--- that end alone, and no moment is past the last one. The address itself is not forgotten
+-- whether a call leaves users, settings and the place of an address, whatever nonce is kept there:
+-- messages from there are read at any moment, also after the nonce's end, which make another. Where
+-- the client there may be removed, expired nonces are forgotten up to that end alone, and no moment
+-- is past the last one. The address itself is not forgotten
 abbrev pub leaves_place : SocketAddr → ℕ → Bool → ServerCall → Bool
 leaves_place a end removable (Call.Validate from now message words) = true
 leaves_place a end removable (Call.Sign to message) = true
@@ -121,9 +134,11 @@ leaves_place a end removable (Call.RemoveUser name) = false
 leaves_place a end removable (Call.AddIntegrity algorithm) = false
 leaves_place a end removable (Call.SetIntegrity algorithm) = false
 leaves_place a end removable (Call.SetAnonymous feature) = false
-leaves_place a end removable (Call.RemoveClient address) = if same_address address a then removable else true
+leaves_place a end removable (Call.RemoveClient address) =
+    if same_address address a then removable else true
 leaves_place a end removable (Call.SetExpiry expiry) = false
-leaves_place a end removable (Call.ForgetExpired now) = if removable then nat_le now end && nat_le now last_moment else true
+leaves_place a end removable (Call.ForgetExpired now) =
+    if removable then nat_le now end && nat_le now last_moment else true
 leaves_place a end removable (Call.Forget address) = not (same_address address a)
 
 abbrev pub LeavePlace : SocketAddr → ℕ → Bool → List ServerCall → Type 0
@@ -132,9 +147,10 @@ LeavePlace a end removable calls = All (λ call. leaves_place a end removable ca
 abbrev pub LeaveNonce : SocketAddr → ℕ → Bool → List ServerCall → Type 0
 LeaveNonce a end removable calls = All (λ call. leaves_nonce a end removable call ≡ true) calls
 
--- a client is authenticated, and its nonce has ended before its first request, which others of its messages may have come before; the
--- nonce that is current then is current at its second
-pub record HasRunOut (m : Renewal) (who : NameAndPassword) (server : ServerSeen) (p : PlaceSeen) (c : Challenge) : Type 0 where
+-- a client is authenticated, and its nonce has ended before its first request, which others of its
+-- messages may have come before; the nonce that is current then is current at its second
+pub record HasRunOut (m : Renewal) (who : NameAndPassword) (server : ServerSeen) (p : PlaceSeen)
+    (c : Challenge) : Type 0 where
   pub joined : AreJoined (sight server m.from) p c who
   pub calls_before_first : LeavePlace m.from p.expires m.may_be_removed m.before_first
   pub expired : p.expires < m.first.now
@@ -143,7 +159,8 @@ pub record HasRunOut (m : Renewal) (who : NameAndPassword) (server : ServerSeen)
   pub in_time : m.second.now ≤ end m server
 
 -- a client is told that its nonce is stale, and asks again
-pub record IsToldStale (m : Renewal) (server : ServerSeen) (p : PlaceSeen) (c : Challenge) (asking telling again : Page) : Type 0 where
+pub record IsToldStale (m : Renewal) (server : ServerSeen) (p : PlaceSeen) (c : Challenge)
+    (asking telling again : Page) : Type 0 where
   -- the client signs a request under the nonce that has run out
   pub asked : IsAsked (authenticated c) asking
   -- the nonce that is current when the server reads it is another one
@@ -154,20 +171,27 @@ pub record IsToldStale (m : Renewal) (server : ServerSeen) (p : PlaceSeen) (c : 
   pub asked_again : IsAsked (told m (authenticated c) telling) again
 
 -- a request is accepted, and server and client are joined after it
-pub record IsAcceptedAnew (m : Renewal) (who : NameAndPassword) (c : Challenge) (server : ServerSeen) (telling again : Page) : Type 0 where
+pub record IsAcceptedAnew (m : Renewal) (who : NameAndPassword) (c : Challenge)
+    (server : ServerSeen) (telling again : Page) : Type 0 where
   pub accepted : answer_at m m.second server again ≡ Ok (Validated c.algorithm)
-  pub joined : (d : Challenge) × (q : PlaceSeen) × (told m (authenticated c) telling ≡ authenticated d)
+  pub joined : (d : Challenge) × (q : PlaceSeen)
+      × (told m (authenticated c) telling ≡ authenticated d)
       × AreJoined (sight (after_request m m.second server again) m.from) q d who
 
-pub record IsRenewed (m : Renewal) (who : NameAndPassword) (server : ServerSeen) (p : PlaceSeen) (c : Challenge) : Type 0 where
+pub record IsRenewed (m : Renewal) (who : NameAndPassword) (server : ServerSeen) (p : PlaceSeen)
+    (c : Challenge) : Type 0 where
   -- the request is stale, unless the nonce that is current by now is the old one, drawn again
   pub first : (asking : Page) → IsAsked (authenticated c) asking
-      → answer_at m m.first (at_first m server) asking ≡ (if bytes_eq p.nonce (drawn m server) then Ok (Validated c.algorithm) else Err StaleNonce)
+      → answer_at m m.first (at_first m server) asking
+      ≡ (if bytes_eq p.nonce (drawn m server) then Ok (Validated c.algorithm) else Err StaleNonce)
   -- once the client has been told that its nonce is stale, its next request is accepted
   pub second : (asking telling again : Page) → IsToldStale m server p c asking telling again
       → IsAcceptedAnew m who c (at_second m server asking) telling again
 
--- a client that was authenticated stays so: one error of code 438 brings the nonce under which it is accepted again
+-- a client that was authenticated stays so: one error of code 438 brings the nonce under which it
+-- is accepted again
 abbrev pub NonceIsRenewed : Type 0
-NonceIsRenewed = (m : Renewal) (who : NameAndPassword) (server : ServerSeen) (p : PlaceSeen) (c : Challenge)
-    → AreTexts server.registered.realm who.username → HasRunOut m who server p c → IsRenewed m who server p c
+NonceIsRenewed =
+    (m : Renewal) (who : NameAndPassword) (server : ServerSeen) (p : PlaceSeen) (c : Challenge)
+    → AreTexts server.registered.realm who.username → HasRunOut m who server p c
+    → IsRenewed m who server p c

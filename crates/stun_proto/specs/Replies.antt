@@ -1,6 +1,7 @@
--- What one address can tell of a run by its own calls and the replies to them: so a reader need not know when a signing succeeds,
--- nor why a message is refused.
-use Rattle.std.specs.Prelude.{ℕ, List, [], ◌∷◌, Bool, true, false, if◌then◌else◌, Option, None, Some}
+-- What one address can tell of a run by its own calls and the replies to them: so a reader need not
+-- know when a signing succeeds, nor why a message is refused.
+use Rattle.std.specs.Prelude.{ℕ, List, [], ◌∷◌, Bool, true, false}
+use Rattle.std.specs.Prelude.{if◌then◌else◌, Option, None, Some}
 use Rattle.std.specs.Option.{option_map, option_map_or}
 use Rattle.std.specs.declared.net.socket_addr.SocketAddr.{SocketAddr}
 use Rattle.stun_base.specs.declared.wire.error.StunParseError.{StunParseError}
@@ -16,13 +17,14 @@ use Rattle.stun_auth.specs.Validation.{needs_nonce}
 use Rattle.stun_proto.specs.declared.replay.call.ServerCall.{ServerCall}
 use Rattle.stun_proto.specs.declared.replay.call.ServerCall.TheVariants as Call
 use Rattle.stun_proto.specs.Isolation.{concerns}
-use Rattle.stun_proto.specs.Serving.{Reply, NotAMessage, Validated, Refused, Signed, SignRefused, Done, TooShort, expiry_after, feature_after, registered_after}
+use Rattle.stun_proto.specs.Serving.{Reply, NotAMessage, Validated, Refused, Signed, SignRefused}
+use Rattle.stun_proto.specs.Serving.{Done, TooShort, expiry_after, feature_after, registered_after}
 use Rattle.stun_proto.specs.Signing.{place_offered}
 
 -- ---- what bytes say
 
--- what bytes say, where they are a message. The definitions below take it as an argument: they hang on what is read of a message, and
--- not on how it is read of its bytes
+-- what bytes say, where they are a message. The definitions below take it as an argument: they hang
+-- on what is read of a message, and not on how it is read of its bytes
 abbrev pub Reads : Type 0
 Reads = List ℕ → Option Reading
 
@@ -50,7 +52,13 @@ is_signed TooShort = false
 abbrev pub client_by_reply : PlaceSeen → Option RegisteredUser → Reply → PlaceSeen
 client_by_reply place who (NotAMessage error) = place
 client_by_reply place who (Validated algorithm) =
-    record place { client = Some (record { name = option_map_or (λ (user : RegisteredUser). user.username) who []; algorithm = algorithm }) }
+    record place {
+      client =
+          Some (record {
+            name = option_map_or (λ (user : RegisteredUser). user.username) who [];
+            algorithm = algorithm;
+          });
+    }
 client_by_reply place who (Refused reason) = place
 client_by_reply place who (Signed bytes) = place
 client_by_reply place who (SignRefused error) = place
@@ -60,7 +68,9 @@ client_by_reply place who TooShort = place
 -- the place after a message: where one needs a nonce, the current nonce stays, or else one is made
 abbrev pub place_by_answer : Sight → ℕ → List ℕ → Reading → Reply → Option PlaceSeen
 place_by_answer s now words m r =
-    if needs_nonce m then Some (client_by_reply (standing s now words) (named s.registered s.feature m) r) else s.place
+    if needs_nonce m
+    then Some (client_by_reply (standing s now words) (named s.registered s.feature m) r)
+    else s.place
 
 -- the same, where the bytes are a message
 abbrev pub place_by_message : Sight → ℕ → List ℕ → Option Reading → Reply → Option PlaceSeen
@@ -72,11 +82,14 @@ abbrev pub place_by_signing : Sight → Option Reading → Option PlaceSeen
 place_by_signing s None = s.place
 place_by_signing s (Some m) = place_offered s (is_response m.class)
 
--- what a call makes of an address's place: a message that needs a nonce, a response that was signed, the call that removes its
--- client, the one that forgets expired nonces where no client is known, and the one that forgets the address
+-- what a call makes of an address's place: a message that needs a nonce, a response that was
+-- signed, the call that removes its client, the one that forgets expired nonces where no client is
+-- known, and the one that forgets the address
 abbrev pub place_by_reply : Reads → Sight → ServerCall → Reply → Option PlaceSeen
-place_by_reply read s (Call.Validate from now message words) r = place_by_message s now words (read message.items) r
-place_by_reply read s (Call.Sign to message) r = if is_signed r then place_by_signing s (read message.items) else s.place
+place_by_reply read s (Call.Validate from now message words) r =
+    place_by_message s now words (read message.items) r
+place_by_reply read s (Call.Sign to message) r =
+    if is_signed r then place_by_signing s (read message.items) else s.place
 place_by_reply read s (Call.AddUser name password) r = s.place
 place_by_reply read s (Call.RemoveUser name) r = s.place
 place_by_reply read s (Call.AddIntegrity algorithm) r = s.place
@@ -101,4 +114,5 @@ abbrev pub sight_by_replies : Reads → SocketAddr → Sight → List ServerCall
 sight_by_replies read a s [] given = s
 sight_by_replies read a s (call ∷ calls) [] = s
 sight_by_replies read a s (call ∷ calls) (r ∷ given) =
-    if concerns a call then sight_by_replies read a (sight_by_reply read s call r) calls given else sight_by_replies read a s calls given
+    if concerns a call then sight_by_replies read a (sight_by_reply read s call r) calls given
+    else sight_by_replies read a s calls given

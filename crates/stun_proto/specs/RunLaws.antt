@@ -1,4 +1,5 @@
--- What holds of runs, whoever makes the calls: there is one run of each list of events and no other, and each request keeps its plan.
+-- What holds of runs, whoever makes the calls: there is one run of each list of events and no
+-- other, and each request keeps its plan.
 use Rattle.std.specs.Prelude.{ℕ, ◌≡◌, ◌≤◌, List, ◌∷◌, ◌++◌, filter, None}
 use Rattle.std.specs.List.{AllByRecursion}
 use Rattle.std.specs.Global.{Vec}
@@ -16,43 +17,60 @@ use Rattle.stun_proto.specs.Steps.{Step, is_of, own}
 
 -- what an agent's requests depend on
 abbrev pub requester : Agent → Requester
-requester a = record { transport = a.transport; remote_addr = a.remote_addr; settings = a.settings; outstanding = a.transactions }
+requester a =
+    record {
+      transport = a.transport;
+      remote_addr = a.remote_addr;
+      settings = a.settings;
+      outstanding = a.transactions;
+    }
 
--- the steps of a run from a request on, which comes to this agent after these steps: if the agent accepts it and nothing disturbs
--- it, those of its transaction are its plan up to its first end, as far as the run goes; and these are all steps of its id where no
--- later event asks for the id
-pub record GoesByPlan (until : ℕ) (agent : Agent) (later : List (ℕ × AgentEvent)) (start : ℕ) (bytes : List ℕ) (to : SocketAddr) (before steps : List Step) : Type 0 where
+-- the steps of a run from a request on, which comes to this agent after these steps: if the agent
+-- accepts it and nothing disturbs it, those of its transaction are its plan up to its first end, as
+-- far as the run goes; and these are all steps of its id where no later event asks for the id
+pub record GoesByPlan (until : ℕ) (agent : Agent) (later : List (ℕ × AgentEvent)) (start : ℕ)
+    (bytes : List ℕ) (to : SocketAddr) (before steps : List Step) : Type 0 where
   pub after : List Step
   pub divided : steps ≡ before ++ after
   pub keeps : request_refusal agent bytes to ≡ None
-      → IsUndisturbed (transaction_id_field bytes) to (planned_end agent.transport agent.settings start) later
-      → own (transaction_id_field bytes) after ≡ cut until (plan agent.transport start agent.settings (transaction_id_field bytes) to bytes)
+      → IsUndisturbed (transaction_id_field bytes) to
+      (planned_end agent.transport agent.settings start) later
+      → own (transaction_id_field bytes) after
+      ≡ cut until (plan agent.transport start agent.settings (transaction_id_field bytes) to bytes)
   pub once : request_refusal agent bytes to ≡ None
-      → IsUndisturbed (transaction_id_field bytes) to (planned_end agent.transport agent.settings start) later
+      → IsUndisturbed (transaction_id_field bytes) to
+      (planned_end agent.transport agent.settings start) later
       → AllByRecursion (λ e. Asks (transaction_id_field bytes) e.1 → ⊥) later
       → filter (is_of (transaction_id_field bytes)) after
       ≡ cut until (plan agent.transport start agent.settings (transaction_id_field bytes) to bytes)
 
--- a request of a run: the earlier events have a run up to its moment, and whatever agent and steps that run comes to, from there the
--- request goes by its plan
-pub record KeepsItsPlan (until : ℕ) (a : Agent) (earlier later : List (ℕ × AgentEvent)) (start : ℕ) (bytes : List ℕ) (to : SocketAddr) (steps : List Step) : Type 0 where
+-- a request of a run: the earlier events have a run up to its moment, and whatever agent and steps
+-- that run comes to, from there the request goes by its plan
+pub record KeepsItsPlan (until : ℕ) (a : Agent) (earlier later : List (ℕ × AgentEvent)) (start : ℕ)
+    (bytes : List ℕ) (to : SocketAddr) (steps : List Step) : Type 0 where
   pub comes : (agent : Agent) × (before : List Step) × Run start 0 a earlier before agent
-  pub goes_on : (agent : Agent) (before : List Step) → Run start 0 a earlier before agent → GoesByPlan until agent later start bytes to before steps
+  pub goes_on : (agent : Agent) (before : List Step) → Run start 0 a earlier before agent
+      → GoesByPlan until agent later start bytes to before steps
 
 -- and so does each request of a run, wherever it is among the events
 abbrev pub KeepPlans : ℕ → Agent → List (ℕ × AgentEvent) → List Step → Type 0
 KeepPlans until a events steps =
     (earlier later : List (ℕ × AgentEvent)) (start : ℕ) (bytes : Vec ℕ) (to : SocketAddr)
-    → events ≡ earlier ++ (start, SendRequest bytes to) ∷ later → KeepsItsPlan until a earlier later start bytes.items to steps
+    → events ≡ earlier ++ (start, SendRequest bytes to) ∷ later
+    → KeepsItsPlan until a earlier later start bytes.items to steps
 
 -- events have one run at most: its steps and the agent after it are determined
 abbrev pub IsDetermined : Type 0
-IsDetermined = (until : ℕ) (a b c : Agent) (events : List (ℕ × AgentEvent)) (steps more : List Step) → IsDriven until a events steps b → IsDriven until a events more c
+IsDetermined = (until : ℕ) (a b c : Agent) (events : List (ℕ × AgentEvent)) (steps more : List Step)
+    → IsDriven until a events steps b → IsDriven until a events more c
     → (steps ≡ more) × (b ≡ c)
 
--- the same from every moment on and up to every bound, also of a run whose bound is below its events
+-- the same from every moment on and up to every bound, also of a run whose bound is below its
+-- events
 abbrev pub IsDeterminedThroughout : Type 0
-IsDeterminedThroughout = (bound from : ℕ) (a b c : Agent) (events : List (ℕ × AgentEvent)) (steps more : List Step) → Run bound from a events steps b → Run bound from a events more c
+IsDeterminedThroughout =
+    (bound from : ℕ) (a b c : Agent) (events : List (ℕ × AgentEvent)) (steps more : List Step)
+    → Run bound from a events steps b → Run bound from a events more c
     → (steps ≡ more) × (b ≡ c)
 
 -- events have a run
@@ -61,4 +79,5 @@ HasRun until a events = (steps : List Step) × (b : Agent) × IsDriven until a e
 
 -- each list of events in order has one
 abbrev pub EventsHaveRuns : Type 0
-EventsHaveRuns = (until : ℕ) (a : Agent) (events : List (ℕ × AgentEvent)) → until ≤ last_moment → IsAscending a.transactions → AreInOrder until 0 events → HasRun until a events
+EventsHaveRuns = (until : ℕ) (a : Agent) (events : List (ℕ × AgentEvent)) → until ≤ last_moment
+    → IsAscending a.transactions → AreInOrder until 0 events → HasRun until a events

@@ -1,5 +1,7 @@
--- The schedule of a request: the plan that it keeps if nothing disturbs it, and what disturbs it (RFC 8489, sections 6.2.1 and 6.2.2).
-use Rattle.std.specs.Prelude.{ℕ, ◌≡◌, ◌+◌, ◌≤◌, nat_le, List, [], ◌∷◌, ◌++◌, map, filter, Option, None}
+-- The schedule of a request: the plan that it keeps if nothing disturbs it, and what disturbs it
+-- (RFC 8489, sections 6.2.1 and 6.2.2).
+use Rattle.std.specs.Prelude.{ℕ, ◌≡◌, ◌+◌, ◌≤◌, nat_le, List, []}
+use Rattle.std.specs.Prelude.{◌∷◌, ◌++◌, map, filter, Option, None}
 use Rattle.std.specs.List.{AllByRecursion, range_with_len}
 use Rattle.std.specs.declared.net.socket_addr.SocketAddr.{SocketAddr}
 use Rattle.stun_base.specs.Header.{transaction_id_field}
@@ -10,12 +12,15 @@ use Rattle.stun_types.specs.Message.{refusal}
 use Rattle.stun_agent.specs.Timing.{Settings, planned_end, sum_of_timeouts, slots}
 use Rattle.stun_agent.specs.Transactions.{Transactions}
 use Rattle.stun_proto.specs.declared.replay.event.AgentEvent.{AgentEvent}
-use Rattle.stun_proto.specs.declared.replay.event.AgentEvent.TheVariants.{Send, SendRequest, Receive, Cancel, CancelRetransmissions, Configure, ValidatePeer}
+use Rattle.stun_proto.specs.declared.replay.event.AgentEvent.TheVariants.{Send, SendRequest}
+use Rattle.stun_proto.specs.declared.replay.event.AgentEvent.TheVariants.{Receive, Cancel}
+use Rattle.stun_proto.specs.declared.replay.event.AgentEvent.TheVariants.{CancelRetransmissions}
+use Rattle.stun_proto.specs.declared.replay.event.AgentEvent.TheVariants.{Configure, ValidatePeer}
 use Rattle.stun_proto.specs.Steps.{Step, Transmitted, TimedOut, moment_of}
 
 -- ---- who asks
--- an agent, as far as its requests depend on it: the transport, the one address that it may send to if it has one, the settings of
--- new requests, and the requests that are outstanding
+-- an agent, as far as its requests depend on it: the transport, the one address that it may send to
+-- if it has one, the settings of new requests, and the requests that are outstanding
 pub record Requester : Type 0 where
   pub transport : TransportType
   pub remote_addr : Option SocketAddr
@@ -23,14 +28,17 @@ pub record Requester : Type 0 where
   pub outstanding : Transactions
 
 -- ---- the plan
--- the moment of transmission k, counted from 0: the timeouts before it have passed since the first moment
+-- the moment of transmission k, counted from 0: the timeouts before it have passed since the first
+-- moment
 abbrev pub transmission : ℕ → Settings → ℕ → ℕ
 transmission start settings k = moment_after start (sum_of_timeouts settings k)
 
--- a request that is first sent at `start`: a transmission at the start and at the end of each timeout, then the end
+-- a request that is first sent at `start`: a transmission at the start and at the end of each
+-- timeout, then the end
 abbrev pub plan : TransportType → ℕ → Settings → ℕ → SocketAddr → List ℕ → List Step
 plan transport start settings id to bytes =
-    map (λ k. Transmitted (transmission start settings k) id to bytes) (range_with_len 0 (slots transport settings + 1))
+    map (λ k. Transmitted (transmission start settings k) id to bytes)
+    (range_with_len 0 (slots transport settings + 1))
     ++ TimedOut (planned_end transport settings start) id ∷ []
 
 -- the steps up to a moment
@@ -48,21 +56,24 @@ Asks id (CancelRetransmissions other) = ⊥
 Asks id (Configure other initial retransmits last max) = ⊥
 Asks id (ValidatePeer address) = ⊥
 
--- the event takes, cancels or changes the request of this id, which went to this address: a response of its id that comes from there,
--- or a call that names it
+-- the event takes, cancels or changes the request of this id, which went to this address: a
+-- response of its id that comes from there, or a call that names it
 abbrev pub IsAimedAt : ℕ → SocketAddr → AgentEvent → Type 0
 IsAimedAt id peer (Send bytes to) = ⊥
 IsAimedAt id peer (SendRequest bytes to) = ⊥
 IsAimedAt id peer (Receive bytes from) =
-    (refusal bytes.items ≡ None) × IsResponse (class_in bytes.items) × (transaction_id_field bytes.items ≡ id) × (from ≡ peer)
+    (refusal bytes.items ≡ None) × IsResponse (class_in bytes.items)
+    × (transaction_id_field bytes.items ≡ id) × (from ≡ peer)
 IsAimedAt id peer (Cancel other) = other ≡ id
 IsAimedAt id peer (CancelRetransmissions other) = other ≡ id
 IsAimedAt id peer (Configure other initial retransmits last max) = other ≡ id
 IsAimedAt id peer (ValidatePeer address) = ⊥
 
--- nothing is aimed at the request of this id to this address up to its end, whatever responses other addresses send
+-- nothing is aimed at the request of this id to this address up to its end, whatever responses
+-- other addresses send
 abbrev pub IsUndisturbed : ℕ → SocketAddr → ℕ → List (ℕ × AgentEvent) → Type 0
-IsUndisturbed id peer last events = AllByRecursion (λ e. e.0 ≤ last → IsAimedAt id peer e.1 → ⊥) events
+IsUndisturbed id peer last events =
+    AllByRecursion (λ e. e.0 ≤ last → IsAimedAt id peer e.1 → ⊥) events
 
 -- the moments never go back, from this one on, and none is past `until`
 abbrev pub AreInOrder : ℕ → ℕ → List (ℕ × AgentEvent) → Type 0

@@ -1,6 +1,7 @@
 -- A server whose calls its user makes one by one, in a loop of their own: what the clauses of these
 -- calls say, and that they are a run of `serve`.
-use Rattle.std.specs.Prelude.{◌≡◌, ◌<◌, ℕ, List, [], ◌∷◌, length, Option, Some, None, Result, Ok, Err, string_bytes, if◌then◌else◌}
+use Rattle.std.specs.Prelude.{◌≡◌, ◌<◌, ℕ, List, [], ◌∷◌, length, Option, Some}
+use Rattle.std.specs.Prelude.{None, Result, Ok, Err, string_bytes, if◌then◌else◌}
 use Rattle.std.specs.Duration.{as_nanos}
 use Rattle.stun_base.specs.Credentials.{NameAndPassword}
 use Rattle.stun_base.specs.declared.wire.error.StunParseError.{StunParseError}
@@ -22,7 +23,8 @@ use Rattle.stun_proto.specs.declared.replay.call.ServerCall.{ServerCall}
 use Rattle.stun_proto.specs.declared.replay.call.ServerCall.TheVariants as Call
 use Rattle.stun_proto.specs.Headline.{ValidatesEachCall}
 use Rattle.stun_proto.specs.Replies.{message_read}
-use Rattle.stun_proto.specs.Serving.{Reply, NotAMessage, SignRefused, Signed, Done, TooShort, after_calls, is_too_short, replies, reply_of_answer}
+use Rattle.stun_proto.specs.Serving.{Reply, NotAMessage, SignRefused, Signed, Done, TooShort}
+use Rattle.stun_proto.specs.Serving.{after_calls, is_too_short, replies, reply_of_answer}
 use Rattle.stun_proto.specs.Signing.{refusal_at, spelled_anew, written_anew}
 
 -- ---- one call

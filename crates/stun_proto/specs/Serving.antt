@@ -1,5 +1,6 @@
 -- What a server answers to a list of calls, and what they leave (RFC 8489, section 9.2.4).
-use Rattle.std.specs.Prelude.{ℕ, List, [], ◌∷◌, map, nat_lt, Bool, if◌then◌else◌, Option, Some, None, string_bytes}
+use Rattle.std.specs.Prelude.{ℕ, List, [], ◌∷◌, map, nat_lt, Bool}
+use Rattle.std.specs.Prelude.{if◌then◌else◌, Option, Some, None, string_bytes}
 use Rattle.std.specs.Duration.{as_nanos}
 use Rattle.std.specs.declared.result.Result.{Result}
 use Rattle.std.specs.declared.result.Result.TheVariants.{Ok, Err}
@@ -9,7 +10,9 @@ use Rattle.stun_base.specs.declared.wire.error.StunParseError.{StunParseError}
 use Rattle.stun_base.specs.declared.wire.error.StunWriteError.{StunWriteError}
 use Rattle.stun_types.specs.Message.{refusal}
 use Rattle.stun_auth.specs.declared.feature.Feature.{Feature}
-use Rattle.stun_auth.specs.declared.server.reason.LongTermServerAuthErrorReason.{LongTermServerAuthErrorReason}
+use Rattle.stun_auth.specs.declared.server.reason.LongTermServerAuthErrorReason.{
+  LongTermServerAuthErrorReason,
+}
 use Rattle.stun_auth.specs.declared.server.reason.LongTermServerValidation.TheVariants as Validation
 use Rattle.stun_auth.specs.Additions.{Page}
 use Rattle.stun_auth.specs.Algorithms.{only, with_algorithm}
@@ -29,8 +32,9 @@ use Rattle.stun_proto.specs.declared.replay.call.ServerReply.TheVariants as code
 
 -- ---- replies
 
--- what is answered: why bytes are no message; that a message is accepted, and with which algorithm, or why it is refused;
--- a signed message, or why signing is refused; that a call is done; that an expiry is too short
+-- what is answered: why bytes are no message; that a message is accepted, and with which algorithm,
+-- or why it is refused; a signed message, or why signing is refused; that a call is done; that an
+-- expiry is too short
 pub data Reply : Type 0 where
   NotAMessage : StunParseError → Reply
   Validated : IntegrityAlgorithm → Reply
@@ -74,9 +78,11 @@ reply_unless None reply = reply
 abbrev pub registered_after : Registered → ServerCall → Registered
 registered_after r (Call.Validate from now message words) = r
 registered_after r (Call.Sign to message) = r
-registered_after r (Call.AddUser name password) = with_user r (record { username = string_bytes name; password = string_bytes password })
+registered_after r (Call.AddUser name password) =
+    with_user r (record { username = string_bytes name; password = string_bytes password })
 registered_after r (Call.RemoveUser name) = without_user r (string_bytes name)
-registered_after r (Call.AddIntegrity algorithm) = record r { algorithms = with_algorithm algorithm r.algorithms }
+registered_after r (Call.AddIntegrity algorithm) =
+    record r { algorithms = with_algorithm algorithm r.algorithms }
 registered_after r (Call.SetIntegrity algorithm) = record r { algorithms = only algorithm }
 registered_after r (Call.SetAnonymous feature) = r
 registered_after r (Call.RemoveClient address) = r
@@ -124,10 +130,12 @@ places_unless None before after = after
 -- the places of all addresses
 abbrev pub places_after : ServerSeen → ServerCall → PlacesSeen
 places_after s (Call.Validate from now message words) =
-    places_unless (refusal message.items) s.places (after_message s from now words (reading_of message.items)).places
+    places_unless (refusal message.items) s.places
+    (after_message s from now words (reading_of message.items)).places
 places_after s (Call.Sign to message) =
     places_unless (refusal message.items) s.places
-    (if_signed (signing (sight s to) message.items) s.places (after_signing s to (is_response (class_in message.items))).places)
+    (if_signed (signing (sight s to) message.items) s.places
+    (after_signing s to (is_response (class_in message.items))).places)
 places_after s (Call.AddUser name password) = s.places
 places_after s (Call.RemoveUser name) = s.places
 places_after s (Call.AddIntegrity algorithm) = s.places
@@ -142,8 +150,10 @@ places_after s (Call.Forget address) = (without_place s address).places
 
 abbrev pub reply : ServerSeen → ServerCall → Reply
 reply s (Call.Validate from now message words) =
-    reply_unless (refusal message.items) (reply_of_answer (answer (sight s from) now words (reading_of message.items)))
-reply s (Call.Sign to message) = reply_unless (refusal message.items) (reply_of_signing (signing (sight s to) message.items))
+    reply_unless (refusal message.items)
+    (reply_of_answer (answer (sight s from) now words (reading_of message.items)))
+reply s (Call.Sign to message) =
+    reply_unless (refusal message.items) (reply_of_signing (signing (sight s to) message.items))
 reply s (Call.AddUser name password) = Done
 reply s (Call.RemoveUser name) = Done
 reply s (Call.AddIntegrity algorithm) = Done

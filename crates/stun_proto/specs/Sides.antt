@@ -1,10 +1,12 @@
 -- Where both sides of a meeting stand after its first steps, as long as another step follows: the
--- server has read a message, or signed one, or made a call, or the client has read a message. What a
--- client signs leaves it as it was. Each definition is of what is left from one step on, the last
+-- server has read a message, or signed one, or made a call, or the client has read a message. What
+-- a client signs leaves it as it was. Each definition is of what is left from one step on, the last
 -- step first, and begins with the sides as they stand there.
 use Rattle.std.specs.Prelude.{◌≡◌, ◌≤◌, ◌⊎◌, ℕ, List, true, IsOk, length, take}
 use Rattle.std.specs.declared.result.Result.TheVariants.{Ok, Err}
-use Rattle.stun_auth.specs.declared.server.reason.LongTermServerAuthErrorReason.TheVariants.{Unauthorized}
+use Rattle.stun_auth.specs.declared.server.reason.LongTermServerAuthErrorReason.TheVariants.{
+  Unauthorized,
+}
 use Rattle.stun_auth.specs.Additions.{Page}
 use Rattle.stun_auth.specs.Client.{ClientState}
 use Rattle.stun_auth.specs.ClientStep.{IsResend, UNAUTHORIZED, client_step}

@@ -5,8 +5,9 @@ use Rattle.stun_agent.specs.declared.error.StunError.{StunError}
 use Rattle.stun_proto.specs.declared.replay.event.AgentStep.{AgentStep}
 use Rattle.stun_proto.specs.declared.replay.event.AgentStep.TheVariants as code
 
--- what an agent does: a request is sent, for the first time or again; another message is sent; a message was received,
--- and taken or not; a call was refused; a request has ended, by its time or by its user
+-- what an agent does: a request is sent, for the first time or again; another message is sent; a
+-- message was received, and taken or not; a call was refused; a request has ended, by its time or
+-- by its user
 pub data Step : Type 0 where
   Transmitted : (moment id : ℕ) (to : SocketAddr) (bytes : List ℕ) → Step
   Sent : (moment : ℕ) (to : SocketAddr) (bytes : List ℕ) → Step

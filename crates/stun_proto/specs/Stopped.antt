@@ -7,14 +7,16 @@ use Rattle.stun_proto.specs.declared.replay.event.AgentEvent.{AgentEvent}
 use Rattle.stun_proto.specs.Run.{Run, IsDriven}
 use Rattle.stun_proto.specs.Steps.{Step}
 
--- the awaited moments below this one have had their turns: up to the next event's, or up to `until` where no event is left
+-- the awaited moments below this one have had their turns: up to the next event's, or up to `until`
+-- where no event is left
 abbrev pub next_bound : ℕ → List (ℕ × AgentEvent) → ℕ
 next_bound until [] = until + 1
 next_bound until (e ∷ es) = e.0
 
--- the first `done` events were taken and the others are left. The agent is exactly the one that these have led to, with the turns
--- before the next one; the steps are lost
-pub record HasStopped (until done : ℕ) (a : Agent) (events : List (ℕ × AgentEvent)) (b : Agent) : Type 0 where
+-- the first `done` events were taken and the others are left. The agent is exactly the one that
+-- these have led to, with the turns before the next one; the steps are lost
+pub record HasStopped (until done : ℕ) (a : Agent) (events : List (ℕ × AgentEvent))
+    (b : Agent) : Type 0 where
   pub complete : List (ℕ × AgentEvent)
   pub left : List (ℕ × AgentEvent)
   pub lost : List Step
@@ -23,23 +25,35 @@ pub record HasStopped (until done : ℕ) (a : Agent) (events : List (ℕ × Agen
   pub taken : Run (next_bound until left) 0 a complete lost b
 
 -- ---- going on
--- whoever drives the agent as it was left over the events that are left makes the later steps of the whole run, those after the
--- lost ones, and comes to its agent
+-- whoever drives the agent as it was left over the events that are left makes the later steps of
+-- the whole run, those after the lost ones, and comes to its agent
 abbrev pub StoppedRunsGoOn : Type 0
-StoppedRunsGoOn = (until done : ℕ) (a b c : Agent) (events : List (ℕ × AgentEvent)) (more : List Step) (stopped : HasStopped until done a events b)
-    → done < length events → IsDriven until b (drop done events) more c → IsDriven until a events (stopped.lost ++ more) c
+StoppedRunsGoOn =
+    (until done : ℕ) (a b c : Agent) (events : List (ℕ × AgentEvent)) (more : List Step)
+    (stopped : HasStopped until done a events b)
+    → done < length events → IsDriven until b (drop done events) more c
+    → IsDriven until a events (stopped.lost ++ more) c
 
 -- and each whole run has these two parts: the lost steps, and those that are made from there
 abbrev pub StoppedRunsHaveTheRest : Type 0
-StoppedRunsHaveTheRest = (until done : ℕ) (a b c : Agent) (events : List (ℕ × AgentEvent)) (steps : List Step) (stopped : HasStopped until done a events b)
-    → done < length events → IsDriven until a events steps c → (more : List Step) × (steps ≡ stopped.lost ++ more) × IsDriven until b (drop done events) more c
+StoppedRunsHaveTheRest =
+    (until done : ℕ) (a b c : Agent) (events : List (ℕ × AgentEvent)) (steps : List Step)
+    (stopped : HasStopped until done a events b)
+    → done < length events → IsDriven until a events steps c → (more : List Step)
+    × (steps ≡ stopped.lost ++ more) × IsDriven until b (drop done events) more c
 
--- no event being past the last moment, whoever stops again has stopped in the whole run, after so many events more
+-- no event being past the last moment, whoever stops again has stopped in the whole run, after so
+-- many events more
 abbrev pub StoppedRunsStopAgain : Type 0
-StoppedRunsStopAgain = (until done further : ℕ) (a b c : Agent) (events : List (ℕ × AgentEvent)) → AllByRecursion (λ e. e.0 ≤ last_moment) events
-    → HasStopped until done a events b → done < length events → HasStopped until further b (drop done events) c → HasStopped until (done + further) a events c
+StoppedRunsStopAgain = (until done further : ℕ) (a b c : Agent) (events : List (ℕ × AgentEvent))
+    → AllByRecursion (λ e. e.0 ≤ last_moment) events
+    → HasStopped until done a events b → done < length events
+    → HasStopped until further b (drop done events) c → HasStopped until (done + further) a events c
 
--- where no event is left the agent is the one that the whole run comes to, and all its steps are lost
+-- where no event is left the agent is the one that the whole run comes to, and all its steps are
+-- lost
 abbrev pub StoppedRunsEnd : Type 0
-StoppedRunsEnd = (until : ℕ) (a b : Agent) (events : List (ℕ × AgentEvent)) (stopped : HasStopped until (length events) a events b)
+StoppedRunsEnd =
+    (until : ℕ) (a b : Agent) (events : List (ℕ × AgentEvent))
+    (stopped : HasStopped until (length events) a events b)
     → 0 < length events → IsDriven until a events stopped.lost b

@@ -3,17 +3,16 @@
 -- ---- what the sentences rest on, one step down, with the file in specs/
 -- realm, current nonce, user, algorithms   IsAccepted, standing, named, agreed  stun_auth Server
 -- what a message says, and its digest      reading_of, verified_under           stun_auth Reading
--- the attribute that decides               deciding                             stun_types Integrity
--- HMAC                                     digest, hmac                         stun_base Algorithm, Hmac
--- an address's own calls                   concerns, own                        Isolation
--- what they leave, by the replies to them  sight_by_replies                     Replies
--- the run of a server                      replies                              Serving
--- strongest that both support              IsStrongestShared                    Best
--- ready                                    IsReady                              Honest
--- the run of a driven agent                IsDriven, Run, Turns, Turn           Run
--- plan, prefix sums                        plan, transmission                   Schedule
--- timeouts, slots, end                     sum_of_timeouts, slots, planned_end  stun_agent Timing
--- undisturbed, asks                        IsUndisturbed, IsAimedAt, Asks       Schedule
+-- the attribute that decides               deciding                             stun_types
+-- Integrity HMAC                                     digest, hmac                         stun_base
+-- Algorithm, Hmac an address's own calls                   concerns, own
+-- Isolation what they leave, by the replies to them  sight_by_replies                     Replies
+-- the run of a server                      replies                              Serving strongest
+-- that both support              IsStrongestShared                    Best ready
+-- IsReady                              Honest the run of a driven agent                IsDriven,
+-- Run, Turns, Turn           Run plan, prefix sums                        plan, transmission
+-- Schedule timeouts, slots, end                     sum_of_timeouts, slots, planned_end  stun_agent
+-- Timing undisturbed, asks                        IsUndisturbed, IsAimedAt, Asks       Schedule
 
 -- ---- the library of the toolchain
 pub use Rattle.std.specs.Prelude.{ℕ, false, List, filter, length, slice_get, take, Some, None}
@@ -36,7 +35,9 @@ pub use Rattle.stun_types.specs.Integrity.{deciding, integrity_algorithm}
 pub use Rattle.stun_types.specs.Limits.{TEXT_LIMIT, USERNAME_LIMIT}
 pub use Rattle.stun_types.specs.Message.{with_length}
 -- ---- server and client
-pub use Rattle.stun_auth.specs.declared.client.answer.LongTermClientAuthErrorReason.TheVariants.{UnsupportedFeature}
+pub use Rattle.stun_auth.specs.declared.client.answer.LongTermClientAuthErrorReason.TheVariants.{
+  UnsupportedFeature,
+}
 pub use Rattle.stun_auth.specs.Algorithms.{listed}
 pub use Rattle.stun_auth.specs.Client.{Challenge, ClientState, authenticated, initial}
 pub use Rattle.stun_auth.specs.Reading.{Reading, verified_under}
@@ -48,7 +49,8 @@ pub use Rattle.stun_proto.specs.declared.replay.call.ServerCall.TheVariants.{Val
 pub use Rattle.stun_proto.specs.declared.replay.negotiation.NegotiateError.{NegotiateError}
 pub use Rattle.stun_proto.specs.declared.replay.negotiation.NegotiateError.TheVariants.{Memory}
 pub use Rattle.stun_proto.specs.declared.replay.negotiation.Outcome.{Outcome}
-pub use Rattle.stun_proto.specs.declared.replay.negotiation.Outcome.TheVariants.{Validated, ClientRefused}
+pub use Rattle.stun_proto.specs.declared.replay.negotiation.Outcome.TheVariants.{Validated}
+pub use Rattle.stun_proto.specs.declared.replay.negotiation.Outcome.TheVariants.{ClientRefused}
 pub use Rattle.stun_proto.specs.Best.{HashIsRefused, IsShared, IsStrongestShared}
 pub use Rattle.stun_proto.specs.Honest.{IsReady}
 pub use Rattle.stun_proto.specs.Isolation.{own, own_replies}

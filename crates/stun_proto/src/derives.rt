@@ -24,7 +24,8 @@ pub fn is_same_negotiate_error(one: NegotiateError, other: NegotiateError) -> bo
     one == other
 }
 
-/// Replies are equal as values: errors, algorithms and reasons as they are, and signed messages by their bytes.
+/// Replies are equal as values: errors, algorithms and reasons as they are, and signed messages by
+/// their bytes.
 pub fn is_same_reply<A: Allocator>(one: &ServerReply<A>, other: &ServerReply<A>) -> bool
     ensures { IsTrue result ↔ (reply_of one.now ≡ reply_of other.now) }
 {

@@ -17,7 +17,8 @@ ghost use Rattle.stun_auth.specs.Reading.{Reading};
 ghost use Rattle.stun_auth.specs.Reasons.{OrMemory};
 ghost use Rattle.stun_auth.specs.Server.{Sight};
 ghost use Rattle.stun_auth.specs.Validation.{answer};
-ghost use Rattle.stun_proto.specs.AgentLoop.{LateLoopsAreBounded, LoopsAreDriven, LoopsExist, LoopsSendByPlan, LoopsSendByTurns, TurnsAreNeverEarly};
+ghost use Rattle.stun_proto.specs.AgentLoop.{LateLoopsAreBounded, LoopsAreDriven, LoopsExist};
+ghost use Rattle.stun_proto.specs.AgentLoop.{LoopsSendByPlan, LoopsSendByTurns, TurnsAreNeverEarly};
 ghost use Rattle.stun_proto.specs.Appending.{AgreeingAreAnsweredAlike, ContinuedAreAnsweredAlike};
 ghost use Rattle.stun_proto.specs.Best.{BestIsStrongest};
 ghost use Rattle.stun_proto.specs.Examples.{binding_request, udp_steps, tcp_steps};
@@ -27,16 +28,20 @@ ghost use Rattle.stun_proto.specs.MeetingExample.{IsServed, a_meeting, a_server,
 ghost use Rattle.stun_proto.specs.MeetingLoop.{MeetingsAgree, MeetingsAreNegotiated};
 ghost use Rattle.stun_proto.specs.Negotiation.{negotiated};
 ghost use Rattle.stun_proto.specs.Renewal.{NonceIsRenewed};
-ghost use Rattle.stun_proto.specs.Headline.{IsAskedOnce, IsReadyClient, SendsByPlan, ValidatesOneCall};
+ghost use Rattle.stun_proto.specs.Headline.{IsAskedOnce, IsReadyClient};
+ghost use Rattle.stun_proto.specs.Headline.{SendsByPlan, ValidatesOneCall};
 ghost use Rattle.stun_proto.specs.Run.{IsDriven};
-ghost use Rattle.stun_proto.specs.RunLaws.{EventsHaveRuns, IsDetermined, IsDeterminedThroughout, KeepPlans, requester};
+ghost use Rattle.stun_proto.specs.RunLaws.{EventsHaveRuns, IsDetermined};
+ghost use Rattle.stun_proto.specs.RunLaws.{IsDeterminedThroughout, KeepPlans, requester};
 ghost use Rattle.stun_proto.specs.Schedule.{AreInOrder, plan};
-ghost use Rattle.stun_proto.specs.ServerLoop.{BuiltAreWrittenSo, CallsAreServed, CallsAreValidated, IsMade, told};
+ghost use Rattle.stun_proto.specs.ServerLoop.{BuiltAreWrittenSo, CallsAreServed};
+ghost use Rattle.stun_proto.specs.ServerLoop.{CallsAreValidated, IsMade, told};
 ghost use Rattle.stun_proto.specs.Serving.{reply_of_answer, reply_of_signing};
 ghost use Rattle.stun_proto.specs.Shards.{ShardsServeAsOne};
 ghost use Rattle.stun_proto.specs.Signing.{written_anew};
 ghost use Rattle.stun_proto.specs.Steps.{Step};
-ghost use Rattle.stun_proto.specs.Stopped.{StoppedRunsEnd, StoppedRunsGoOn, StoppedRunsHaveTheRest, StoppedRunsStopAgain};
+ghost use Rattle.stun_proto.specs.Stopped.{StoppedRunsEnd, StoppedRunsGoOn};
+ghost use Rattle.stun_proto.specs.Stopped.{StoppedRunsHaveTheRest, StoppedRunsStopAgain};
 ghost use Rattle.stun_proto.specs.declared.replay.event.AgentEvent.{AgentEvent as TheEvent};
 
 use crate::replay::ServerCall;
@@ -50,7 +55,8 @@ use stun_base::error::StunWriteError;
 use stun_base::instant::Instant;
 use stun_types::message::{Message, MessageWriteVec};
 
-/// Events have one run at most: its steps and the agent after it are determined, up to every moment, and from every moment on.
+/// Events have one run at most: its steps and the agent after it are determined, up to every
+/// moment, and from every moment on.
 pub fn runs_are_determined()
     ensures driven { IsDetermined }
     ensures throughout { IsDeterminedThroughout }
@@ -61,9 +67,10 @@ pub fn events_have_runs()
     ensures { EventsHaveRuns }
 {}
 
-/// A run that stopped because an allocation failed goes on where the agent, as it was left, is driven over the events that are
-/// left. This makes exactly the later steps of the whole run and comes to its agent, so no transmission is made twice. It may stop
-/// again, any number of times. Where no event is left, the agent is already the one that the whole run comes to.
+/// A run that stopped because an allocation failed goes on where the agent, as it was left, is
+/// driven over the events that are left. This makes exactly the later steps of the whole run and
+/// comes to its agent, so no transmission is made twice. It may stop again, any number of times.
+/// Where no event is left, the agent is already the one that the whole run comes to.
 pub fn stopped_runs_go_on()
     ensures left { StoppedRunsGoOn }
     ensures parts { StoppedRunsHaveTheRest }
@@ -71,9 +78,9 @@ pub fn stopped_runs_go_on()
     ensures complete { StoppedRunsEnd }
 {}
 
-/// The steps of a run and the counters of its agent tell the same: of requests that timed out or were cancelled, of
-/// indications and responses sent, and of bytes sent, retransmissions among them (RFC 8489, section 6.2). Whoever keeps the
-/// steps can do without counters.
+/// The steps of a run and the counters of its agent tell the same: of requests that timed out or
+/// were cancelled, of indications and responses sent, and of bytes sent, retransmissions among them
+/// (RFC 8489, section 6.2). Whoever keeps the steps can do without counters.
 pub fn runs_count_steps()
     ensures { RunsCountSteps }
 {}
@@ -87,40 +94,42 @@ pub fn runs_send_by_plan()
         → IsDriven until a events steps b → SendsByPlan until (requester a) events steps }
 {}
 
-/// The same of ids that come again: each request that the agent accepts and that is undisturbed goes by its plan up to its end.
-/// Where no later event asks for its id, these are all steps that the id has from there on.
+/// The same of ids that come again: each request that the agent accepts and that is undisturbed
+/// goes by its plan up to its end. Where no later event asks for its id, these are all steps that
+/// the id has from there on.
 pub fn runs_keep_plans()
     ensures { (until : ℕ) (a b : Agent) (events : List (ℕ × TheEvent)) (steps : List Step)
         → until ≤ last_moment → IsAscending a.transactions → AreInOrder until 0 events
         → IsDriven until a events steps b → KeepPlans until a events steps }
 {}
 
-/// An agent that began with no request outstanding, and that a user polls in a loop of their own, on
-/// time (`Loop`): each turn comes no later than `poll` said to wait until. It makes the steps of
+/// An agent that began with no request outstanding, and that a user polls in a loop of their own,
+/// on time (`Loop`): each turn comes no later than `poll` said to wait until. It makes the steps of
 /// `drive` with the same events. So the third sentence holds of it (RFC 8489, section 6.2.1). And
-/// whatever comes at moments that do not go back, there is a loop in which it does, on time or late.
+/// whatever comes at moments that do not go back, there is a loop in which it does, on time or
+/// late.
 pub fn loops_are_driven()
     ensures driven { LoopsAreDriven }
     ensures plans { LoopsSendByPlan }
     ensures exist { LoopsExist }
 {}
 
-/// An agent in such a loop that is late, by however much. Up to its end a request at which no event is
-/// aimed is sent at the first turn at which its timeout has passed since it was sent before, and at no
-/// other, at most as often as its plan says; and it times out at the first turn at which the final
-/// wait has passed since then. No step comes before its moment in the plan. Where each turn is at most
-/// so late, transmission k, counted from 0, is at most k times as late, and the time-out once more
-/// than the last transmission.
+/// An agent in such a loop that is late, by however much. Up to its end a request at which no event
+/// is aimed is sent at the first turn at which its timeout has passed since it was sent before, and
+/// at no other, at most as often as its plan says; and it times out at the first turn at which the
+/// final wait has passed since then. No step comes before its moment in the plan. Where each turn
+/// is at most so late, transmission k, counted from 0, is at most k times as late, and the time-out
+/// once more than the last transmission.
 pub fn late_loops_send_by_turns()
     ensures turns { LoopsSendByTurns }
     ensures never_early { TurnsAreNeverEarly }
     ensures bounded { LateLoopsAreBounded }
 {}
 
-/// The plan of one request, spelled out. With the default settings, over UDP: a transmission at 0, 500, 1500, 3500, 7500,
-/// 15500 and 31500 ms, and its time-out at 39500 ms. Over TCP: one transmission, and the time-out at the same moment (RFC
-/// 8489, sections 6.2.1 and 6.2.2). A new agent that is asked this request and nothing else meets the premise of
-/// `runs_send_by_plan`.
+/// The plan of one request, spelled out. With the default settings, over UDP: a transmission at 0,
+/// 500, 1500, 3500, 7500, 15500 and 31500 ms, and its time-out at 39500 ms. Over TCP: one
+/// transmission, and the time-out at the same moment (RFC 8489, sections 6.2.1 and 6.2.2). A new
+/// agent that is asked this request and nothing else meets the premise of `runs_send_by_plan`.
 pub fn plan_of_a_request()
     ensures udp { (to : Address) → plan Udp 0 default_settings 7 to binding_request ≡ udp_steps to }
     ensures tcp { (to : Address) → plan Tcp 0 default_settings 7 to binding_request ≡ tcp_steps to }
@@ -128,7 +137,8 @@ pub fn plan_of_a_request()
         → IsAskedOnce (requester (new_agent transport here)) 7 0 binding_request to [] [] }
 {}
 
-/// The answer to one request or indication is `Validated` if and only if the message is accepted (RFC 8489, section 9.2.4).
+/// The answer to one request or indication is `Validated` if and only if the message is accepted
+/// (RFC 8489, section 9.2.4).
 pub fn one_call_validates()
     ensures { (s : Sight) (now : ℕ) (words : List ℕ) (r : Reading)
         → ValidatesOneCall s now words r (answer s now words r) }
@@ -136,10 +146,10 @@ pub fn one_call_validates()
     stun_auth::laws::accepted_messages_are_validated();
 }
 
-/// Calls that a user makes on one server, one by one, are a run of `serve`: each as the clauses of the
-/// server's own call say (`IsMade`), and from the server that the one before left, they have the
-/// replies of the run, and leave its server. So the first sentence holds of them
-/// (RFC 8489, section 9.2.4).
+/// Calls that a user makes on one server, one by one, are a run of `serve`: each as the clauses of
+/// the server's own call say (`IsMade`), and from the server that the one before left, they have
+/// the replies of the run, and leave its server. So the first sentence holds of them (RFC 8489,
+/// section 9.2.4).
 pub fn calls_are_a_run()
     ensures served { CallsAreServed }
     ensures validated { CallsAreValidated }
@@ -170,8 +180,8 @@ pub fn a_validation_is_made<A: Allocator + Copy, R: Rng>(
 }
 
 /// One call of `sign_outgoing_message`, on a message in a vector that `serve` writes anew as it is
-/// (clause `plain` of `calls_are_a_run`), is the call `Sign` of a run (`IsMade`). Where an allocation
-/// failed it is no call of the run, and the server is as before.
+/// (clause `plain` of `calls_are_a_run`), is the call `Sign` of a run (`IsMade`). Where an
+/// allocation failed it is no call of the run, and the server is as before.
 pub fn a_signing_is_made<A: Allocator + Copy>(
     server: &mut LongTermServerAuth<A>,
     writer: MessageWriteVec<A>,
@@ -188,16 +198,19 @@ pub fn a_signing_is_made<A: Allocator + Copy>(
     server.sign_outgoing_message(writer, to)
 }
 
-/// What a client and a server can agree on is the strongest algorithm that both support. There is none exactly where they share
-/// none, or where the client must send a hash of its name and the server takes none.
+/// What a client and a server can agree on is the strongest algorithm that both support. There is
+/// none exactly where they share none, or where the client must send a hash of its name and the
+/// server takes none.
 pub fn best_is_strongest()
     ensures { BestIsStrongest }
 {}
 
-/// Two messages with the same bytes up to the end of the integrity attribute that decides in both, but for the length in the
-/// header, get the same reply and leave the same server, with the same place of their address; and so does each run in which one
-/// of them is in the place of the other. So nobody changes what a server makes of a signed request by appending to it, unless a
-/// MESSAGE-INTEGRITY-SHA256 is put after a MESSAGE-INTEGRITY: then its digest decides (RFC 8489, sections 14.5 to 14.7).
+/// Two messages with the same bytes up to the end of the integrity attribute that decides in both,
+/// but for the length in the header, get the same reply and leave the same server, with the same
+/// place of their address; and so does each run in which one of them is in the place of the other.
+/// So nobody changes what a server makes of a signed request by appending to it, unless a
+/// MESSAGE-INTEGRITY-SHA256 is put after a MESSAGE-INTEGRITY: then its digest decides (RFC 8489,
+/// sections 14.5 to 14.7).
 pub fn appending_changes_no_reply()
     ensures agreeing { AgreeingAreAnsweredAlike }
     ensures appended { ContinuedAreAnsweredAlike }
@@ -206,9 +219,10 @@ pub fn appending_changes_no_reply()
     auth_laws::what_follows_integrity_is_not_read();
 }
 
-/// Addresses can be dealt out to any number of servers that start alike, each of which takes the calls of its addresses and
-/// all calls that concern every address (users, settings, forgetting): each address then gets the replies that one server that
-/// takes all calls would give it, and the same is kept for it.
+/// Addresses can be dealt out to any number of servers that start alike, each of which takes the
+/// calls of its addresses and all calls that concern every address (users, settings, forgetting):
+/// each address then gets the replies that one server that takes all calls would give it, and the
+/// same is kept for it.
 pub fn shards_serve_as_one()
     ensures { ShardsServeAsOne }
 {}
@@ -228,9 +242,9 @@ pub fn strongest_is_agreed()
 }
 
 /// A client and a server whose users make their calls one by one, each on what the other side has
-/// sent, in order (`HaveMet`), are in a meeting as `negotiate` has it: they come to the same outcome,
-/// and both sides are left the same. So an honest client is accepted with its second request and the
-/// strongest algorithm of both (RFC 8489, section 9.2).
+/// sent, in order (`HaveMet`), are in a meeting as `negotiate` has it: they come to the same
+/// outcome, and both sides are left the same. So an honest client is accepted with its second
+/// request and the strongest algorithm of both (RFC 8489, section 9.2).
 pub fn calls_are_a_meeting()
     ensures negotiated { MeetingsAreNegotiated }
     ensures strongest { MeetingsAgree }
@@ -250,11 +264,11 @@ pub fn short_names_are_signed()
     auth_laws::sides_sign_with_room();
 }
 
-/// One meeting: a client of one user that must hash the name (USERHASH, RFC 8489, section 14.4), and a
-/// server that has this user alone, both with HMAC-SHA1 and HMAC-SHA256. From whatever address it
-/// comes, and whatever random words are drawn, it meets the premise of the second sentence; the
-/// meeting ends `Validated` with HMAC-SHA256; and of the three calls that it makes its server make,
-/// `serve` challenges the first, signs the challenge, and validates the last.
+/// One meeting: a client of one user that must hash the name (USERHASH, RFC 8489, section 14.4),
+/// and a server that has this user alone, both with HMAC-SHA1 and HMAC-SHA256. From whatever
+/// address it comes, and whatever random words are drawn, it meets the premise of the second
+/// sentence; the meeting ends `Validated` with HMAC-SHA256; and of the three calls that it makes
+/// its server make, `serve` challenges the first, signs the challenge, and validates the last.
 pub fn a_hashed_name_is_validated()
     ensures ready { (from : Address) (words more : List ℕ)
         → IsReadyClient initial (a_meeting from words more) a_user a_server }
@@ -271,14 +285,16 @@ pub fn a_hashed_name_is_validated()
     auth_laws::sides_add_by_attribute();
 }
 
-/// A request of an authenticated client whose nonce has ended is answered `StaleNonce`, unless the nonce that is current by
-/// then is the old one, drawn again. Once the client has read one error of code 438 that the server signed, its request is
-/// accepted while that nonce is current (RFC 8489, sections 9.2.4 and 9.2.5). The messages are of any method, and have any
-/// attributes of their own but those that signing adds. Between them users and settings stay. Before the request other
-/// messages of the client's address may be read at any moment, so that one of them has made the nonce that is current; after
-/// it they are read while that nonce is current. Expired nonces may be forgotten at any moment, and no call removes the client
-/// at its address; or such calls come too, and expired nonces are forgotten up to the end of the client's nonce before the
-/// request, and up to the end of the new one after it, since a place without a client is forgotten.
+/// A request of an authenticated client whose nonce has ended is answered `StaleNonce`, unless the
+/// nonce that is current by then is the old one, drawn again. Once the client has read one error of
+/// code 438 that the server signed, its request is accepted while that nonce is current (RFC 8489,
+/// sections 9.2.4 and 9.2.5). The messages are of any method, and have any attributes of their own
+/// but those that signing adds. Between them users and settings stay. Before the request other
+/// messages of the client's address may be read at any moment, so that one of them has made the
+/// nonce that is current; after it they are read while that nonce is current. Expired nonces may be
+/// forgotten at any moment, and no call removes the client at its address; or such calls come too,
+/// and expired nonces are forgotten up to the end of the client's nonce before the request, and up
+/// to the end of the new one after it, since a place without a client is forgotten.
 pub fn nonce_is_renewed()
     ensures { NonceIsRenewed }
 {

@@ -10,4 +10,15 @@ abbrev pub Heap : RattleType
 Heap = heap.the_row
 
 abbrev pub as_box : (T : RattleType) → Laws T → Bx
-as_box T L = record { row = T; laws = L; al = record { row = Heap; laws = heap_laws.the_row_laws; g = ghosts; d = dict; drops = impl [] tnil dnil } }
+as_box T L =
+    record {
+      row = T;
+      laws = L;
+      al = record {
+        row = Heap;
+        laws = heap_laws.the_row_laws;
+        g = ghosts;
+        d = dict;
+        drops = impl [] tnil dnil;
+      };
+    }

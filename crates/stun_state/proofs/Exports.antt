@@ -1,5 +1,7 @@
 -- From what a call answers and leaves to the number that its export answers and what is kept.
-use Rattle.std.proofs.Common.{◌≡◌, ◌∙◌, ℕ, ℤ, List, pos, min, false, true, int_lt, if◌then◌else◌, Option, Some, IfSome, Result, Ok, Err, OnOk, OnErr, refl, sym, subst, ap, inl, inr}
+use Rattle.std.proofs.Common.{◌≡◌, ◌∙◌, ℕ, ℤ, List, pos, min, false, true, int_lt}
+use Rattle.std.proofs.Common.{if◌then◌else◌, Option, Some, IfSome, Result, Ok}
+use Rattle.std.proofs.Common.{Err, OnOk, OnErr, refl, sym, subst, ap, inl, inr}
 use Rattle.std.specs.Prelude.{⊤}
 use lib.Dec.{leb-suc-zero}
 use Rattle.stun_state.specs.Answers.{ForRefusal, OrMemory}
@@ -7,48 +9,89 @@ use Rattle.stun_state.specs.Codes.{code_of}
 use Rattle.stun_state.specs.Numbers.{OrOutOfMemory, left_by, length_answer}
 use Rattle.stun_state.specs.Signing.{buffer_after, length_of}
 use Rattle.stun_state.specs.declared.codes.Refusal.{Refusal}
-use Rattle.stun_state.specs.declared.codes.Refusal.TheVariants.{Truncated, NotStun, TooLarge, IntegrityFailed, BadArgument, NotText, TextTooLong, BufferTooSmall, NotAllowed, Closed, AttributeExists, MessageTooLong, MissingAttribute, MalformedAttribute, OutOfMemory, EmptyHandle, FullHandle, AlreadyInProgress, ProtocolViolation, Unauthorized, BadRequest, StaleNonce, UnsupportedFeature, NoWait, TooManyAddresses}
+use Rattle.stun_state.specs.declared.codes.Refusal.TheVariants.{Truncated, NotStun, TooLarge}
+use Rattle.stun_state.specs.declared.codes.Refusal.TheVariants.{IntegrityFailed, BadArgument}
+use Rattle.stun_state.specs.declared.codes.Refusal.TheVariants.{NotText, TextTooLong}
+use Rattle.stun_state.specs.declared.codes.Refusal.TheVariants.{BufferTooSmall, NotAllowed}
+use Rattle.stun_state.specs.declared.codes.Refusal.TheVariants.{Closed, AttributeExists}
+use Rattle.stun_state.specs.declared.codes.Refusal.TheVariants.{MessageTooLong, MissingAttribute}
+use Rattle.stun_state.specs.declared.codes.Refusal.TheVariants.{MalformedAttribute, OutOfMemory}
+use Rattle.stun_state.specs.declared.codes.Refusal.TheVariants.{EmptyHandle, FullHandle}
+use Rattle.stun_state.specs.declared.codes.Refusal.TheVariants.{AlreadyInProgress}
+use Rattle.stun_state.specs.declared.codes.Refusal.TheVariants.{ProtocolViolation, Unauthorized}
+use Rattle.stun_state.specs.declared.codes.Refusal.TheVariants.{BadRequest, StaleNonce}
+use Rattle.stun_state.specs.declared.codes.Refusal.TheVariants.{UnsupportedFeature, NoWait}
+use Rattle.stun_state.specs.declared.codes.Refusal.TheVariants.{TooManyAddresses}
 
 -- what is so of the value that is there
 pub some_is : {T : Type 0} (o : Option T) (x : T) (F : T → Type 0) → o ≡ Some x → F x → IfSome o F
 some_is o x F is f = subst (λ p. IfSome p F) (sym is) f
 
 -- the answer's number and what is left, unless the refusal is that an allocation failed
-unless_memory : {V S : Type 0} (Q : Type 0) (number : Result V Refusal → ℤ) (refusal : Refusal) (expected : Result V Refusal) (told : ℤ) (before now after : S)
+unless_memory : {V S : Type 0} (Q : Type 0) (number : Result V Refusal → ℤ) (refusal : Refusal)
+    (expected : Result V Refusal) (told : ℤ) (before now after : S)
     → number (Err OutOfMemory) ≡ code_of OutOfMemory → told ≡ number (Err refusal)
-    → ForRefusal refusal (Err refusal ≡ expected) Q → ForRefusal refusal (now ≡ after) (now ≡ before)
+    → ForRefusal refusal (Err refusal ≡ expected) Q
+    → ForRefusal refusal (now ≡ after) (now ≡ before)
     → OrOutOfMemory told before now (number expected) after
-unless_memory Q number Truncated expected told before now after memory is p q = inl (is ∙ ap number p, q)
-unless_memory Q number NotStun expected told before now after memory is p q = inl (is ∙ ap number p, q)
-unless_memory Q number TooLarge expected told before now after memory is p q = inl (is ∙ ap number p, q)
-unless_memory Q number IntegrityFailed expected told before now after memory is p q = inl (is ∙ ap number p, q)
-unless_memory Q number BadArgument expected told before now after memory is p q = inl (is ∙ ap number p, q)
-unless_memory Q number NotText expected told before now after memory is p q = inl (is ∙ ap number p, q)
-unless_memory Q number TextTooLong expected told before now after memory is p q = inl (is ∙ ap number p, q)
-unless_memory Q number BufferTooSmall expected told before now after memory is p q = inl (is ∙ ap number p, q)
-unless_memory Q number NotAllowed expected told before now after memory is p q = inl (is ∙ ap number p, q)
-unless_memory Q number Closed expected told before now after memory is p q = inl (is ∙ ap number p, q)
-unless_memory Q number AttributeExists expected told before now after memory is p q = inl (is ∙ ap number p, q)
-unless_memory Q number MessageTooLong expected told before now after memory is p q = inl (is ∙ ap number p, q)
-unless_memory Q number MissingAttribute expected told before now after memory is p q = inl (is ∙ ap number p, q)
-unless_memory Q number MalformedAttribute expected told before now after memory is p q = inl (is ∙ ap number p, q)
-unless_memory Q number OutOfMemory expected told before now after memory is p q = inr (is ∙ memory, q)
-unless_memory Q number EmptyHandle expected told before now after memory is p q = inl (is ∙ ap number p, q)
-unless_memory Q number FullHandle expected told before now after memory is p q = inl (is ∙ ap number p, q)
-unless_memory Q number AlreadyInProgress expected told before now after memory is p q = inl (is ∙ ap number p, q)
-unless_memory Q number ProtocolViolation expected told before now after memory is p q = inl (is ∙ ap number p, q)
-unless_memory Q number Unauthorized expected told before now after memory is p q = inl (is ∙ ap number p, q)
-unless_memory Q number BadRequest expected told before now after memory is p q = inl (is ∙ ap number p, q)
-unless_memory Q number StaleNonce expected told before now after memory is p q = inl (is ∙ ap number p, q)
-unless_memory Q number UnsupportedFeature expected told before now after memory is p q = inl (is ∙ ap number p, q)
-unless_memory Q number NoWait expected told before now after memory is p q = inl (is ∙ ap number p, q)
-unless_memory Q number TooManyAddresses expected told before now after memory is p q = inl (is ∙ ap number p, q)
+unless_memory Q number Truncated expected told before now after memory is p q =
+    inl (is ∙ ap number p, q)
+unless_memory Q number NotStun expected told before now after memory is p q =
+    inl (is ∙ ap number p, q)
+unless_memory Q number TooLarge expected told before now after memory is p q =
+    inl (is ∙ ap number p, q)
+unless_memory Q number IntegrityFailed expected told before now after memory is p q =
+    inl (is ∙ ap number p, q)
+unless_memory Q number BadArgument expected told before now after memory is p q =
+    inl (is ∙ ap number p, q)
+unless_memory Q number NotText expected told before now after memory is p q =
+    inl (is ∙ ap number p, q)
+unless_memory Q number TextTooLong expected told before now after memory is p q =
+    inl (is ∙ ap number p, q)
+unless_memory Q number BufferTooSmall expected told before now after memory is p q =
+    inl (is ∙ ap number p, q)
+unless_memory Q number NotAllowed expected told before now after memory is p q =
+    inl (is ∙ ap number p, q)
+unless_memory Q number Closed expected told before now after memory is p q =
+    inl (is ∙ ap number p, q)
+unless_memory Q number AttributeExists expected told before now after memory is p q =
+    inl (is ∙ ap number p, q)
+unless_memory Q number MessageTooLong expected told before now after memory is p q =
+    inl (is ∙ ap number p, q)
+unless_memory Q number MissingAttribute expected told before now after memory is p q =
+    inl (is ∙ ap number p, q)
+unless_memory Q number MalformedAttribute expected told before now after memory is p q =
+    inl (is ∙ ap number p, q)
+unless_memory Q number OutOfMemory expected told before now after memory is p q =
+    inr (is ∙ memory, q)
+unless_memory Q number EmptyHandle expected told before now after memory is p q =
+    inl (is ∙ ap number p, q)
+unless_memory Q number FullHandle expected told before now after memory is p q =
+    inl (is ∙ ap number p, q)
+unless_memory Q number AlreadyInProgress expected told before now after memory is p q =
+    inl (is ∙ ap number p, q)
+unless_memory Q number ProtocolViolation expected told before now after memory is p q =
+    inl (is ∙ ap number p, q)
+unless_memory Q number Unauthorized expected told before now after memory is p q =
+    inl (is ∙ ap number p, q)
+unless_memory Q number BadRequest expected told before now after memory is p q =
+    inl (is ∙ ap number p, q)
+unless_memory Q number StaleNonce expected told before now after memory is p q =
+    inl (is ∙ ap number p, q)
+unless_memory Q number UnsupportedFeature expected told before now after memory is p q =
+    inl (is ∙ ap number p, q)
+unless_memory Q number NoWait expected told before now after memory is p q =
+    inl (is ∙ ap number p, q)
+unless_memory Q number TooManyAddresses expected told before now after memory is p q =
+    inl (is ∙ ap number p, q)
 
-pub or_memory : {V S : Type 0} (Q : Type 0) (number : Result V Refusal → ℤ) (answer expected : Result V Refusal) (told : ℤ) (before now after : S)
+pub or_memory : {V S : Type 0} (Q : Type 0) (number : Result V Refusal → ℤ)
+    (answer expected : Result V Refusal) (told : ℤ) (before now after : S)
     → number (Err OutOfMemory) ≡ code_of OutOfMemory → told ≡ number answer
     → OrMemory answer (answer ≡ expected) Q → OrMemory answer (now ≡ after) (now ≡ before)
     → OrOutOfMemory told before now (number expected) after
-or_memory Q number (Ok value) expected told before now after memory is p q = inl (is ∙ ap number p, q)
+or_memory Q number (Ok value) expected told before now after memory is p q =
+    inl (is ∙ ap number p, q)
 or_memory Q number (Err refusal) expected told before now after memory is p q =
     unless_memory Q number refusal expected told before now after memory is p q
 
@@ -84,14 +127,19 @@ below NoWait = refl
 below TooManyAddresses = refl
 
 -- what is kept after a call that answers a length, where a refusal leaves all
-pub left_length : {S H : Type 0} (E : Type 0) (wrap : S → H) (answer : Result ℕ Refusal) (told : ℤ) (before now after : S) (handle : H)
-    → told ≡ length_answer answer → handle ≡ wrap now → OnOk answer (now ≡ after) → OnErr answer E → (E → now ≡ before)
+pub left_length : {S H : Type 0} (E : Type 0) (wrap : S → H) (answer : Result ℕ Refusal) (told : ℤ)
+    (before now after : S) (handle : H)
+    → told ≡ length_answer answer → handle ≡ wrap now → OnOk answer (now ≡ after) → OnErr answer E
+    → (E → now ≡ before)
     → handle ≡ wrap (left_by told before after)
 left_length E wrap (Ok n) told before now after handle is kept ok err same =
     kept ∙ ap wrap (ok ∙ sym (ap (λ z. left_by z before after) is
     ∙ ap (λ b. if b then before else after) (not_below (min n 9223372036854775807))))
 left_length E wrap (Err refusal) told before now after handle is kept ok err same =
-    kept ∙ ap wrap (same err ∙ sym (ap (λ z. left_by z before after) is ∙ ap (λ b. if b then before else after) (below refusal)))
+    kept ∙ ap wrap
+    (same err
+    ∙ sym (ap (λ z. left_by z before after) is
+    ∙ ap (λ b. if b then before else after) (below refusal)))
 
 -- a message that is not signed leaves the buffer
 unwritten : (refusal : Refusal) (signed : Result (List ℕ) Refusal) (before after : List ℕ)
@@ -102,40 +150,65 @@ unwritten refusal (Err other) before after is written = written
 unwritten_by : (refusal : Refusal) (signed : Result (List ℕ) Refusal) (before after : List ℕ)
     → ForRefusal refusal (Err refusal ≡ length_of signed) ⊤
     → ForRefusal refusal (after ≡ buffer_after signed before) (after ≡ before) → after ≡ before
-unwritten_by Truncated signed before after is written = unwritten Truncated signed before after is written
-unwritten_by NotStun signed before after is written = unwritten NotStun signed before after is written
-unwritten_by TooLarge signed before after is written = unwritten TooLarge signed before after is written
-unwritten_by IntegrityFailed signed before after is written = unwritten IntegrityFailed signed before after is written
-unwritten_by BadArgument signed before after is written = unwritten BadArgument signed before after is written
-unwritten_by NotText signed before after is written = unwritten NotText signed before after is written
-unwritten_by TextTooLong signed before after is written = unwritten TextTooLong signed before after is written
-unwritten_by BufferTooSmall signed before after is written = unwritten BufferTooSmall signed before after is written
-unwritten_by NotAllowed signed before after is written = unwritten NotAllowed signed before after is written
+unwritten_by Truncated signed before after is written =
+    unwritten Truncated signed before after is written
+unwritten_by NotStun signed before after is written =
+    unwritten NotStun signed before after is written
+unwritten_by TooLarge signed before after is written =
+    unwritten TooLarge signed before after is written
+unwritten_by IntegrityFailed signed before after is written =
+    unwritten IntegrityFailed signed before after is written
+unwritten_by BadArgument signed before after is written =
+    unwritten BadArgument signed before after is written
+unwritten_by NotText signed before after is written =
+    unwritten NotText signed before after is written
+unwritten_by TextTooLong signed before after is written =
+    unwritten TextTooLong signed before after is written
+unwritten_by BufferTooSmall signed before after is written =
+    unwritten BufferTooSmall signed before after is written
+unwritten_by NotAllowed signed before after is written =
+    unwritten NotAllowed signed before after is written
 unwritten_by Closed signed before after is written = unwritten Closed signed before after is written
-unwritten_by AttributeExists signed before after is written = unwritten AttributeExists signed before after is written
-unwritten_by MessageTooLong signed before after is written = unwritten MessageTooLong signed before after is written
-unwritten_by MissingAttribute signed before after is written = unwritten MissingAttribute signed before after is written
-unwritten_by MalformedAttribute signed before after is written = unwritten MalformedAttribute signed before after is written
+unwritten_by AttributeExists signed before after is written =
+    unwritten AttributeExists signed before after is written
+unwritten_by MessageTooLong signed before after is written =
+    unwritten MessageTooLong signed before after is written
+unwritten_by MissingAttribute signed before after is written =
+    unwritten MissingAttribute signed before after is written
+unwritten_by MalformedAttribute signed before after is written =
+    unwritten MalformedAttribute signed before after is written
 unwritten_by OutOfMemory signed before after is written = written
-unwritten_by EmptyHandle signed before after is written = unwritten EmptyHandle signed before after is written
-unwritten_by FullHandle signed before after is written = unwritten FullHandle signed before after is written
-unwritten_by AlreadyInProgress signed before after is written = unwritten AlreadyInProgress signed before after is written
-unwritten_by ProtocolViolation signed before after is written = unwritten ProtocolViolation signed before after is written
-unwritten_by Unauthorized signed before after is written = unwritten Unauthorized signed before after is written
-unwritten_by BadRequest signed before after is written = unwritten BadRequest signed before after is written
-unwritten_by StaleNonce signed before after is written = unwritten StaleNonce signed before after is written
-unwritten_by UnsupportedFeature signed before after is written = unwritten UnsupportedFeature signed before after is written
+unwritten_by EmptyHandle signed before after is written =
+    unwritten EmptyHandle signed before after is written
+unwritten_by FullHandle signed before after is written =
+    unwritten FullHandle signed before after is written
+unwritten_by AlreadyInProgress signed before after is written =
+    unwritten AlreadyInProgress signed before after is written
+unwritten_by ProtocolViolation signed before after is written =
+    unwritten ProtocolViolation signed before after is written
+unwritten_by Unauthorized signed before after is written =
+    unwritten Unauthorized signed before after is written
+unwritten_by BadRequest signed before after is written =
+    unwritten BadRequest signed before after is written
+unwritten_by StaleNonce signed before after is written =
+    unwritten StaleNonce signed before after is written
+unwritten_by UnsupportedFeature signed before after is written =
+    unwritten UnsupportedFeature signed before after is written
 unwritten_by NoWait signed before after is written = unwritten NoWait signed before after is written
-unwritten_by TooManyAddresses signed before after is written = unwritten TooManyAddresses signed before after is written
+unwritten_by TooManyAddresses signed before after is written =
+    unwritten TooManyAddresses signed before after is written
 
 -- what is in the buffer after a call that signs, where an allocation may fail
-pub left_buffer : (answer : Result ℕ Refusal) (signed : Result (List ℕ) Refusal) (told : ℤ) (before after : List ℕ)
+pub left_buffer : (answer : Result ℕ Refusal) (signed : Result (List ℕ) Refusal) (told : ℤ)
+    (before after : List ℕ)
     → told ≡ length_answer answer → OrMemory answer (answer ≡ length_of signed) ⊤
     → OrMemory answer (after ≡ buffer_after signed before) (after ≡ before)
     → after ≡ left_by told before (buffer_after signed before)
 left_buffer (Ok n) signed told before after told_is is written =
     written ∙ sym (ap (λ z. left_by z before (buffer_after signed before)) told_is
-    ∙ ap (λ b. if b then before else buffer_after signed before) (not_below (min n 9223372036854775807)))
+    ∙ ap (λ b. if b then before else buffer_after signed before)
+    (not_below (min n 9223372036854775807)))
 left_buffer (Err refusal) signed told before after told_is is written =
-    unwritten_by refusal signed before after is written ∙ sym (ap (λ z. left_by z before (buffer_after signed before)) told_is
+    unwritten_by refusal signed before after is written
+    ∙ sym (ap (λ z. left_by z before (buffer_after signed before)) told_is
     ∙ ap (λ b. if b then before else buffer_after signed before) (below refusal))

@@ -2,10 +2,22 @@
 use Rattle.std.proofs.Common.{◌≡◌, sym, subst}
 use Rattle.stun_auth.specs.ClientStep as client
 use Rattle.stun_auth.specs.Reasons.{ForReason}
-use Rattle.stun_auth.specs.declared.client.answer.LongTermClientAuthErrorReason.{LongTermClientAuthErrorReason}
-use Rattle.stun_auth.specs.declared.client.answer.LongTermClientAuthErrorReason.TheVariants as AtClient
-use Rattle.stun_auth.specs.declared.server.reason.LongTermServerAuthErrorReason.{LongTermServerAuthErrorReason}
-use Rattle.stun_auth.specs.declared.server.reason.LongTermServerAuthErrorReason.TheVariants.{Unauthorized, IntegrityFailed, UnsupportedFeature, BadRequest, StaleNonce, OutOfMemory}
+use Rattle.stun_auth.specs.declared.client.answer.LongTermClientAuthErrorReason.{
+  LongTermClientAuthErrorReason,
+}
+use Rattle.stun_auth.specs.declared.client.answer.LongTermClientAuthErrorReason.TheVariants
+    as AtClient
+use Rattle.stun_auth.specs.declared.server.reason.LongTermServerAuthErrorReason.{
+  LongTermServerAuthErrorReason,
+}
+use Rattle.stun_auth.specs.declared.server.reason.LongTermServerAuthErrorReason.TheVariants.{
+  Unauthorized,
+  IntegrityFailed,
+  UnsupportedFeature,
+  BadRequest,
+  StaleNonce,
+  OutOfMemory,
+}
 use Rattle.stun_state.specs.Answers.{ForRefusal}
 use Rattle.stun_state.specs.Codes.{refusal_of_client, refusal_of_server}
 use Rattle.stun_state.specs.declared.codes.Refusal.{Refusal}
@@ -20,8 +32,10 @@ server_cases BadRequest one other h = one h
 server_cases StaleNonce one other h = one h
 server_cases OutOfMemory one other h = other h
 
-pub server_refused : (reason : LongTermServerAuthErrorReason) (refusal : Refusal) {P Q : Type 0} (P' Q' : Refusal → Type 0)
-    → refusal ≡ refusal_of_server reason → (P → P' (refusal_of_server reason)) → (Q → Q' (refusal_of_server reason))
+pub server_refused : (reason : LongTermServerAuthErrorReason) (refusal : Refusal) {P Q : Type 0}
+    (P' Q' : Refusal → Type 0)
+    → refusal ≡ refusal_of_server reason → (P → P' (refusal_of_server reason))
+    → (Q → Q' (refusal_of_server reason))
     → ForReason reason P Q → ForRefusal refusal (P' refusal) (Q' refusal)
 server_refused reason refusal P' Q' is one other h =
     subst (λ r. ForRefusal r (P' r) (Q' r)) (sym is) (server_cases reason one other h)
@@ -33,8 +47,10 @@ client_cases AtClient.IntegrityFailed one other h = one h
 client_cases AtClient.UnsupportedFeature one other h = one h
 client_cases AtClient.OutOfMemory one other h = other h
 
-pub client_refused : (reason : LongTermClientAuthErrorReason) (refusal : Refusal) {P Q : Type 0} (P' Q' : Refusal → Type 0)
-    → refusal ≡ refusal_of_client reason → (P → P' (refusal_of_client reason)) → (Q → Q' (refusal_of_client reason))
+pub client_refused : (reason : LongTermClientAuthErrorReason) (refusal : Refusal) {P Q : Type 0}
+    (P' Q' : Refusal → Type 0)
+    → refusal ≡ refusal_of_client reason → (P → P' (refusal_of_client reason))
+    → (Q → Q' (refusal_of_client reason))
     → client.ForReason reason P Q → ForRefusal refusal (P' refusal) (Q' refusal)
 client_refused reason refusal P' Q' is one other h =
     subst (λ r. ForRefusal r (P' r) (Q' r)) (sym is) (client_cases reason one other h)

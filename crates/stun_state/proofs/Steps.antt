@@ -11,11 +11,16 @@ pub use mir.Raw.{raw as bare}
 pub use mir.MapTy.{inst_fn}
 pub use mir.Val.{Val, vbool, vint, vptr, vstruct, vcons, vnil, of_list}
 pub use types.Logic.{Logic, sem}
-pub use types.Kit.{Item, Goal, Seq, Step, step, ‵, raw, ◌⊛◌, some, later, given, at_ret, ◌$◌, ◌∵◌, !, qed, by, done, move, keep, drop, use0, use1, learn, split, split3, join, fsplit, fjoin, fjoin3, fpick, fpack, feq_i, feq_l, pick, await, rewrite, suffices}
+pub use types.Kit.{Item, Goal, Seq, Step, step, ‵, raw, ◌⊛◌, some, later, given}
+pub use types.Kit.{at_ret, ◌$◌, ◌∵◌, !, qed, by, done, move, keep, drop, use0}
+pub use types.Kit.{use1, learn, split, split3, join, fsplit, fjoin, fjoin3}
+pub use types.Kit.{fpick, fpack, feq_i, feq_l, pick, await, rewrite, suffices}
 pub use types.Match.{live}
 pub use types.Part.{agg, sub, whole}
-pub use types.Run.{enter, of_opd, lit, true_lit, false_lit, stop, fld, no_more, and_then, first, blocks, branches, skips, exec, returns, returns_within}
-pub use types.ByLocal.{alloc_all, pass_all, free_all, look_at, get, get_in, sets, lands_as, lands_last, env}
+pub use types.Run.{enter, of_opd, lit, true_lit, false_lit, stop, fld, no_more, and_then}
+pub use types.Run.{first, blocks, branches, skips, exec, returns, returns_within}
+pub use types.ByLocal.{alloc_all, pass_all, free_all, look_at, get}
+pub use types.ByLocal.{get_in, sets, lands_as, lands_last, env}
 pub use denote.Builtin.{bool}
 pub use denote.Exit.{yes, no}
 pub use denote.Memory.{lone}

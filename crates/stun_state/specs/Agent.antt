@@ -1,5 +1,7 @@
--- What the calls on an agent answer and leave, by the definitions of its library (RFC 8489, section 6.2).
-use Rattle.std.specs.Prelude.{ℕ, Bool, List, ◌++◌, length, drop, min, nat_lt, ◌==◌, ◌&&◌, ◌||◌, if◌then◌else◌, Option, Some, None, Result, Ok, Err}
+-- What the calls on an agent answer and leave, by the definitions of its library (RFC 8489, section
+-- 6.2).
+use Rattle.std.specs.Prelude.{ℕ, Bool, List, ◌++◌, length, drop, min, nat_lt, ◌==◌, ◌&&◌}
+use Rattle.std.specs.Prelude.{◌||◌, if◌then◌else◌, Option, Some, None, Result, Ok, Err}
 use Rattle.std.specs.Option.{option_map_or}
 use Rattle.std.specs.declared.net.socket_addr.SocketAddr.{SocketAddr}
 use Rattle.byteorder.specs.Endian.{big_bytes, big_number}
@@ -10,20 +12,25 @@ use Rattle.stun_agent.specs.Statistics as counts
 use Rattle.stun_agent.specs.Timing.{Settings}
 use Rattle.stun_agent.specs.Transactions.{Transaction, at, changed, configured}
 use Rattle.stun_agent.specs.declared.agent.StunAgentPollRet.{StunAgentPollRet}
-use Rattle.stun_agent.specs.declared.agent.StunAgentPollRet.TheVariants.{TransactionTimedOut, TransactionCancelled, WaitUntil}
+use Rattle.stun_agent.specs.declared.agent.StunAgentPollRet.TheVariants.{TransactionTimedOut}
+use Rattle.stun_agent.specs.declared.agent.StunAgentPollRet.TheVariants.{TransactionCancelled}
+use Rattle.stun_agent.specs.declared.agent.StunAgentPollRet.TheVariants.{WaitUntil}
 use Rattle.stun_agent.specs.declared.error.StunError.{StunError}
 use Rattle.stun_agent.specs.declared.error.StunError.TheVariants as Error
 use Rattle.stun_base.specs.declared.wire.transport.TransportType.{TransportType}
 use Rattle.stun_base.specs.declared.wire.transport.TransportType.TheVariants.{Udp, Tcp}
 use Rattle.stun_types.specs.Message.{refusal}
 use Rattle.stun_state.specs.Addresses.{address_of, socket_address}
-use Rattle.stun_state.specs.Answers.{after_address, kept_if_refused, message_refusal, unless_refused}
+use Rattle.stun_state.specs.Answers.{after_address, kept_if_refused}
+use Rattle.stun_state.specs.Answers.{message_refusal, unless_refused}
 use Rattle.stun_state.specs.Codes.{refusal_of_parse}
 use Rattle.stun_state.specs.declared.address.Address.{Address}
 use Rattle.stun_state.specs.declared.agent.Statistics.{Statistics}
 use Rattle.stun_state.specs.declared.agent.Timeouts.{Timeouts}
 use Rattle.stun_state.specs.declared.codes.Refusal.{Refusal}
-use Rattle.stun_state.specs.declared.codes.Refusal.TheVariants.{AlreadyInProgress, BadArgument, BufferTooSmall, NoWait, ProtocolViolation, OutOfMemory}
+use Rattle.stun_state.specs.declared.codes.Refusal.TheVariants.{AlreadyInProgress, BadArgument}
+use Rattle.stun_state.specs.declared.codes.Refusal.TheVariants.{BufferTooSmall, NoWait}
+use Rattle.stun_state.specs.declared.codes.Refusal.TheVariants.{ProtocolViolation, OutOfMemory}
 
 -- the refusal for an agent's error. An agent answers none of the last four
 abbrev pub refusal_of_agent : StunError → Refusal
@@ -44,7 +51,8 @@ transport_numbered number = if number == 0 then Some Udp else if number == 1 the
 
 -- an agent that counts
 abbrev pub counting_agent : TransportType → SocketAddr → Agent
-counting_agent transport local = record (agent.new_agent transport local) { statistics = Some counts.new_statistics }
+counting_agent transport local =
+    record (agent.new_agent transport local) { statistics = Some counts.new_statistics }
 
 -- an agent of a transport at an address, where both are given
 abbrev pub made : Option TransportType → Option SocketAddr → Result Agent Refusal
@@ -53,10 +61,16 @@ made (Some transport) None = Err BadArgument
 made (Some transport) (Some local) = Ok (counting_agent transport local)
 
 abbrev pub settings_of : Timeouts → Settings
-settings_of t = record { initial = t.initial; maximum = t.longest; transmissions = t.transmissions; last_wait = t.last }
+settings_of t =
+    record {
+      initial = t.initial;
+      maximum = t.longest;
+      transmissions = t.transmissions;
+      last_wait = t.last;
+    }
 
--- whether a request with these time-outs is sent again without a wait, so that all its transmissions come at one moment: there is
--- more than one, and the first wait or the longest is 0
+-- whether a request with these time-outs is sent again without a wait, so that all its
+-- transmissions come at one moment: there is more than one, and the first wait or the longest is 0
 abbrev pub has_no_wait : Timeouts → Bool
 has_no_wait t = nat_lt 1 t.transmissions && ((t.initial == 0) || (t.longest == 0))
 
@@ -104,23 +118,31 @@ done_unless (Some error) = Err (refusal_of_agent error)
 
 -- what is answered to a request for an address
 abbrev pub requested : Agent → List ℕ → SocketAddr → Result (Unit {0}) Refusal
-requested a bytes to = unless_refused (message_refusal (refusal bytes)) (done_unless (agent.request_refusal a bytes to))
+requested a bytes to =
+    unless_refused (message_refusal (refusal bytes))
+    (done_unless (agent.request_refusal a bytes to))
 
 -- what is answered to a response or an indication for an address
 abbrev pub sent : Agent → List ℕ → SocketAddr → Result (Unit {0}) Refusal
-sent a bytes to = unless_refused (message_refusal (refusal bytes)) (done_unless (agent.sending_refusal a bytes to))
+sent a bytes to =
+    unless_refused (message_refusal (refusal bytes))
+    (done_unless (agent.sending_refusal a bytes to))
 
 -- what is answered to bytes that came from an address: 1 where they are taken
 abbrev pub handled : Agent → List ℕ → SocketAddr → Result ℕ Refusal
 handled a bytes from =
-    unless_refused (message_refusal (refusal bytes)) (Ok (if agent.takes_message bytes from a then 1 else 0))
+    unless_refused (message_refusal (refusal bytes))
+    (Ok (if agent.takes_message bytes from a then 1 else 0))
 
--- the agent that is kept once a request is taken, or a message, with its address as a caller gives it
+-- the agent that is kept once a request is taken, or a message, with its address as a caller gives
+-- it
 abbrev pub kept_after_request : Agent → List ℕ → Address → ℕ → Agent
-kept_after_request a bytes to now = after_address (socket_address to) a (λ to. agent.after_send_request a bytes to now)
+kept_after_request a bytes to now =
+    after_address (socket_address to) a (λ to. agent.after_send_request a bytes to now)
 
 abbrev pub kept_after_message : Agent → List ℕ → Address → ℕ → Agent
-kept_after_message a bytes from now = after_address (socket_address from) a (λ from. agent.after_message (Some now) bytes from a)
+kept_after_message a bytes from now =
+    after_address (socket_address from) a (λ from. agent.after_message (Some now) bytes from a)
 
 -- ---- addresses
 
@@ -130,7 +152,8 @@ known a peer = Ok (if is_peer peer a.peers then 1 else 0)
 
 -- the agent once an address is named, as a caller gives it
 abbrev pub kept_after_naming : Agent → Address → Agent
-kept_after_naming a peer = after_address (socket_address peer) a (λ peer. agent.with_validated peer a)
+kept_after_naming a peer =
+    after_address (socket_address peer) a (λ peer. agent.with_validated peer a)
 
 -- the same once it is forgotten
 abbrev pub kept_after_forgetting : Agent → Address → Agent
@@ -163,7 +186,8 @@ id_told (TransactionCancelled id) buffer = big_bytes 12 id ++ drop 12 buffer
 -- how many bytes are sent again, for a buffer of so many
 abbrev pub sent_again : ℕ → Option (ℕ × Transaction) → Result ℕ Refusal
 sent_again room None = Ok 0
-sent_again room (Some e) = if nat_lt room (length e.1.bytes) then Err BufferTooSmall else Ok (length e.1.bytes)
+sent_again room (Some e) =
+    if nat_lt room (length e.1.bytes) then Err BufferTooSmall else Ok (length e.1.bytes)
 
 -- the buffer with them at its front
 abbrev pub bytes_told : Option (ℕ × Transaction) → List ℕ → List ℕ

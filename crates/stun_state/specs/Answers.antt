@@ -1,11 +1,24 @@
--- What the calls on authenticators share: where an allocation may fail, an address that may be none, and texts.
+-- What the calls on authenticators share: where an allocation may fail, an address that may be
+-- none, and texts.
 use Rattle.std.specs.Prelude.{ℕ, List, ◌&&◌, if◌then◌else◌, Option, Some, None, Result, Ok, Err}
 use Rattle.std.specs.Str.{is_utf8}
 use Rattle.std.specs.declared.net.socket_addr.SocketAddr.{SocketAddr}
 use Rattle.stun_base.specs.declared.wire.error.StunParseError.{StunParseError}
 use Rattle.stun_state.specs.Codes.{refusal_of_parse}
 use Rattle.stun_state.specs.declared.codes.Refusal.{Refusal}
-use Rattle.stun_state.specs.declared.codes.Refusal.TheVariants.{Truncated, NotStun, TooLarge, IntegrityFailed, BadArgument, NotText, TextTooLong, BufferTooSmall, NotAllowed, Closed, AttributeExists, MessageTooLong, MissingAttribute, MalformedAttribute, OutOfMemory, EmptyHandle, FullHandle, AlreadyInProgress, ProtocolViolation, Unauthorized, BadRequest, StaleNonce, UnsupportedFeature, NoWait, TooManyAddresses}
+use Rattle.stun_state.specs.declared.codes.Refusal.TheVariants.{Truncated, NotStun, TooLarge}
+use Rattle.stun_state.specs.declared.codes.Refusal.TheVariants.{IntegrityFailed, BadArgument}
+use Rattle.stun_state.specs.declared.codes.Refusal.TheVariants.{NotText, TextTooLong}
+use Rattle.stun_state.specs.declared.codes.Refusal.TheVariants.{BufferTooSmall, NotAllowed}
+use Rattle.stun_state.specs.declared.codes.Refusal.TheVariants.{Closed, AttributeExists}
+use Rattle.stun_state.specs.declared.codes.Refusal.TheVariants.{MessageTooLong, MissingAttribute}
+use Rattle.stun_state.specs.declared.codes.Refusal.TheVariants.{MalformedAttribute, OutOfMemory}
+use Rattle.stun_state.specs.declared.codes.Refusal.TheVariants.{EmptyHandle, FullHandle}
+use Rattle.stun_state.specs.declared.codes.Refusal.TheVariants.{AlreadyInProgress}
+use Rattle.stun_state.specs.declared.codes.Refusal.TheVariants.{ProtocolViolation, Unauthorized}
+use Rattle.stun_state.specs.declared.codes.Refusal.TheVariants.{BadRequest, StaleNonce}
+use Rattle.stun_state.specs.declared.codes.Refusal.TheVariants.{UnsupportedFeature, NoWait}
+use Rattle.stun_state.specs.declared.codes.Refusal.TheVariants.{TooManyAddresses}
 
 -- the first fact holds, or the second where the refusal is that an allocation failed
 abbrev pub ForRefusal : Refusal → Type 0 → Type 0 → Type 0
@@ -51,7 +64,8 @@ kept_if_refused None before after = after
 kept_if_refused (Some refusal) before after = before
 
 -- an answer about an address, unless what was given is none
-abbrev pub at_address : {V : Type 0} → Option SocketAddr → (SocketAddr → Result V Refusal) → Result V Refusal
+abbrev pub at_address : {V : Type 0} → Option SocketAddr → (SocketAddr → Result V Refusal)
+    → Result V Refusal
 at_address None answer = Err BadArgument
 at_address (Some address) answer = answer address
 
@@ -61,7 +75,8 @@ after_address None before after = before
 after_address (Some address) before after = after address
 
 -- the same of where a walk begins
-abbrev pub at_start : {V : Type 0} → Option (Option SocketAddr) → (Option SocketAddr → Result V Refusal) → Result V Refusal
+abbrev pub at_start : {V : Type 0} → Option (Option SocketAddr)
+    → (Option SocketAddr → Result V Refusal) → Result V Refusal
 at_start None answer = Err BadArgument
 at_start (Some start) answer = answer start
 

@@ -1,8 +1,11 @@
--- What the calls on a client answer and leave, by the definitions of its authenticator (RFC 8489, section 9.2).
+-- What the calls on a client answer and leave, by the definitions of its authenticator (RFC 8489,
+-- section 9.2).
 use Rattle.std.specs.Prelude.{ℕ, List, Option, Some, None, Result, Ok, Err}
 use Rattle.stun_types.specs.Message.{refusal}
 use Rattle.stun_auth.specs.declared.algorithm_set.AlgorithmSet.{AlgorithmSet}
-use Rattle.stun_auth.specs.declared.client.answer.LongTermClientValidation.{LongTermClientValidation}
+use Rattle.stun_auth.specs.declared.client.answer.LongTermClientValidation.{
+  LongTermClientValidation,
+}
 use Rattle.stun_auth.specs.declared.feature.Feature.{Feature}
 use Rattle.stun_auth.specs.Algorithms.{listed}
 use Rattle.stun_auth.specs.Client.{ClientSide}
@@ -23,7 +26,11 @@ with_feature (Some feature) c = record c { settings = record c.settings { featur
 
 abbrev pub with_credentials : List ℕ → List ℕ → ClientSide → ClientSide
 with_credentials name password c =
-    record c { settings = record c.settings { credentials = Some (record { username = name; password = password }) } }
+    record c {
+      settings =
+          record c.settings
+          { credentials = Some (record { username = name; password = password }) };
+    }
 
 -- what a message comes to
 abbrev pub step : ClientSide → List ℕ → ClientStep
@@ -35,8 +42,10 @@ validation_answer (Err reason) = Err (refusal_of_client reason)
 
 -- what is answered to bytes
 abbrev pub validated : ClientSide → List ℕ → Result LongTermClientValidation Refusal
-validated c bytes = unless_refused (message_refusal (refusal bytes)) (validation_answer (step c bytes).answer)
+validated c bytes =
+    unless_refused (message_refusal (refusal bytes)) (validation_answer (step c bytes).answer)
 
 -- the client that they leave
 abbrev pub after_validating : ClientSide → List ℕ → ClientSide
-after_validating c bytes = kept_if_refused (message_refusal (refusal bytes)) c (record c { state = (step c bytes).state })
+after_validating c bytes =
+    kept_if_refused (message_refusal (refusal bytes)) c (record c { state = (step c bytes).state })

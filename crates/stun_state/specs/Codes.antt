@@ -1,13 +1,20 @@
 -- The numbers that callers get and give, as include/stunp.h and include/stunp_state.h have them.
 use Rattle.std.specs.Prelude.{Bool, ℕ, ℤ, pos, neg_ℤ, Option, Some, None, ◌==◌, if◌then◌else◌}
 use Rattle.stun_auth.specs.declared.algorithm_set.AlgorithmSet.{AlgorithmSet}
-use Rattle.stun_auth.specs.declared.algorithm_set.AlgorithmSet.TheVariants.{OnlySha1, OnlySha256, Both}
-use Rattle.stun_auth.specs.declared.client.answer.LongTermClientAuthErrorReason.{LongTermClientAuthErrorReason}
-use Rattle.stun_auth.specs.declared.client.answer.LongTermClientAuthErrorReason.TheVariants as AtClient
+use Rattle.stun_auth.specs.declared.algorithm_set.AlgorithmSet.TheVariants.{OnlySha1}
+use Rattle.stun_auth.specs.declared.algorithm_set.AlgorithmSet.TheVariants.{OnlySha256, Both}
+use Rattle.stun_auth.specs.declared.client.answer.LongTermClientAuthErrorReason.{
+  LongTermClientAuthErrorReason,
+}
+use Rattle.stun_auth.specs.declared.client.answer.LongTermClientAuthErrorReason.TheVariants
+    as AtClient
 use Rattle.stun_auth.specs.declared.feature.Feature.{Feature}
 use Rattle.stun_auth.specs.declared.feature.Feature.TheVariants.{Auto, Required, Disabled}
-use Rattle.stun_auth.specs.declared.server.reason.LongTermServerAuthErrorReason.{LongTermServerAuthErrorReason}
-use Rattle.stun_auth.specs.declared.server.reason.LongTermServerAuthErrorReason.TheVariants as AtServer
+use Rattle.stun_auth.specs.declared.server.reason.LongTermServerAuthErrorReason.{
+  LongTermServerAuthErrorReason,
+}
+use Rattle.stun_auth.specs.declared.server.reason.LongTermServerAuthErrorReason.TheVariants
+    as AtServer
 use Rattle.stun_base.specs.declared.keys.algorithm.IntegrityAlgorithm.{IntegrityAlgorithm}
 use Rattle.stun_base.specs.declared.keys.algorithm.IntegrityAlgorithm.TheVariants.{Sha1, Sha256}
 use Rattle.stun_base.specs.declared.wire.error.StunParseError.{StunParseError}
@@ -15,7 +22,19 @@ use Rattle.stun_base.specs.declared.wire.error.StunParseError.TheVariants as Par
 use Rattle.stun_base.specs.declared.wire.error.StunWriteError.{StunWriteError}
 use Rattle.stun_base.specs.declared.wire.error.StunWriteError.TheVariants as Write
 use Rattle.stun_state.specs.declared.codes.Refusal.{Refusal}
-use Rattle.stun_state.specs.declared.codes.Refusal.TheVariants.{Truncated, NotStun, TooLarge, IntegrityFailed, BadArgument, NotText, TextTooLong, BufferTooSmall, NotAllowed, Closed, AttributeExists, MessageTooLong, MissingAttribute, MalformedAttribute, OutOfMemory, EmptyHandle, FullHandle, AlreadyInProgress, ProtocolViolation, Unauthorized, BadRequest, StaleNonce, UnsupportedFeature, NoWait, TooManyAddresses}
+use Rattle.stun_state.specs.declared.codes.Refusal.TheVariants.{Truncated, NotStun, TooLarge}
+use Rattle.stun_state.specs.declared.codes.Refusal.TheVariants.{IntegrityFailed, BadArgument}
+use Rattle.stun_state.specs.declared.codes.Refusal.TheVariants.{NotText, TextTooLong}
+use Rattle.stun_state.specs.declared.codes.Refusal.TheVariants.{BufferTooSmall, NotAllowed}
+use Rattle.stun_state.specs.declared.codes.Refusal.TheVariants.{Closed, AttributeExists}
+use Rattle.stun_state.specs.declared.codes.Refusal.TheVariants.{MessageTooLong, MissingAttribute}
+use Rattle.stun_state.specs.declared.codes.Refusal.TheVariants.{MalformedAttribute, OutOfMemory}
+use Rattle.stun_state.specs.declared.codes.Refusal.TheVariants.{EmptyHandle, FullHandle}
+use Rattle.stun_state.specs.declared.codes.Refusal.TheVariants.{AlreadyInProgress}
+use Rattle.stun_state.specs.declared.codes.Refusal.TheVariants.{ProtocolViolation, Unauthorized}
+use Rattle.stun_state.specs.declared.codes.Refusal.TheVariants.{BadRequest, StaleNonce}
+use Rattle.stun_state.specs.declared.codes.Refusal.TheVariants.{UnsupportedFeature, NoWait}
+use Rattle.stun_state.specs.declared.codes.Refusal.TheVariants.{TooManyAddresses}
 
 -- the number of a refusal
 abbrev pub code_of : Refusal → ℤ
@@ -53,7 +72,8 @@ refusal_of_parse Parse.TooLarge = TooLarge
 refusal_of_parse (Parse.MissingAttribute _) = MissingAttribute
 refusal_of_parse Parse.InvalidAttributeData = MalformedAttribute
 
--- the refusal for an error of writing: what is too large is the message, where that is too long, and else a text
+-- the refusal for an error of writing: what is too large is the message, where that is too long,
+-- and else a text
 abbrev pub refusal_of_write : Bool → StunWriteError → Refusal
 refusal_of_write long Write.NotAllowed = NotAllowed
 refusal_of_write long Write.MessageIntegrityExists = Closed
@@ -92,9 +112,11 @@ algorithm_or_none (Some algorithm) = algorithm_number algorithm
 -- the algorithms of a number whose bits are theirs
 abbrev pub algorithms_numbered : ℕ → Option AlgorithmSet
 algorithms_numbered number =
-    if number == 1 then Some OnlySha1 else if number == 2 then Some OnlySha256 else if number == 3 then Some Both else None
+    if number == 1 then Some OnlySha1 else if number == 2 then Some OnlySha256 else if number == 3
+    then Some Both else None
 
 -- the feature of a number, if it has one
 abbrev pub feature_numbered : ℕ → Option Feature
 feature_numbered number =
-    if number == 0 then Some Auto else if number == 1 then Some Required else if number == 2 then Some Disabled else None
+    if number == 0 then Some Auto else if number == 1 then Some Required else if number == 2
+    then Some Disabled else None

@@ -1,6 +1,7 @@
 -- A verdict in two steps: whom a message names, and what the server answers that has just the user
 -- whom its caller hands in (RFC 8489, section 9.2.4).
-use Rattle.std.specs.Prelude.{ℕ, ℤ, ◌==◌, if◌then◌else◌, List, length, Option, Some, None, Result, Ok, Err}
+use Rattle.std.specs.Prelude.{ℕ, ℤ, ◌==◌, if◌then◌else◌, List, length}
+use Rattle.std.specs.Prelude.{Option, Some, None, Result, Ok, Err}
 use Rattle.std.specs.declared.net.socket_addr.SocketAddr.{SocketAddr}
 use Rattle.stun_base.specs.declared.keys.algorithm.IntegrityAlgorithm.{IntegrityAlgorithm}
 use Rattle.stun_types.specs.Message.{refusal}
@@ -10,7 +11,8 @@ use Rattle.stun_auth.specs.Registered.{Registered, RegisteredUser, user_by_keys,
 use Rattle.stun_auth.specs.declared.server.stored_keys.StoredKeys.{StoredKeys}
 use Rattle.stun_auth.specs.Validation.{ServerSeen, after_message, answer, sight}
 use Rattle.stun_state.specs.Addresses.{socket_address}
-use Rattle.stun_state.specs.Answers.{after_address, at_address, kept_if_refused, message_refusal, text_refusal, texts_refusal, unless_refused}
+use Rattle.stun_state.specs.Answers.{after_address, at_address, kept_if_refused, message_refusal}
+use Rattle.stun_state.specs.Answers.{text_refusal, texts_refusal, unless_refused}
 use Rattle.stun_state.specs.Numbers.{algorithm_answer}
 use Rattle.stun_state.specs.Server.{room_refusal, validation_answer}
 use Rattle.stun_state.specs.Signing.{buffer_after, fitted, kept_after_signing, signed_for}

@@ -1,5 +1,7 @@
--- Which calls keep nothing more, so that no failed allocation is answered; and which may keep something, so that one may be.
-use Rattle.std.specs.Prelude.{◌≡◌, ⊤, ◌||◌, not, is_some, Bool, true, ℕ, List, Option, Some, None, MatchOption, Ok}
+-- Which calls keep nothing more, so that no failed allocation is answered; and which may keep
+-- something, so that one may be.
+use Rattle.std.specs.Prelude.{◌≡◌, ⊤, ◌||◌, not, is_some, Bool, true, ℕ}
+use Rattle.std.specs.Prelude.{List, Option, Some, None, MatchOption, Ok}
 use Rattle.std.specs.declared.net.socket_addr.SocketAddr.{SocketAddr}
 use Rattle.stun_agent.specs.Agent.{Agent, takes_message}
 use Rattle.stun_agent.specs.Peers.{is_peer}
@@ -19,10 +21,12 @@ abbrev pub naming_adds_none : Agent → Option SocketAddr → Bool
 naming_adds_none a None = true
 naming_adds_none a (Some peer) = is_peer peer a.peers
 
--- whether bytes add no address to them: they come from none, are no message, come from one that is kept, or are not taken
+-- whether bytes add no address to them: they come from none, are no message, come from one that is
+-- kept, or are not taken
 abbrev pub message_adds_none : Agent → List ℕ → Option SocketAddr → Bool
 message_adds_none a bytes None = true
-message_adds_none a bytes (Some from) = is_some (refusal bytes) || (is_peer from a.peers || not (takes_message bytes from a))
+message_adds_none a bytes (Some from) =
+    is_some (refusal bytes) || (is_peer from a.peers || not (takes_message bytes from a))
 
 -- bytes change nothing of a server: they come from no address, are no message, come from one too
 -- many, or change nothing at their address

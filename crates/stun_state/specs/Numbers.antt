@@ -1,6 +1,9 @@
 -- The numbers that calls answer.
-use Rattle.std.specs.Prelude.{◌≡◌, ◌⊎◌, ◌+◌, ◌&&◌, not, Bool, ℕ, ℤ, pos, int_lt, min, if◌then◌else◌, Option, Some, None, Result, Ok, Err}
-use Rattle.stun_auth.specs.declared.client.answer.LongTermClientValidation.{LongTermClientValidation}
+use Rattle.std.specs.Prelude.{◌≡◌, ◌⊎◌, ◌+◌, ◌&&◌, not, Bool, ℕ, ℤ, pos, int_lt, min}
+use Rattle.std.specs.Prelude.{if◌then◌else◌, Option, Some, None, Result, Ok, Err}
+use Rattle.stun_auth.specs.declared.client.answer.LongTermClientValidation.{
+  LongTermClientValidation,
+}
 use Rattle.stun_auth.specs.declared.client.answer.LongTermClientValidation.TheVariants as Reading
 use Rattle.stun_base.specs.declared.keys.algorithm.IntegrityAlgorithm.{IntegrityAlgorithm}
 use Rattle.stun_base.specs.declared.keys.algorithm.IntegrityAlgorithm.TheVariants.{Sha256}
@@ -28,7 +31,8 @@ abbrev pub algorithm_answer : Result IntegrityAlgorithm Refusal → ℤ
 algorithm_answer (Ok algorithm) = pos (algorithm_number algorithm)
 algorithm_answer (Err refusal) = code_of refusal
 
--- another request is asked for: 3 by a message that does not verify, and 3 more than the number of the algorithm by which it does
+-- another request is asked for: 3 by a message that does not verify, and 3 more than the number of
+-- the algorithm by which it does
 abbrev pub resend_number : Option IntegrityAlgorithm → ℕ
 resend_number None = 3
 resend_number (Some algorithm) = 3 + algorithm_number algorithm
@@ -51,8 +55,8 @@ is_resend_answer answer =
     not (int_lt answer (pos (resend_number None)))
     && not (int_lt (pos (resend_number (Some Sha256))) answer)
 
--- a call answers this number and leaves this in its handle; or an allocation failed: it answers the number of that, and the
--- handle is as before
+-- a call answers this number and leaves this in its handle; or an allocation failed: it answers the
+-- number of that, and the handle is as before
 abbrev pub OrOutOfMemory : {S : Type 0} → ℤ → S → S → ℤ → S → Type 0
 OrOutOfMemory result before now number after =
     ((result ≡ number) × (now ≡ after)) ⊎ ((result ≡ code_of OutOfMemory) × (now ≡ before))

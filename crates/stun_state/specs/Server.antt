@@ -1,5 +1,7 @@
--- What the calls on a server answer and leave, by the definitions of its authenticator (RFC 8489, section 9.2.4).
-use Rattle.std.specs.Prelude.{ℕ, ℤ, List, ◌++◌, length, drop, max, nat_lt, ◌||◌, if◌then◌else◌, is_some, Option, Some, None, Result, Ok, Err, option_and_then}
+-- What the calls on a server answer and leave, by the definitions of its authenticator (RFC 8489,
+-- section 9.2.4).
+use Rattle.std.specs.Prelude.{ℕ, ℤ, List, ◌++◌, length, drop, max, nat_lt, ◌||◌, if◌then◌else◌}
+use Rattle.std.specs.Prelude.{is_some, Option, Some, None, Result, Ok, Err, option_and_then}
 use Rattle.std.specs.FinMap as map
 use Rattle.std.specs.Option.{option_map}
 use Rattle.std.specs.declared.net.socket_addr.SocketAddr.{SocketAddr}
@@ -16,7 +18,8 @@ use Rattle.stun_auth.specs.Registered.{without_user}
 use Rattle.stun_auth.specs.Seen.{ClientSeen, PlaceSeen}
 use Rattle.stun_auth.specs.Validation.{Answer, ServerSeen, after_message, answer, sight}
 use Rattle.stun_state.specs.Addresses.{socket_address}
-use Rattle.stun_state.specs.Answers.{after_address, at_address, kept_if_refused, message_refusal, unless_refused}
+use Rattle.stun_state.specs.Answers.{after_address, at_address, kept_if_refused}
+use Rattle.stun_state.specs.Answers.{message_refusal, unless_refused}
 use Rattle.stun_state.specs.Codes.{refusal_of_server}
 use Rattle.stun_state.specs.Numbers.{algorithm_answer}
 use Rattle.stun_state.specs.declared.address.Address.{Address}
@@ -43,12 +46,14 @@ abbrev pub with_expiry : ℕ → ServerSeen → ServerSeen
 with_expiry nanoseconds s = record s { expiry = max nanoseconds MINIMUM_EXPIRY }
 
 abbrev pub without_named : Option Refusal → ServerSeen → List ℕ → ServerSeen
-without_named refusal s name = kept_if_refused refusal s (record s { registered = without_user s.registered name })
+without_named refusal s name =
+    kept_if_refused refusal s (record s { registered = without_user s.registered name })
 
 abbrev pub without_client : ServerSeen → SocketAddr → ServerSeen
 without_client s address = record s { places = with_change s.places address (with_client None) }
 
--- what a step of forgetting answers that looks at so many addresses: 1 where another goes on, and 0 at the end
+-- what a step of forgetting answers that looks at so many addresses: 1 where another goes on, and 0
+-- at the end
 abbrev pub step_answer : ServerSeen → ℕ → Option SocketAddr → Result ℕ Refusal
 step_answer s most from = Ok (if is_some (next_address s from most) then 1 else 0)
 
@@ -109,7 +114,8 @@ name_length_of (Some c) before = length c.name
 
 -- the buffer with a text at its front, where it has room for it
 abbrev pub with_text : List ℕ → List ℕ → List ℕ
-with_text buffer text = if nat_lt (length buffer) (length text) then buffer else text ++ drop (length text) buffer
+with_text buffer text =
+    if nat_lt (length buffer) (length text) then buffer else text ++ drop (length text) buffer
 
 -- the buffer with the name at its front
 abbrev pub name_written : List ℕ → Option ClientSeen → List ℕ
@@ -118,14 +124,16 @@ name_written buffer (Some c) = with_text buffer c.name
 
 -- the same at an address as a caller gives it
 abbrev pub client_found : ServerSeen → Address → ℕ → Result (Option IntegrityAlgorithm) Refusal
-client_found s address room = at_address (socket_address address) (λ a. client_told room (client_at s a))
+client_found s address room =
+    at_address (socket_address address) (λ a. client_told room (client_at s a))
 
 -- ---- nonces
 
 -- how long it is, or 0 of none, where a buffer of so many bytes has room for it
 abbrev pub nonce_told : ℕ → Option (List ℕ) → Result ℕ Refusal
 nonce_told room None = Ok 0
-nonce_told room (Some nonce) = if nat_lt room (length nonce) then Err BufferTooSmall else Ok (length nonce)
+nonce_told room (Some nonce) =
+    if nat_lt room (length nonce) then Err BufferTooSmall else Ok (length nonce)
 
 -- the buffer with it at its front
 abbrev pub nonce_written : List ℕ → Option (List ℕ) → List ℕ
@@ -134,4 +142,5 @@ nonce_written buffer (Some nonce) = with_text buffer nonce
 
 -- the same at an address as a caller gives it
 abbrev pub nonce_found : ServerSeen → Address → ℕ → Result ℕ Refusal
-nonce_found s address room = at_address (socket_address address) (λ a. nonce_told room (nonce_at s a))
+nonce_found s address room =
+    at_address (socket_address address) (λ a. nonce_told room (nonce_at s a))

@@ -1,5 +1,6 @@
 -- What signing makes of a message in a caller's buffer: bytes, or the first refusal.
-use Rattle.std.specs.Prelude.{ℕ, ◌+◌, ◌-◌, Bool, true, List, ◌++◌, length, take, drop, find, nat_lt, if◌then◌else◌, is_some, Option, Some, None, Result, Ok, Err}
+use Rattle.std.specs.Prelude.{ℕ, ◌+◌, ◌-◌, Bool, true, List, ◌++◌, length, take, drop, find}
+use Rattle.std.specs.Prelude.{nat_lt, if◌then◌else◌, is_some, Option, Some, None, Result, Ok, Err}
 use Rattle.std.specs.Option.{option_or}
 use Rattle.std.specs.declared.net.socket_addr.SocketAddr.{SocketAddr}
 use Rattle.stun_base.specs.Header.{HEADER_LENGTH}
@@ -21,7 +22,8 @@ use Rattle.stun_state.specs.declared.address.Address.{Address}
 use Rattle.stun_state.specs.declared.codes.Refusal.{Refusal}
 use Rattle.stun_state.specs.declared.codes.Refusal.TheVariants.{BadArgument, BufferTooSmall, Closed}
 
--- whether a message has an attribute after which no other may be added (RFC 8489, sections 14.5 to 14.7)
+-- whether a message has an attribute after which no other may be added (RFC 8489, sections 14.5 to
+-- 14.7)
 abbrev pub is_closed : List ℕ → Bool
 is_closed message = is_some (find (λ m. is_set_apart m.1.kind) (visible message))
 
@@ -58,18 +60,21 @@ buffer_after (Err refusal) buffer = buffer
 
 -- ---- the server
 
--- a message to an address, signed, for a buffer with so much room: how much is added is known before
+-- a message to an address, signed, for a buffer with so much room: how much is added is known
+-- before
 abbrev pub server_signs : ServerSeen → List ℕ → ℕ → SocketAddr → Result (List ℕ) Refusal
 server_signs s message room to =
     let response = is_response (class_in message) in
     let more = server_growth (sight s to) response in
     if nat_lt room (length message + more) then Err BufferTooSmall
-    else message_of (is_too_long message more) (server_signed (sight s to) response (page_of message))
+    else message_of (is_too_long message more)
+    (server_signed (sight s to) response (page_of message))
 
 -- the same with the message in the first bytes of the buffer
 abbrev pub signed_by_server : ServerSeen → List ℕ → ℕ → SocketAddr → Result (List ℕ) Refusal
 signed_by_server s buffer count to =
-    unless_refused (base_refusal buffer count) (server_signs s (take count buffer) (length buffer) to)
+    unless_refused (base_refusal buffer count)
+    (server_signs s (take count buffer) (length buffer) to)
 
 -- the same with the address as a caller gives it, and the server that is kept once it is signed
 abbrev pub signed_for : ServerSeen → List ℕ → ℕ → Address → Result (List ℕ) Refusal
@@ -77,7 +82,8 @@ signed_for s buffer count to = at_address (socket_address to) (signed_by_server 
 
 abbrev pub kept_after_signing : ServerSeen → List ℕ → ℕ → Address → ServerSeen
 kept_after_signing s buffer count to =
-    after_address (socket_address to) s (λ to. after_signing s to (is_response (class_in (take count buffer))))
+    after_address (socket_address to) s
+    (λ to. after_signing s to (is_response (class_in (take count buffer))))
 
 -- ---- the client
 
@@ -90,4 +96,5 @@ client_signs state message =
 -- the same in its buffer
 abbrev pub signed_by_client : ClientState → List ℕ → ℕ → Result (List ℕ) Refusal
 signed_by_client state buffer count =
-    unless_refused (base_refusal buffer count) (fitted (client_signs state (take count buffer)) (length buffer))
+    unless_refused (base_refusal buffer count)
+    (fitted (client_signs state (take count buffer)) (length buffer))

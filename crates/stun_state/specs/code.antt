@@ -1,5 +1,5 @@
--- Definitions that no clause of a public call says: what private functions and representations alone cite.
--- what a handle owns
+-- Definitions that no clause of a public call says: what private functions and representations
+-- alone cite. what a handle owns
 pub mod Handle
 -- how much of its memory a message has taken
 pub mod Desk

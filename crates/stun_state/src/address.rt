@@ -1,7 +1,8 @@
 //! The addresses that callers give and get.
 
 ghost use Rattle.std.specs.Prelude.{◌≡◌, take, IfOk, IfErr, Some, None};
-ghost use Rattle.stun_state.specs.Addresses.{address_of, ipv4, ipv6, socket_address, start_for, start_told};
+ghost use Rattle.stun_state.specs.Addresses.{address_of, ipv4, ipv6};
+ghost use Rattle.stun_state.specs.Addresses.{socket_address, start_for, start_told};
 
 use crate::codes::Refusal;
 use std::net::{Ipv4Addr, Ipv6Addr, SocketAddr, SocketAddrV4, SocketAddrV6};

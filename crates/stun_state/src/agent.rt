@@ -1,13 +1,21 @@
 //! What the exports do with an agent (RFC 8489, section 6.2).
 
-ghost use Rattle.std.specs.Prelude.{◌≡◌, ◌≤◌, ◌++◌, ⊤, IsTrue, length, drop, true, false, Some, None, IfOk, IfErr, IfSome, OnErr, OnOk};
+ghost use Rattle.std.specs.Prelude.{◌≡◌, ◌≤◌, ◌++◌, ⊤, IsTrue, length, drop, true};
+ghost use Rattle.std.specs.Prelude.{false, Some, None, IfOk, IfErr, IfSome, OnErr, OnOk};
 ghost use Rattle.std.specs.Duration.{as_nanos};
 ghost use Rattle.std.specs.Option.{option_map};
 ghost use Rattle.byteorder.specs.Endian.{big_bytes};
-ghost use Rattle.stun_agent.specs.Agent.{after_message, after_poll, after_poll_transmit, after_send, after_send_request, poll_answer, sent_by_poll};
+ghost use Rattle.stun_agent.specs.Agent.{after_message, after_poll, after_poll_transmit};
+ghost use Rattle.stun_agent.specs.Agent.{after_send, after_send_request, poll_answer, sent_by_poll};
 ghost use Rattle.stun_agent.specs.Transactions.{cancelled, silenced};
 ghost use Rattle.stun_state.specs.Addresses.{socket_address};
-ghost use Rattle.stun_state.specs.Agent.{bytes_told, found, handled, id_in, id_told, kept_after_configuring, kept_after_forgetting, kept_after_naming, known, made, made_with, moment_told, nanoseconds, peer_found, polled, refusal_of_agent, remote_given, requested, sent, sent_again, sent_to, statistics_answer, timeouts_refusal, told, told_of, transport_numbered, unless_untimed, with_changed};
+ghost use Rattle.stun_state.specs.Agent.{bytes_told, found, handled, id_in, id_told};
+ghost use Rattle.stun_state.specs.Agent.{kept_after_configuring, kept_after_forgetting};
+ghost use Rattle.stun_state.specs.Agent.{kept_after_naming, known, made, made_with, moment_told};
+ghost use Rattle.stun_state.specs.Agent.{nanoseconds, peer_found, polled, refusal_of_agent};
+ghost use Rattle.stun_state.specs.Agent.{remote_given, requested, sent, sent_again, sent_to};
+ghost use Rattle.stun_state.specs.Agent.{statistics_answer, timeouts_refusal, told, told_of};
+ghost use Rattle.stun_state.specs.Agent.{transport_numbered, unless_untimed, with_changed};
 ghost use Rattle.stun_state.specs.Answers.{OrMemory, at_address, done_if_given};
 ghost use Rattle.stun_state.specs.Memory.{IsRequestTaken, message_adds_none, naming_adds_none};
 
@@ -216,7 +224,8 @@ pub fn send(agent: &mut StunAgent<Global>, message: &[u8], to: &Address) -> Resu
     }
 }
 
-/// What is to be done at a moment: 0 and until when to wait, 1 or 2 and the id of the request that ended.
+/// What is to be done at a moment: 0 and until when to wait, 1 or 2 and the id of the request that
+/// ended.
 pub fn poll(
     agent: &mut StunAgent<Global>,
     now: u64,
@@ -257,7 +266,8 @@ fn put_id(out: &mut [u8], id: TransactionId)
     BigEndian::write_uint128(out, id.as_u128(), ID_LENGTH);
 }
 
-/// The request that is to be sent again now, at the front of the buffer, and where to: how many bytes there are.
+/// The request that is to be sent again now, at the front of the buffer, and where to: how many
+/// bytes there are.
 pub fn poll_transmit(
     agent: &mut StunAgent<Global>,
     now: u64,

@@ -1,7 +1,9 @@
 //! The numbers that calls answer.
 
 ghost use Rattle.std.specs.Prelude.{◌≡◌, pos};
-ghost use Rattle.stun_state.specs.Numbers.{algorithm_answer, done_answer, found_answer, is_resend_answer, length_answer, number_answer, reading_answer, resend_number};
+ghost use Rattle.stun_state.specs.Numbers.{algorithm_answer, done_answer, found_answer};
+ghost use Rattle.stun_state.specs.Numbers.{is_resend_answer, length_answer};
+ghost use Rattle.stun_state.specs.Numbers.{number_answer, reading_answer, resend_number};
 
 use crate::codes::{Refusal, algorithm_number};
 use stun_auth::auth::LongTermClientValidation;
@@ -46,7 +48,8 @@ pub fn algorithm(answer: Result<IntegrityAlgorithm, Refusal>) -> i64
     }
 }
 
-/// The number of a response that asks for another request, and verifies by this algorithm or by none.
+/// The number of a response that asks for another request, and verifies by this algorithm or by
+/// none.
 fn resend(signed_by: Option<IntegrityAlgorithm>) -> i64
     ensures { result ≡ pos (resend_number signed_by) }
 {

@@ -2,5 +2,6 @@
 
 mod agent;
 mod client;
+mod handed;
 mod release;
 mod server;

@@ -1,6 +1,7 @@
 //! What the exports do with a client's authenticator (RFC 8489, sections 9.2.3 and 9.2.5).
 
-ghost use Rattle.std.specs.Prelude.{◌≡◌, ◌≤◌, ◌+◌, ◌-◌, true, length, take, None, Some, Ok, Err, IfErr, IfOk, OnErr, OnOk};
+ghost use Rattle.std.specs.Prelude.{◌≡◌, ◌≤◌, ◌+◌, ◌-◌, true, length, take, None};
+ghost use Rattle.std.specs.Prelude.{Some, Ok, Err, IfErr, IfOk, OnErr, OnOk};
 ghost use Rattle.stun_auth.specs.Additions.{WantsMemory, added_all, growth, page_of};
 ghost use Rattle.stun_auth.specs.Client.{new_client};
 ghost use Rattle.stun_auth.specs.ClientSigning.{client_additions, signing_algorithm};
@@ -10,10 +11,12 @@ ghost use Rattle.stun_base.specs.MessageType.{class_in, is_request};
 ghost use Rattle.stun_types.specs.Limits.{LENGTH_LIMIT as length_limit};
 ghost use Rattle.stun_types.specs.Message.{IsMessage};
 ghost use Rattle.stun_state.specs.Answers.{OrMemory, done_if_given, texts_refusal};
-ghost use Rattle.stun_state.specs.Client.{after_validating, step, validated, validation_answer, with_algorithms, with_credentials, with_feature};
+ghost use Rattle.stun_state.specs.Client.{after_validating, step, validated, validation_answer};
+ghost use Rattle.stun_state.specs.Client.{with_algorithms, with_credentials, with_feature};
 ghost use Rattle.stun_state.specs.Codes.{algorithm_or_none, algorithms_numbered, feature_numbered};
 ghost use Rattle.stun_state.specs.Memory.{AsksAgain};
-ghost use Rattle.stun_state.specs.Signing.{buffer_after, client_signs, fitted, is_too_long, length_of, message_of, signed_by_client};
+ghost use Rattle.stun_state.specs.Signing.{buffer_after, client_signs, fitted, is_too_long};
+ghost use Rattle.stun_state.specs.Signing.{length_of, message_of, signed_by_client};
 
 use crate::codes::{Refusal, algorithm_number, feature_numbered};
 use crate::signing::{SHORT, base_message, fill, is_too_long, writer_of};
@@ -74,7 +77,8 @@ pub fn set_algorithms(
     Ok(())
 }
 
-/// Whether the user's name is sent as its hash: 0 where the server can read that, 1 always, 2 never.
+/// Whether the user's name is sent as its hash: 0 where the server can read that, 1 always, 2
+/// never.
 pub fn set_anonymous_username(
     client: &mut LongTermClientAuth<Global>,
     feature: u32,

@@ -1,7 +1,9 @@
-//! The numbers that callers get and give, as `include/stunp.h` and `include/stunp_state.h` have them.
+//! The numbers that callers get and give, as `include/stunp.h` and `include/stunp_state.h` have
+//! them.
 
 ghost use Rattle.std.specs.Prelude.{◌≡◌, IfOk, IfErr, Some, None};
-ghost use Rattle.stun_state.specs.Codes.{algorithm_number, code_of, feature_numbered, refusal_of_write};
+ghost use Rattle.stun_state.specs.Codes.{algorithm_number, code_of};
+ghost use Rattle.stun_state.specs.Codes.{feature_numbered, refusal_of_write};
 
 use std::alloc::AllocError;
 use stun_agent::agent::NoRoom;
@@ -65,7 +67,8 @@ pub enum Refusal {
 }
 
 impl Refusal {
-    /// The refusal for an error of writing. What is too large is the message, where `is_long`, and else a text.
+    /// The refusal for an error of writing. What is too large is the message, where `is_long`, and
+    /// else a text.
     pub fn of_write(error: StunWriteError, is_long: bool) -> Refusal
         ensures { result ≡ refusal_of_write is_long error }
     {

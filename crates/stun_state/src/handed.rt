@@ -1,10 +1,12 @@
 //! What the exports do with a server's authenticator and a user whom the caller hands in (RFC 8489,
 //! section 9.2.4).
 
-ghost use Rattle.std.specs.Prelude.{◌≡◌, ◌≤◌, ◌+◌, ◌-◌, ◌^◌, ◌<◌, ⊤, nat_lt, true, false, length, take, Some, None, Ok, Err, IfOk, IfErr, OnErr, OnOk};
+ghost use Rattle.std.specs.Prelude.{◌≡◌, ◌≤◌, ◌+◌, ◌-◌, ◌^◌, ◌<◌, ⊤, length, take};
+ghost use Rattle.std.specs.Prelude.{Some, None, Ok, Err, IfOk, IfErr, OnErr, OnOk};
 ghost use Rattle.stun_auth.specs.Additions.{WantsMemory, page_of};
 ghost use Rattle.stun_auth.specs.Handed.{just, with_users};
-ghost use Rattle.stun_auth.specs.ServerSigning.{after_signing, server_additions, server_growth, server_signed};
+ghost use Rattle.stun_auth.specs.ServerSigning.{after_signing, server_additions};
+ghost use Rattle.stun_auth.specs.ServerSigning.{server_growth, server_signed};
 ghost use Rattle.stun_auth.specs.Reading.{reading_of};
 ghost use Rattle.stun_auth.specs.Validation.{after_message, answer, sight};
 ghost use Rattle.stun_base.specs.Header.{BeginsWithHeader};
@@ -12,10 +14,14 @@ ghost use Rattle.stun_base.specs.MessageType.{class_in, is_response};
 ghost use Rattle.stun_types.specs.Limits.{LENGTH_LIMIT as length_limit};
 ghost use Rattle.stun_state.specs.Addresses.{socket_address};
 ghost use Rattle.stun_state.specs.Answers.{OrMemory, after_address, at_address};
-ghost use Rattle.stun_state.specs.Handed.{just_given, key_given, kept_after_signing_of, kept_after_validating_of, keys_given, named_by, naming_answer, naming_length, naming_written, signed_of, validated_of};
+ghost use Rattle.stun_state.specs.Handed.{just_given, key_given, kept_after_signing_of};
+ghost use Rattle.stun_state.specs.Handed.{kept_after_validating_of, keys_given};
+ghost use Rattle.stun_state.specs.Handed.{named_by, naming_answer, naming_length};
+ghost use Rattle.stun_state.specs.Handed.{naming_written, signed_of, validated_of};
 ghost use Rattle.stun_state.specs.code.Given.{user_given};
 ghost use Rattle.stun_state.specs.Server.{validation_answer};
-ghost use Rattle.stun_state.specs.Signing.{buffer_after, is_too_long, length_of, message_of, server_signs, signed_by_server};
+ghost use Rattle.stun_state.specs.Signing.{buffer_after, length_of, message_of};
+ghost use Rattle.stun_state.specs.Signing.{server_signs, signed_by_server};
 ghost use Rattle.stun_state.specs.code.Measured.{IsMeasured};
 
 use crate::address::Address;

@@ -1,6 +1,7 @@
 //! What a caller in C keeps of a value on the heap.
 //!
-//! A handle is a flag and a pointer, and has no `Drop`: what is in one cannot be lost by an assignment.
+//! A handle is a flag and a pointer, and has no `Drop`: what is in one cannot be lost by an
+//! assignment.
 ghost use Rattle.std.specs.Prelude.{◌≡◌, Some, None, Option, IfSome, IfNone};
 ghost use Rattle.std.specs.Coded.{coded_option};
 ghost use Rattle.stun_state.specs.code.Handle.{handle_owns};

@@ -1,23 +1,32 @@
 //! What the exports do with a server's authenticator (RFC 8489, section 9.2.4).
 
-ghost use Rattle.std.specs.Prelude.{◌≡◌, ◌≤◌, ◌<◌, ◌+◌, ◌-◌, ◌^◌, ⊤, nat_lt, true, false, length, take, Some, None, Ok, Err, IfOk, IfErr, OnErr, OnOk};
+ghost use Rattle.std.specs.Prelude.{◌≡◌, ◌≤◌, ◌<◌, ◌+◌, ◌-◌, ◌^◌, ⊤, nat_lt, true, false};
+ghost use Rattle.std.specs.Prelude.{length, take, Some, None, Ok, Err, IfOk, IfErr, OnErr, OnOk};
 ghost use Rattle.stun_auth.specs.Forgetting.{after_forgetting, without_place};
 ghost use Rattle.stun_auth.specs.ForgettingSteps.{after_step, next_address};
 ghost use Rattle.stun_base.specs.MessageType.{class_in, is_response};
 ghost use Rattle.stun_auth.specs.Reading.{reading_of};
 ghost use Rattle.stun_auth.specs.Registered.{with_user};
 ghost use Rattle.stun_auth.specs.Additions.{WantsMemory, page_of};
-ghost use Rattle.stun_auth.specs.ServerSigning.{after_signing, server_additions, server_growth, server_signed};
+ghost use Rattle.stun_auth.specs.ServerSigning.{after_signing, server_additions};
+ghost use Rattle.stun_auth.specs.ServerSigning.{server_growth, server_signed};
 ghost use Rattle.stun_base.specs.Header.{BeginsWithHeader};
 ghost use Rattle.stun_types.specs.Limits.{LENGTH_LIMIT as length_limit};
-ghost use Rattle.stun_auth.specs.Validation.{ChangesNothing, after_message, answer, new_server, sight};
+ghost use Rattle.stun_auth.specs.Validation.{ChangesNothing, after_message};
+ghost use Rattle.stun_auth.specs.Validation.{answer, new_server, sight};
 ghost use Rattle.stun_state.specs.Addresses.{socket_address, start_for, start_told};
-ghost use Rattle.stun_state.specs.Answers.{OrMemory, after_address, after_start, at_address, at_start, done_if_given, text_refusal, texts_refusal};
+ghost use Rattle.stun_state.specs.Answers.{OrMemory, after_address, after_start, at_address};
+ghost use Rattle.stun_state.specs.Answers.{at_start, done_if_given, text_refusal, texts_refusal};
 ghost use Rattle.stun_state.specs.Codes.{algorithms_numbered, feature_numbered};
 ghost use Rattle.stun_state.specs.Memory.{LeavesServer};
-ghost use Rattle.stun_state.specs.Signing.{buffer_after, is_too_long, length_of, message_of, server_signs, signed_by_server};
+ghost use Rattle.stun_state.specs.Signing.{buffer_after, is_too_long, length_of};
+ghost use Rattle.stun_state.specs.Signing.{message_of, server_signs, signed_by_server};
 ghost use Rattle.stun_state.specs.code.Measured.{IsMeasured};
-ghost use Rattle.stun_state.specs.Server.{client_at, client_told, kept_after_validating, name_length_of, name_written, nonce_at, nonce_told, nonce_written, room_refusal, step_answer, validated, validation_answer, with_algorithms, with_expiry, with_feature, without_client, without_named};
+ghost use Rattle.stun_state.specs.Server.{client_at, client_told, kept_after_validating};
+ghost use Rattle.stun_state.specs.Server.{name_length_of, name_written, nonce_at, nonce_told};
+ghost use Rattle.stun_state.specs.Server.{nonce_written, room_refusal, step_answer, validated};
+ghost use Rattle.stun_state.specs.Server.{validation_answer, with_algorithms, with_expiry};
+ghost use Rattle.stun_state.specs.Server.{with_feature, without_client, without_named};
 
 use crate::address::Address;
 use crate::codes::{Refusal, feature_numbered};
@@ -152,7 +161,8 @@ pub fn forget_expired(server: &mut LongTermServerAuth<Global>, now: u64)
     server.forget_expired(Instant::from_nanos(now));
 }
 
-/// Forgets what `forget_expired` does, at no more than `most` addresses from one on: whether another call is to go on, and where.
+/// Forgets what `forget_expired` does, at no more than `most` addresses from one on: whether
+/// another call is to go on, and where.
 pub fn forget_expired_within(
     server: &mut LongTermServerAuth<Global>,
     now: u64,
@@ -222,7 +232,8 @@ pub fn nonce(
     Ok(nonce.len())
 }
 
-/// Signs the message in the first `length` bytes of a buffer, which goes to an address. A refusal leaves the buffer.
+/// Signs the message in the first `length` bytes of a buffer, which goes to an address. A refusal
+/// leaves the buffer.
 pub fn sign(
     server: &mut LongTermServerAuth<Global>,
     buffer: &mut [u8],
@@ -256,7 +267,8 @@ pub struct Measured {
     pub is_long: bool,
 }
 
-/// How long a message to an address is once it is signed, where a buffer of `room` bytes has room for it then.
+/// How long a message to an address is once it is signed, where a buffer of `room` bytes has room
+/// for it then.
 pub fn measure(
     server: &LongTermServerAuth<Global>,
     message: &Message<'_>,

@@ -1,11 +1,13 @@
 //! A message in a caller's buffer that is to be signed.
 
-ghost use Rattle.std.specs.Prelude.{◌≡◌, ◌≤◌, ◌-◌, ◌++◌, length, take, drop, None, Some, Ok, IfErr, IfOk, OnOk};
+ghost use Rattle.std.specs.Prelude.{◌≡◌, ◌≤◌, ◌-◌, ◌++◌, length, take, drop};
+ghost use Rattle.std.specs.Prelude.{None, Some, Ok, IfErr, IfOk, OnOk};
 ghost use Rattle.stun_base.specs.Header.{BeginsWithHeader};
 ghost use Rattle.stun_types.specs.Limits.{LENGTH_LIMIT};
 ghost use Rattle.stun_types.specs.Writing.{is_set_apart};
 ghost use Rattle.stun_base.specs.MessageType.{class_in, is_response};
-ghost use Rattle.stun_state.specs.Signing.{base_refusal, buffer_after, fitted, is_closed, is_too_long, length_of};
+ghost use Rattle.stun_state.specs.Signing.{base_refusal, buffer_after, fitted};
+ghost use Rattle.stun_state.specs.Signing.{is_closed, is_too_long, length_of};
 
 use crate::codes::Refusal;
 use crate::desk::Desk;
@@ -83,7 +85,8 @@ pub fn writer_of<'m>(message: &[u8], memory: &'m mut [u8]) -> Desk<'m>
     writer
 }
 
-/// Copies bytes to the front of a buffer and answers their number, or leaves it where it has fewer bytes.
+/// Copies bytes to the front of a buffer and answers their number, or leaves it where it has fewer
+/// bytes.
 pub fn fill(buffer: &mut [u8], bytes: &[u8]) -> Result<usize, Refusal>
     ensures answer { result ≡ length_of (fitted (Ok bytes.now) (length buffer.old)) }
     ensures written { buffer.new ≡ buffer_after

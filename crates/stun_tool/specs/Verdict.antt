@@ -1,13 +1,17 @@
 -- What `check` says of an input, and how it says it.
 use Rattle.std.specs.Prelude.{ℕ, List, [], ◌∷◌, ◌++◌, codes, Option, Some, None}
-use Rattle.stun_base.specs.declared.wire.error.StunParseError.TheVariants.{Truncated, NotStun, TooLarge}
+use Rattle.stun_base.specs.declared.wire.error.StunParseError.TheVariants.{Truncated}
+use Rattle.stun_base.specs.declared.wire.error.StunParseError.TheVariants.{NotStun, TooLarge}
 use Rattle.stun_base.specs.declared.keys.algorithm.IntegrityAlgorithm.TheVariants.{Sha1, Sha256}
 use Rattle.stun_cli.specs.declared.verdict.Verdict.{Verdict}
-use Rattle.stun_cli.specs.declared.verdict.Verdict.TheVariants.{Valid, OtherDigest, NoIntegrity, MalformedIntegrity, NotAMessage, BadInput}
+use Rattle.stun_cli.specs.declared.verdict.Verdict.TheVariants.{Valid, OtherDigest, NoIntegrity}
+use Rattle.stun_cli.specs.declared.verdict.Verdict.TheVariants.{MalformedIntegrity, NotAMessage}
+use Rattle.stun_cli.specs.declared.verdict.Verdict.TheVariants.{BadInput}
 use Rattle.stun_cli.specs.Verdict.{verdict_of, refusal_line}
 use Rattle.stun_tool.specs.Input.{bytes_read}
 
--- the verdict on bytes under a password, whose bytes are the key of either digest (RFC 8489, section 9.1.1)
+-- the verdict on bytes under a password, whose bytes are the key of either digest (RFC 8489,
+-- section 9.1.1)
 abbrev pub verdict_under : List ℕ → List ℕ → Verdict
 verdict_under bytes password = verdict_of bytes (λ _. password)
 
@@ -33,5 +37,7 @@ line_of BadInput = codes "bad input" ++ 10 ∷ []
 -- the lines that are ever printed
 abbrev pub printed_lines : List (List ℕ)
 printed_lines =
-    line_of (Valid Sha1) ∷ line_of (Valid Sha256) ∷ line_of OtherDigest ∷ line_of NoIntegrity ∷ line_of MalformedIntegrity
-    ∷ line_of (NotAMessage Truncated) ∷ line_of (NotAMessage NotStun) ∷ line_of (NotAMessage TooLarge) ∷ line_of BadInput ∷ []
+    line_of (Valid Sha1) ∷ line_of (Valid Sha256) ∷ line_of OtherDigest ∷ line_of NoIntegrity
+    ∷ line_of MalformedIntegrity
+    ∷ line_of (NotAMessage Truncated) ∷ line_of (NotAMessage NotStun)
+    ∷ line_of (NotAMessage TooLarge) ∷ line_of BadInput ∷ []

@@ -5,7 +5,8 @@ ghost use Rattle.std.specs.Prelude.{◌≡◌, ◌≢◌, ◌≤◌, ◌+◌, �
 ghost use Rattle.stun_tool.specs.Check.{Prints};
 ghost use Rattle.stun_cli.specs.Input.{most_tries};
 ghost use Rattle.stun_tool.specs.code.Output.{AppendsUnlessFailed};
-ghost use Rattle.stun_tool.specs.code.Run.{words_of_check, words_of_negotiate, words_of_schedule, words_of_serve, usage_line};
+ghost use Rattle.stun_tool.specs.code.Run.{words_of_check, words_of_negotiate};
+ghost use Rattle.stun_tool.specs.code.Run.{words_of_schedule, words_of_serve, usage_line};
 
 mod check;
 mod digits;

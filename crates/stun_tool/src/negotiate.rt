@@ -35,15 +35,16 @@ pub struct Side {
     feature: Feature,
 }
 
-/// Prints what a new client and a new server come to that know one user: `validated` and the algorithm where the client is
-/// accepted, or `already validated` where its first request is, which are answers; or `refused` and the reason where a
-/// side gives up, which is a refusal (RFC 8489, section 9.2). No call is made between theirs, both requests are read at
-/// moment 0, and all random words are 0.
+/// Prints what a new client and a new server come to that know one user: `validated` and the
+/// algorithm where the client is accepted, or `already validated` where its first request is, which
+/// are answers; or `refused` and the reason where a side gives up, which is a refusal (RFC 8489,
+/// section 9.2). No call is made between theirs, both requests are read at moment 0, and all random
+/// words are 0.
 ///
-/// The words are the algorithms of the client, `sha1`, `sha256`, or both in the order of adding and parted by a comma;
-/// whether it names users by a hash, `auto`, `required` or `disabled`; and the same of the server. Other words are wrong;
-/// then nothing is read or printed. Where a write fails or an allocation fails it answers `Failed`, and nothing more is
-/// printed. Nothing is read.
+/// The words are the algorithms of the client, `sha1`, `sha256`, or both in the order of adding and
+/// parted by a comma; whether it names users by a hash, `auto`, `required` or `disabled`; and the
+/// same of the server. Other words are wrong; then nothing is read or printed. Where a write fails
+/// or an allocation fails it answers `Failed`, and nothing more is printed. Nothing is read.
 pub fn negotiate<R: CountedRead, W: Write, A: Allocator + Copy>(
     alloc: A,
     words: &[String],

@@ -40,18 +40,19 @@ pub struct Response {
     from: SocketAddr,
 }
 
-/// Prints when a request is sent, and when it times out: one Binding request with id 1 at moment 0, from 10.0.0.1:12345 to
-/// 10.0.0.2:3478 (RFC 8489, sections 6.2.1 and 6.2.2). There is a line `sent MS` for each transmission and last
-/// `timed out MS`, in whole milliseconds rounded down.
+/// Prints when a request is sent, and when it times out: one Binding request with id 1 at moment 0,
+/// from 10.0.0.1:12345 to 10.0.0.2:3478 (RFC 8489, sections 6.2.1 and 6.2.2). There is a line `sent
+/// MS` for each transmission and last `timed out MS`, in whole milliseconds rounded down.
 ///
-/// The words are the transport, `udp` or `tcp`, the wait after the first transmission in milliseconds, the longest
-/// wait between two in milliseconds or `-` for none, the number of transmissions, at most 1000, and the wait after
-/// the last one in milliseconds. Then may come `answer`, a moment in milliseconds up to `Instant::MAX`, and an IPv4 address
-/// with a port: at that moment a success response with id 1 comes from there. There is a line `received MS` for it in its
-/// place where it ends the request, and nothing after that, or else `ignored MS`.
+/// The words are the transport, `udp` or `tcp`, the wait after the first transmission in
+/// milliseconds, the longest wait between two in milliseconds or `-` for none, the number of
+/// transmissions, at most 1000, and the wait after the last one in milliseconds. Then may come
+/// `answer`, a moment in milliseconds up to `Instant::MAX`, and an IPv4 address with a port: at
+/// that moment a success response with id 1 comes from there. There is a line `received MS` for it
+/// in its place where it ends the request, and nothing after that, or else `ignored MS`.
 ///
-/// Other words are wrong; then nothing is read or printed. Where a write or an allocation fails it answers `Failed`, and
-/// nothing more is printed. Nothing is read.
+/// Other words are wrong; then nothing is read or printed. Where a write or an allocation fails it
+/// answers `Failed`, and nothing more is printed. Nothing is read.
 pub fn schedule<R: CountedRead, W: Write>(
     alloc: Global,
     words: &[String],

@@ -15,12 +15,13 @@ use stun_proto::auth::LongTermServerAuth;
 use stun_proto::replay;
 use stun_proto::replay::{ServerCall, ServerReply};
 
-/// Runs a script of calls at a new long-term server of a realm, which is the one word, and prints a line for each reply
-/// (RFC 8489, section 9.2.4).
+/// Runs a script of calls at a new long-term server of a realm, which is the one word, and prints a
+/// line for each reply (RFC 8489, section 9.2.4).
 ///
-/// Where a line is no call, only `wrong line N` is printed for the first such one, nothing is run, and the answer is
-/// `Refused`; refusals by the server are answers. Where a read, a write or a growth fails, or the reader's end does not come
-/// within 1048576 reads, it answers `Failed`, and nothing more is printed.
+/// Where a line is no call, only `wrong line N` is printed for the first such one, nothing is run,
+/// and the answer is `Refused`; refusals by the server are answers. Where a read, a write or a
+/// growth fails, or the reader's end does not come within 1048576 reads, it answers `Failed`, and
+/// nothing more is printed.
 pub fn serve<R: CountedRead, W: Write>(
     alloc: Global,
     words: &[String],

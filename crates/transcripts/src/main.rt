@@ -1,5 +1,5 @@
 //! Plays transcripts: each line is a call, and after `->` what is answered to it.
-//! docs/TRANSCRIPTS.md tells the language.
+//! docs/maintainers/TRANSCRIPTS.md tells the language.
 #![tactic(auto)]
 
 mod calls;

@@ -1,5 +1,7 @@
 -- Deadlines in a tree: which it holds, in which order, and the least id of those that have come.
-use Rattle.std.specs.Prelude.{ℕ, ◌≡◌, ◌+◌, ◌-◌, ◌*◌, ◌/◌, ◌^◌, ◌<◌, ◌≤◌, ◌⊎◌, max, Bool, true, false, not, ◌&&◌, ◌==◌, nat_le, if◌then◌else◌, List, [], ◌∷◌, ◌++◌, Option, Some, None, MatchOption, map, filter, fold, IsPermutation}
+use Rattle.std.specs.Prelude.{ℕ, ◌≡◌, ◌+◌, ◌-◌, ◌*◌, ◌/◌, ◌^◌, ◌<◌, ◌≤◌, ◌⊎◌, max, Bool, true}
+use Rattle.std.specs.Prelude.{false, not, ◌&&◌, ◌==◌, nat_le, if◌then◌else◌, List, [], ◌∷◌, ◌++◌}
+use Rattle.std.specs.Prelude.{Option, Some, None, MatchOption, map, filter, fold, IsPermutation}
 use Rattle.std.specs.List.{AllByRecursion, IsDistinct}
 use Rattle.stun_agent.specs.declared.state.deadlines.Deadline.{Deadline}
 use Rattle.stun_agent.specs.declared.state.deadline_tree.Link.{Link}
@@ -30,7 +32,8 @@ abbrev pub IsFirst : Deadline → List Deadline → Type 0
 IsFirst d ds = AllByRecursion (λ (e : Deadline). d.moment ≤ e.moment) ds
 
 -- its id is in the range, and nothing on its two sides is sooner
-pub record IsTop (low high : ℕ) (d : Deadline) (lesser_ids greater_ids : List Deadline) : Type 0 where
+pub record IsTop (low high : ℕ) (d : Deadline) (lesser_ids greater_ids : List Deadline) : Type
+    0 where
   pub within : IsWithin low high d
   pub left : IsFirst d lesser_ids
   pub right : IsFirst d greater_ids
@@ -39,7 +42,8 @@ pub record IsTop (low high : ℕ) (d : Deadline) (lesser_ids greater_ids : List 
 abbrev pub IsTree : {A : Type 0} → ℕ → ℕ → Link A → Type 0
 IsTree low high Empty = Unit {0}
 IsTree low high (Held' d p left right) =
-    IsTop low high d (items left) (items right) × IsTree low (middle low high) left × IsTree (middle low high) high right
+    IsTop low high d (items left) (items right) × IsTree low (middle low high) left
+    × IsTree (middle low high) high right
 
 -- no two of them have one id
 abbrev pub AreDistinct : List Deadline → Type 0
@@ -61,7 +65,8 @@ pub record IsWhole {A : Type 0} (root : Link A) : Type 0 where
 
 -- the two sides of a node
 abbrev pub IsBelow : {A : Type 0} → ℕ → ℕ → Node A → Type 0
-IsBelow low high node = IsTree low (middle low high) node.left × IsTree (middle low high) high node.right
+IsBelow low high node =
+    IsTree low (middle low high) node.left × IsTree (middle low high) high node.right
 
 -- nothing is below it
 pub record IsAlone {A : Type 0} (node : Node A) : Type 0 where
@@ -83,7 +88,8 @@ is_no_later (d ∷ ds) (e ∷ es) = nat_le d.moment e.moment
 -- the deadline of an id is taken out, if there is one
 abbrev pub TakesOut : ℕ → List Deadline → Option Deadline → List Deadline → Type 0
 TakesOut id old taken new =
-    MatchOption taken ((entries_at id old ≡ []) × (new ≡ old)) (λ d. (d.id ≡ id) × IsPermutation old (d ∷ new))
+    MatchOption taken ((entries_at id old ≡ []) × (new ≡ old))
+    (λ d. (d.id ≡ id) × IsPermutation old (d ∷ new))
 
 -- the first one is taken out, if there is any
 abbrev pub TakesFirst : List Deadline → Option Deadline → List Deadline → Type 0
@@ -94,7 +100,8 @@ TakesFirst (d ∷ ds) taken new = (taken ≡ Some d) × IsPermutation ds new
 pub record IsNextTaken {A : Type 0} (d : Deadline) (old new : Node A) : Type 0 where
   pub permutes : IsPermutation (below old) (d ∷ below new)
   pub sides : (low high : ℕ) → IsBelow low high old → IsBelow low high new
-  pub first : (low high : ℕ) → IsBelow low high old → IsFirst d (items new.left) × IsFirst d (items new.right)
+  pub first : (low high : ℕ) → IsBelow low high old
+      → IsFirst d (items new.left) × IsFirst d (items new.right)
 
 -- if there is any
 abbrev pub TakesNext : {A : Type 0} → Node A → Option Deadline → Node A → Type 0
@@ -107,7 +114,9 @@ first_of (d ∷ ds) = Some d
 
 -- the sooner of the two first ones below a node, if there is any
 abbrev pub next_of : {A : Type 0} → Node A → Option Deadline
-next_of node = if is_no_later (items node.left) (items node.right) then first_of (items node.left) else first_of (items node.right)
+next_of node =
+    if is_no_later (items node.left) (items node.right) then first_of (items node.left)
+    else first_of (items node.right)
 
 -- it leads to nothing, or to a node that nothing is below
 abbrev pub IsLast : {A : Type 0} → Link A → Type 0
@@ -121,15 +130,17 @@ with_id least last id = if is_passed last id then least else sooner least id
 
 -- the least id after `last` among those whose moment has come
 abbrev pub least_come : ℕ → Option ℕ → List Deadline → Option ℕ
-least_come now last ds = fold sooner None (map (λ d. d.id) (filter (λ d. nat_le d.moment now && not (is_passed last d.id)) ds))
+least_come now last ds =
+    fold sooner None
+    (map (λ d. d.id) (filter (λ d. nat_le d.moment now && not (is_passed last d.id)) ds))
 
 -- the first of these has come, and there is one
 abbrev pub first_has_come : ℕ → List Deadline → Bool
 first_has_come now [] = false
 first_has_come now (d ∷ ds) = nat_le d.moment now
 
--- how many nodes may be read to find an id from `low` on, where paths have so many: those of two paths, and those of one
--- where there is no such id, or where none is passed
+-- how many nodes may be read to find an id from `low` on, where paths have so many: those of two
+-- paths, and those of one where there is no such id, or where none is passed
 pub record IsSearch (last : Option ℕ) (low path : ℕ) (found : Option ℕ) (old new : ℕ) : Type 0 where
   pub two : new ≤ old + 2 * path
   pub none : found ≡ None → new ≤ old + path

@@ -1,20 +1,30 @@
--- The deadlines of outstanding requests as the index keeps them, and how one is put in, replaced and found.
-use Rattle.std.specs.Prelude.{ℕ, ◌≡◌, Bool, true, false, not, ◌&&◌, ◌==◌, nat_le, if◌then◌else◌, List, [], ◌∷◌, Option, Some, None, map, filter, fold, count_by, All, IsPermutation}
+-- The deadlines of outstanding requests as the index keeps them, and how one is put in, replaced
+-- and found.
+use Rattle.std.specs.Prelude.{ℕ, ◌≡◌, Bool, true, false, not, ◌&&◌, ◌==◌, nat_le}
+use Rattle.std.specs.Prelude.{if◌then◌else◌, List, [], ◌∷◌, Option, Some, None}
+use Rattle.std.specs.Prelude.{map, filter, fold, count_by, All, IsPermutation}
 use Rattle.std.specs.List.{AllByRecursion}
 use Rattle.std.specs.Option.{option_map_or}
 use Rattle.stun_base.specs.declared.wire.transport.TransportType.{TransportType}
 use Rattle.stun_agent.specs.declared.state.deadlines.Deadline.{Deadline}
 use Rattle.stun_agent.specs.declared.state.deadlines.DeadlineKind.{DeadlineKind}
 use Rattle.stun_agent.specs.declared.state.deadlines.DeadlineKind.TheVariants.{Cancelled, End, Slot}
-use Rattle.stun_agent.specs.Transactions.{Transaction, Transactions, IsAscending, at, awaited, has_slots, is_cancelled, sooner, IsNamed}
+use Rattle.stun_agent.specs.Transactions.{Transaction, Transactions, IsAscending, at}
+use Rattle.stun_agent.specs.Transactions.{awaited, has_slots, is_cancelled, sooner, IsNamed}
 
--- what a transaction awaits: a cancelled one is to end at once, one with slots left is to be sent again, another is to end
+-- what a transaction awaits: a cancelled one is to end at once, one with slots left is to be sent
+-- again, another is to end
 abbrev pub kind_of : TransportType → Transaction → DeadlineKind
-kind_of transport t = if is_cancelled t.sending then Cancelled else (if has_slots transport t then Slot else End)
+kind_of transport t =
+    if is_cancelled t.sending then Cancelled else (if has_slots transport t then Slot else End)
 
 abbrev pub deadline_of : TransportType → ℕ × Transaction → Deadline
 deadline_of transport e =
-    record { moment = if is_cancelled e.1.sending then 0 else awaited transport e.1; id = e.0; kind = kind_of transport e.1 }
+    record {
+      moment = if is_cancelled e.1.sending then 0 else awaited transport e.1;
+      id = e.0;
+      kind = kind_of transport e.1;
+    }
 
 -- an end, and no retransmission
 abbrev pub is_end : DeadlineKind → Bool
@@ -45,7 +55,9 @@ is_slot_after last d = is_slot d.kind && not (is_passed last d.id)
 
 -- the least id after `last` among those whose slot is due
 abbrev pub least_due : ℕ → Option ℕ → List Deadline → Option ℕ
-least_due now last ds = fold sooner None (map (λ d. d.id) (filter (λ d. is_slot_after last d && nat_le d.moment now) ds))
+least_due now last ds =
+    fold sooner None
+    (map (λ d. d.id) (filter (λ d. is_slot_after last d && nat_le d.moment now) ds))
 
 -- how many are at most this moment
 abbrev pub early : ℕ → List Deadline → ℕ
@@ -55,8 +67,10 @@ abbrev pub entries_at : ℕ → List Deadline → List Deadline
 entries_at id ds = filter (λ d. id == d.id) ds
 
 -- the deadlines of these transactions: one each and no other
-pub record IsIndexOf (transport : TransportType) (all : Transactions) (ds : List Deadline) : Type 0 where
-  pub entries : (id : ℕ) → entries_at id ds ≡ option_map_or (λ t. deadline_of transport (id, t) ∷ []) (at id all) []
+pub record IsIndexOf (transport : TransportType) (all : Transactions) (ds : List Deadline) : Type
+    0 where
+  pub entries : (id : ℕ)
+      → entries_at id ds ≡ option_map_or (λ t. deadline_of transport (id, t) ∷ []) (at id all) []
 
 -- of a cancelled request
 abbrev pub is_cancellation : DeadlineKind → Bool
@@ -77,7 +91,8 @@ pub record IsReplaced (before after : Deadline) (old new : List Deadline) : Type
   pub put : IsPermutation (after ∷ rest) new
 
 -- the ids ascend, each request has the id under which it is there, and each its deadline
-pub record AreIndexed (transport : TransportType) (all : Transactions) (ds : List Deadline) : Type 0 where
+pub record AreIndexed (transport : TransportType) (all : Transactions) (ds : List Deadline) : Type
+    0 where
   pub ascending : IsAscending all
   pub named : AllByRecursion IsNamed all
   pub index : IsIndexOf transport all ds
@@ -89,7 +104,8 @@ lesser one (Some other) = sooner one other
 
 -- the first moment of a request that is not cancelled, if there is any
 abbrev pub first_awaited : List Deadline → Option ℕ
-first_awaited ds = fold sooner None (map (λ d. d.moment) (filter (λ d. not (is_cancellation d.kind)) ds))
+first_awaited ds =
+    fold sooner None (map (λ d. d.moment) (filter (λ d. not (is_cancellation d.kind)) ds))
 
 -- the first moment, if there is any
 abbrev pub earliest : List Deadline → Option ℕ

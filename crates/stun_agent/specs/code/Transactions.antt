@@ -4,9 +4,11 @@ use Rattle.std.specs.declared.net.socket_addr.SocketAddr.{SocketAddr}
 use Rattle.stun_base.specs.declared.wire.transport.TransportType.{TransportType}
 use Rattle.stun_agent.specs.declared.state.deadlines.Deadline.{Deadline}
 use Rattle.stun_agent.specs.declared.state.transaction.Change.{Change}
-use Rattle.stun_agent.specs.declared.state.transaction.Change.TheVariants.{Silence, Cancel, Configure}
+use Rattle.stun_agent.specs.declared.state.transaction.Change.TheVariants.{Silence, Cancel}
+use Rattle.stun_agent.specs.declared.state.transaction.Change.TheVariants.{Configure}
 use Rattle.stun_agent.specs.Timing.{settings_of}
-use Rattle.stun_agent.specs.Transactions.{Transaction, Transactions, repeats, silenced, cancelled, configured}
+use Rattle.stun_agent.specs.Transactions.{Transaction, Transactions, repeats}
+use Rattle.stun_agent.specs.Transactions.{silenced, cancelled, configured}
 use Rattle.stun_agent.specs.code.Deadlines.{deadline_of}
 
 -- the outstanding requests, and the transport that carries them
@@ -33,5 +35,6 @@ after_change Cancel t = cancelled t
 after_change (Configure settings) t = configured (settings_of settings) t
 
 -- what a transaction awaits before a change and after it
-abbrev pub deadlines_around : TransportType → (Transaction → Transaction) → ℕ → Transaction → Deadline × Deadline
+abbrev pub deadlines_around : TransportType → (Transaction → Transaction) → ℕ → Transaction
+    → Deadline × Deadline
 deadlines_around transport f id t = (deadline_of transport (id, t), deadline_of transport (id, f t))

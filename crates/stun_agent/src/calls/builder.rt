@@ -54,8 +54,9 @@ impl<A: Allocator + Copy> StunAgentBuilder<A> {
         self
     }
 
-    /// Sets when requests are sent again and given up: the wait after the first transmission, the longest wait
-    /// between two, how many transmissions there are over UDP, and the wait after the last one.
+    /// Sets when requests are sent again and given up: the wait after the first transmission, the
+    /// longest wait between two, how many transmissions there are over UDP, and the wait after the
+    /// last one.
     pub fn request_retransmits(
         mut self,
         initial: Duration,

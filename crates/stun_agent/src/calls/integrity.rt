@@ -6,7 +6,8 @@ use stun_base::algorithm::IntegrityAlgorithm;
 use stun_base::attribute_type::AttributeType;
 use stun_types::message::MessageAttributesIter;
 
-/// The algorithm of the integrity attribute whose digest decides: the stronger one, where both are visible.
+/// The algorithm of the integrity attribute whose digest decides: the stronger one, where both are
+/// visible.
 pub(crate) fn integrity_of(bytes: &[u8]) -> Option<IntegrityAlgorithm>
     ensures { result ≡ signing_algorithm bytes.now }
 {

@@ -1,7 +1,9 @@
 //! Receiving: responses end their requests, and senders are validated.
-ghost use Rattle.std.specs.Prelude.{◌≡◌, ◌||◌, length, not, IsTrue, IsOk, IfOk, OnOk, OnErr, Some, None};
+ghost use Rattle.std.specs.Prelude.{◌≡◌, ◌||◌, length, not, IsTrue};
+ghost use Rattle.std.specs.Prelude.{IsOk, IfOk, OnOk, OnErr, Some, None};
 ghost use Rattle.std.specs.Option.{is_some};
-ghost use Rattle.stun_agent.specs.Agent.{with_validated, without_validated, answered, takes_message, after_message, after_response};
+ghost use Rattle.stun_agent.specs.Agent.{with_validated, without_validated, answered};
+ghost use Rattle.stun_agent.specs.Agent.{takes_message, after_message, after_response};
 ghost use Rattle.stun_agent.specs.Peers.{is_peer};
 
 use crate::agent::StunAgent;
@@ -20,8 +22,8 @@ impl<A: Allocator + Copy> StunAgent<A> {
         self.peers.contains(&addr)
     }
 
-    /// Names an address as one whose messages were taken. Where an allocation fails, the agent is as before. For an address
-    /// that is there already nothing is allocated.
+    /// Names an address as one whose messages were taken. Where an allocation fails, the agent is
+    /// as before. For an address that is there already nothing is allocated.
     pub fn validated_peer(&mut self, addr: SocketAddr) -> Result<(), AllocError>
         ensures ok { OnOk result (self.new ≡ with_validated addr self.old) }
         ensures err { OnErr result (self.new ≡ self.old) }
@@ -50,15 +52,18 @@ impl<A: Allocator + Copy> StunAgent<A> {
 
     /// Takes a message from an address, and tells whether it was taken.
     ///
-    /// A response is taken where a request of its transaction is outstanding and went to the very address that the
-    /// response comes from. The request ends, and the address is validated. Another response answers `false` and
-    /// changes nothing. A request or an indication is taken, and its address validated.
+    /// A response is taken where a request of its transaction is outstanding and went to the very
+    /// address that the response comes from. The request ends, and the address is validated.
+    /// Another response answers `false` and changes nothing. A request or an indication is taken,
+    /// and its address validated.
     ///
-    /// Ask the authenticator before: the agent checks no digest. Whoever can send from the address that was asked and
-    /// knows the id of the request, which is in the clear, else ends it by a forged response.
+    /// Ask the authenticator before: the agent checks no digest. Whoever can send from the address
+    /// that was asked and knows the id of the request, which is in the clear, else ends it by a
+    /// forged response.
     ///
-    /// Where an allocation fails to note the address, the agent is as before, and a response's request is still
-    /// outstanding. An address that is noted already, and a message that is not taken, do not allocate.
+    /// Where an allocation fails to note the address, the agent is as before, and a response's
+    /// request is still outstanding. An address that is noted already, and a message that is not
+    /// taken, do not allocate.
     ///
     /// A noted address stays until `forget_validated_peer`: bound from how many addresses you hand
     /// in messages, or forget those that you are done with.
@@ -76,8 +81,8 @@ impl<A: Allocator + Copy> StunAgent<A> {
         self.receive(msg, from, None)
     }
 
-    /// As `handle_stun_message`, at a moment: a response counts a round trip where `poll_transmit` has passed no timeout of its
-    /// request, which over TCP it never does.
+    /// As `handle_stun_message`, at a moment: a response counts a round trip where `poll_transmit`
+    /// has passed no timeout of its request, which over TCP it never does.
     pub fn handle_stun_message_with_time(
         &mut self,
         msg: &Message<'_>,

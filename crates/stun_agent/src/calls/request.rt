@@ -26,7 +26,8 @@ pub struct StunRequest<'a, A: Allocator = Global> {
     integrity: Option<IntegrityAlgorithm>,
 }
 
-/// An outstanding request that can be changed. What it says of its peer and its integrity stays when it ends.
+/// An outstanding request that can be changed. What it says of its peer and its integrity stays
+/// when it ends.
 #[derive(Drop)]
 #[derive_where(Debug)]
 pub struct StunRequestMut<'a, A: Allocator = Global> {
@@ -94,7 +95,8 @@ impl<'a, A: Allocator + Copy> StunRequest<'a, A> {
         self.peer_address
     }
 
-    /// The algorithm that the request was signed with when it was sent: that of the integrity attribute whose digest decides.
+    /// The algorithm that the request was signed with when it was sent: that of the integrity
+    /// attribute whose digest decides.
     pub fn integrity(&self) -> Option<IntegrityAlgorithm>
         ensures { result ≡ self.now.integrity }
     {
@@ -134,7 +136,8 @@ impl<'a, A: Allocator + Copy> StunRequestMut<'a, A> {
         self.peer_address
     }
 
-    /// The algorithm that the request was signed with when it was sent: that of the integrity attribute whose digest decides.
+    /// The algorithm that the request was signed with when it was sent: that of the integrity
+    /// attribute whose digest decides.
     pub fn integrity(&self) -> Option<IntegrityAlgorithm>
         ensures { result ≡ self.now.integrity }
     {
@@ -156,26 +159,28 @@ impl<'a, A: Allocator + Copy> StunRequestMut<'a, A> {
         self.agent
     }
 
-    /// Sends the request no more. It is still waited for, until its last wait is over, and then ends as cancelled.
-    /// Does not allocate, and does nothing where the request is no longer outstanding.
+    /// Sends the request no more. It is still waited for, until its last wait is over, and then
+    /// ends as cancelled. Does not allocate, and does nothing where the request is no longer
+    /// outstanding.
     pub fn cancel_retransmissions(&mut self)
         ensures { StaysWith self.old self.new (changed silenced self.old.id self.old.agent.now.transactions) }
     {
         self.agent.change(self.id, Change::Silence);
     }
 
-    /// Sends the request no more, and ends it at the next `poll` that reaches it; a response that comes before is
-    /// still taken. Does not allocate, and does nothing where the request is no longer outstanding.
+    /// Sends the request no more, and ends it at the next `poll` that reaches it; a response that
+    /// comes before is still taken. Does not allocate, and does nothing where the request is no
+    /// longer outstanding.
     pub fn cancel(&mut self)
         ensures { StaysWith self.old self.new (changed cancelled self.old.id self.old.agent.now.transactions) }
     {
         self.agent.change(self.id, Change::Cancel);
     }
 
-    /// Replaces the timeouts of the request: the wait after the first transmission, how many transmissions there
-    /// are over UDP, and the wait after the last one. Waits between transmissions have no maximum. The timeouts
-    /// that have passed, and the moment of the last one, stay.
-    /// Does not allocate, and does nothing where the request is no longer outstanding.
+    /// Replaces the timeouts of the request: the wait after the first transmission, how many
+    /// transmissions there are over UDP, and the wait after the last one. Waits between
+    /// transmissions have no maximum. The timeouts that have passed, and the moment of the last
+    /// one, stay. Does not allocate, and does nothing where the request is no longer outstanding.
     pub fn configure_timeout(
         &mut self,
         initial: Duration,

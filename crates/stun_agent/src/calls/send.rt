@@ -1,9 +1,12 @@
 //! Sending: what is to be sent, and what is kept of a request.
-ghost use Rattle.std.specs.Prelude.{◌≡◌, Some, None, Ok, Err, IsOk, IfOk, IfErr, OnOk, OnErr, IsErrOf, IsOkUnless, MatchOption};
+ghost use Rattle.std.specs.Prelude.{◌≡◌, Some, None, Ok, Err, IsOk, IfOk, IfErr};
+ghost use Rattle.std.specs.Prelude.{OnOk, OnErr, IsErrOf, IsOkUnless, MatchOption};
 ghost use Rattle.std.specs.Borrow.{sem};
 ghost use Rattle.stun_base.specs.Header.{transaction_id_field};
 ghost use Rattle.stun_base.specs.MessageType.{class_in};
-ghost use Rattle.stun_agent.specs.Agent.{address_refusal, class_refusal, sending_refusal, after_send, request_refusal, request_of, after_send_request};
+ghost use Rattle.stun_agent.specs.Agent.{address_refusal, class_refusal};
+ghost use Rattle.stun_agent.specs.Agent.{sending_refusal, after_send, request_refusal};
+ghost use Rattle.stun_agent.specs.Agent.{request_of, after_send_request};
 ghost use Rattle.stun_agent.specs.Datagrams.{parts, lent_datagram};
 ghost use Rattle.stun_agent.specs.Transactions.{IsRequestOf, at};
 
@@ -27,7 +30,8 @@ impl<A: Allocator + Copy> StunAgent<A> {
 
     /// What is to be sent of bytes that are no message of STUN. Nothing is counted.
     ///
-    /// The error is `ProtocolViolation` where the agent is to speak to another address. Then the bytes are dropped.
+    /// The error is `ProtocolViolation` where the agent is to speak to another address. Then the
+    /// bytes are dropped.
     pub fn send_data<T: OwnedBytes + Drop>(
         &self,
         bytes: T,
@@ -60,10 +64,10 @@ impl<A: Allocator + Copy> StunAgent<A> {
 
     /// What is to be sent of an indication or a response. Where statistics are kept it is counted.
     ///
-    /// The errors, in the order in which they are looked for: `ParseError` where the bytes do not begin with a
-    /// header, `ProtocolViolation` for a request, `ProtocolViolation` where the agent is to speak to another
-    /// address. After an error the agent is as before, and the message is dropped. Does not allocate.
-    /// The moment is not used: the Rust crate's call has it.
+    /// The errors, in the order in which they are looked for: `ParseError` where the bytes do not
+    /// begin with a header, `ProtocolViolation` for a request, `ProtocolViolation` where the agent
+    /// is to speak to another address. After an error the agent is as before, and the message is
+    /// dropped. Does not allocate. The moment is not used: the Rust crate's call has it.
     pub fn send<T: OwnedBytes + Drop>(
         &mut self,
         msg: T,
@@ -85,11 +89,12 @@ impl<A: Allocator + Copy> StunAgent<A> {
 
     /// Keeps a request, and lends its bytes to be sent.
     ///
-    /// The agent awaits its response from `now` on: `poll_transmit` sends it again, and `poll` ends it.
-    /// The errors, in the order in which they are looked for: `ParseError` where the bytes do not begin with a
-    /// header, `ProtocolViolation` for another class, `ProtocolViolation` where the agent is to speak to another
-    /// address, `AlreadyInProgress` where a request of its transaction is outstanding, `OutOfMemory` where the bytes
-    /// cannot be kept. After an error the agent is as before, and the message is dropped.
+    /// The agent awaits its response from `now` on: `poll_transmit` sends it again, and `poll` ends
+    /// it. The errors, in the order in which they are looked for: `ParseError` where the bytes do
+    /// not begin with a header, `ProtocolViolation` for another class, `ProtocolViolation` where
+    /// the agent is to speak to another address, `AlreadyInProgress` where a request of its
+    /// transaction is outstanding, `OutOfMemory` where the bytes cannot be kept. After an error the
+    /// agent is as before, and the message is dropped.
     pub fn send_request<T: OwnedBytes + Drop>(
         &mut self,
         msg: T,

@@ -57,8 +57,9 @@ impl<T: OwnedBytes> Transmit<T> {
 impl<'a, A: Allocator> Transmit<Data<'a, A>> {
     ghost use Rattle.stun_agent.specs.Datagrams.{parts, datagram};
 
-    /// The same with owned bytes. Owned bytes move as they are and do not allocate. Borrowed bytes are copied into
-    /// memory of `alloc`; the one error is that this allocation fails, and then all is dropped.
+    /// The same with owned bytes. Owned bytes move as they are and do not allocate. Borrowed bytes
+    /// are copied into memory of `alloc`; the one error is that this allocation fails, and then all
+    /// is dropped.
     pub fn into_owned<'b>(self, alloc: A) -> Result<Transmit<Data<'b, A>>, AllocError>
         ensures same { IfOk result (λ owned. datagram owned ≡ datagram self.entry) }
         ensures owned { IfOk result (λ owned. IsOwned (parts owned).0) }

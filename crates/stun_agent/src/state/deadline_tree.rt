@@ -1,9 +1,14 @@
 //! Deadlines in a tree, which is a heap by their moments and a radix tree by their ids.
-ghost use Rattle.std.specs.Prelude.{◌≡◌, ℕ, [], ◌∷◌, ◌+◌, ◌≤◌, fold, map, None, IfOk, IfSome, IsPermutation};
+ghost use Rattle.std.specs.Prelude.{◌≡◌, ℕ, [], ◌∷◌, ◌+◌, ◌≤◌, fold, map};
+ghost use Rattle.std.specs.Prelude.{None, IfOk, IfSome, IsPermutation};
 ghost use Rattle.std.specs.Option.{is_some};
 ghost use Rattle.stun_agent.specs.Transactions.{sooner};
 ghost use Rattle.stun_agent.specs.code.Deadlines.{early, entries_at, is_passed, lesser};
-ghost use Rattle.stun_agent.specs.code.DeadlineTree.{items, below, middle, height, height_below, is_no_later, IsAlone, IsExchanged, IsLast, IsTree, IsBelow, IsWithin, TakesFirst, TakesNext, TakesOut, first_of, next_of, IsSearch, least_come, first_has_come, with_id};
+ghost use Rattle.stun_agent.specs.code.DeadlineTree.{items, below, middle, height, height_below};
+ghost use Rattle.stun_agent.specs.code.DeadlineTree.{is_no_later, IsAlone, IsExchanged, IsLast};
+ghost use Rattle.stun_agent.specs.code.DeadlineTree.{IsTree, IsBelow, IsWithin, TakesFirst};
+ghost use Rattle.stun_agent.specs.code.DeadlineTree.{TakesNext, TakesOut, first_of, next_of};
+ghost use Rattle.stun_agent.specs.code.DeadlineTree.{IsSearch, least_come, first_has_come, with_id};
 ghost use Rattle.stun_agent.specs.declared.state.deadline_tree.Link.TheVariants.{Empty};
 
 use crate::state::deadlines::{Deadline, Reads};
@@ -313,8 +318,8 @@ fn unlink<A: Allocator>(link: &mut Link<A>) -> Option<Box<Node<A>, A>>
     }
 }
 
-/// The least id among those below a link whose moment has come, and this one. It goes down one path:
-/// where one on the left has come, none on the right is less.
+/// The least id among those below a link whose moment has come, and this one. It goes down one
+/// path: where one on the left has come, none on the right is less.
 fn least_of_all<A: Allocator, L: Ledger>(
     link: &Link<A>,
     now: Instant,

@@ -1,8 +1,11 @@
 //! What outstanding requests await, in a tree for each kind.
-ghost use Rattle.std.specs.Prelude.{◌≡◌, [], ◌∷◌, ◌+◌, ◌<◌, ◌≤◌, codes, Some, IsSomeAnd, IsPermutation};
+ghost use Rattle.std.specs.Prelude.{◌≡◌, [], ◌∷◌, ◌+◌, ◌<◌, ◌≤◌, codes};
+ghost use Rattle.std.specs.Prelude.{Some, IsSomeAnd, IsPermutation};
 ghost use Rattle.std.specs.Fmt.{WritesOnOk};
 ghost use Rattle.stun_agent.specs.Deadlines.{most_reads, IsUnused};
-ghost use Rattle.stun_agent.specs.code.Deadlines.{earliest, has_come, early, lesser, least_due, least_ended, first_awaited, entries_at, IsReplaced};
+ghost use Rattle.stun_agent.specs.code.Deadlines.{earliest, has_come, early, lesser};
+ghost use Rattle.stun_agent.specs.code.Deadlines.{least_due, least_ended, first_awaited};
+ghost use Rattle.stun_agent.specs.code.Deadlines.{entries_at, IsReplaced};
 
 use crate::state::deadline_tree::{DeadlineTree, Entry};
 use std::alloc::{Allocator, Global};
@@ -31,8 +34,8 @@ pub(crate) struct Deadline {
     pub(crate) kind: DeadlineKind,
 }
 
-/// Deadlines, in a tree for each kind, since each question is about one or two kinds. A contract sees them in one list,
-/// in no order.
+/// Deadlines, in a tree for each kind, since each question is about one or two kinds. A contract
+/// sees them in one list, in no order.
 #[derive(Drop)]
 #[derive_where(Debug)]
 pub(crate) struct DeadlineIndex<A: Allocator = Global> {
@@ -90,7 +93,8 @@ impl<A: Allocator> DeadlineIndex<A> {
         }
     }
 
-    /// Puts another deadline of a request in place of the one that it has, where it is another one. Does not allocate.
+    /// Puts another deadline of a request in place of the one that it has, where it is another one.
+    /// Does not allocate.
     pub(crate) fn replace(&mut self, before: Deadline, after: Deadline)
         requires there { entries_at before.id self.old ≡ before ∷ [] }
         requires same { after.id ≡ before.id }

@@ -1,8 +1,11 @@
 //! The requests that wait, with the index of what they await: each call keeps both together.
-ghost use Rattle.std.specs.Prelude.{◌≡◌, ◌+◌, ◌≤◌, ◌<◌, [], length, Some, None, IfSome, IsSomeAnd, IfOk, OnOk, OnErr};
+ghost use Rattle.std.specs.Prelude.{◌≡◌, ◌+◌, ◌≤◌, ◌<◌, [], length, Some, None};
+ghost use Rattle.std.specs.Prelude.{IfSome, IsSomeAnd, IfOk, OnOk, OnErr};
 ghost use Rattle.std.specs.Option.{option_map, option_copied};
 ghost use Rattle.stun_agent.specs.Deadlines.{early_requests, most_reads, IsUnused};
-ghost use Rattle.stun_agent.specs.Transactions.{AreKept, at, with, without, changed, first_over, wake_up, next_awaited, next_sent, after_slots, IsNamed};
+ghost use Rattle.stun_agent.specs.Transactions.{AreKept, at, with, without, changed};
+ghost use Rattle.stun_agent.specs.Transactions.{first_over, wake_up, next_awaited};
+ghost use Rattle.stun_agent.specs.Transactions.{next_sent, after_slots, IsNamed};
 ghost use Rattle.stun_agent.specs.code.Transactions.{contents, id_and_repeats, after_change};
 
 use crate::error::NoRoom;
@@ -22,8 +25,8 @@ use stun_base::transport::TransportType;
 /// An agent asks to be polled at least so often.
 const LONGEST_WAIT_SECONDS: u64 = 3600;
 
-/// The requests that wait for their responses, by their ids, the transport that carries them, and what they await,
-/// by the moments. A contract sees the requests and the transport.
+/// The requests that wait for their responses, by their ids, the transport that carries them, and
+/// what they await, by the moments. A contract sees the requests and the transport.
 #[derive(Drop)]
 #[derive_where(Debug)]
 pub(crate) struct Outstanding<A: Allocator = Global> {
@@ -132,8 +135,8 @@ impl<A: Allocator + Copy> Outstanding<A> {
         self.deadlines.first_awaited()
     }
 
-    /// Passes the slots that are due, and tells of the request that is to be sent again its id and how many bytes it
-    /// has. Where that is more than there is room for, nothing changes.
+    /// Passes the slots that are due, and tells of the request that is to be sent again its id and
+    /// how many bytes it has. Where that is more than there is room for, nothing changes.
     pub(crate) fn pass_due_slots(
         &mut self,
         now: Instant,

@@ -1,7 +1,8 @@
 //! When a request is sent again, and when it is given up.
 ghost use Rattle.std.specs.Prelude.{◌≡◌, ◌≤◌, ◌*◌, ◌^◌};
 ghost use Rattle.std.specs.Duration.{as_nanos, max_nanos};
-ghost use Rattle.stun_agent.specs.Timing.{settings_of, default_settings, timeout, slots, final_wait, repetitions, sum_of_timeouts};
+ghost use Rattle.stun_agent.specs.Timing.{settings_of, default_settings, timeout, slots};
+ghost use Rattle.stun_agent.specs.Timing.{final_wait, repetitions, sum_of_timeouts};
 
 use std::time::Duration;
 use stun_base::transport::TransportType;
@@ -12,11 +13,13 @@ const DOUBLINGS: u32 = 94;
 /// When a request is sent again, and when it is given up (RFC 8489, sections 6.2.1 and 6.2.2).
 #[derive(Clone, Copy, Debug, PartialEq, Eq)]
 pub struct RequestRto {
-    /// The wait after the first transmission (RTO in section 6.2.1). Each further wait is twice as long.
+    /// The wait after the first transmission (RTO in section 6.2.1). Each further wait is twice as
+    /// long.
     pub initial: Duration,
     /// No wait between transmissions is longer.
     pub max: Duration,
-    /// How many times the request is sent over UDP, the first time included (Rc in section 6.2.1). 0 counts as 1.
+    /// How many times the request is sent over UDP, the first time included (Rc in section 6.2.1).
+    /// 0 counts as 1.
     pub retransmits: u32,
     /// The wait after the last transmission over UDP (Rm times RTO in section 6.2.1).
     pub last_retransmit: Duration,
@@ -54,8 +57,8 @@ impl RequestRto {
         Duration::from_nanos_u128(self.timeout_nanos(i))
     }
 
-    /// The wait from the last transmission to the end. Over TCP it is as long as all waits over UDP together,
-    /// and at most `Duration::MAX`.
+    /// The wait from the last transmission to the end. Over TCP it is as long as all waits over UDP
+    /// together, and at most `Duration::MAX`.
     pub fn final_wait(&self, transport: TransportType) -> Duration
         ensures { as_nanos result ≡ final_wait transport (settings_of self.now) }
     {

@@ -4,7 +4,9 @@ ghost use Rattle.stun_base.specs.Address.{same_address};
 ghost use Rattle.stun_agent.specs.code.Deadlines.{deadline_of};
 ghost use Rattle.stun_agent.specs.code.Transactions.{length_sent, after_change};
 ghost use Rattle.stun_agent.specs.Timing.{settings_of};
-ghost use Rattle.stun_agent.specs.Transactions.{repeats, is_cancelled, after_silence, new_transaction, has_slots, awaited, is_due, after_slot, round_trip};
+ghost use Rattle.stun_agent.specs.Transactions.{repeats, is_cancelled, after_silence};
+ghost use Rattle.stun_agent.specs.Transactions.{new_transaction, has_slots, awaited};
+ghost use Rattle.stun_agent.specs.Transactions.{is_due, after_slot, round_trip};
 
 use crate::state::address::is_same;
 use crate::state::deadlines::{Deadline, DeadlineKind};

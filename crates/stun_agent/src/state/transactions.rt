@@ -4,8 +4,10 @@ ghost use Rattle.std.specs.Ordering.{nat_cmp};
 ghost use Rattle.std.specs.BTreeMap.{get};
 ghost use Rattle.std.specs.Option.{option_map};
 ghost use Rattle.stun_agent.specs.code.Deadlines.{IsIndexOf};
-ghost use Rattle.stun_agent.specs.Transactions.{repeats, IsAscending, at, sooner, is_due, next_sent, after_slot, after_slots, changed};
-ghost use Rattle.stun_agent.specs.code.Transactions.{contents, length_sent, after_change, deadlines_around};
+ghost use Rattle.stun_agent.specs.Transactions.{repeats, IsAscending, at, sooner, is_due};
+ghost use Rattle.stun_agent.specs.Transactions.{next_sent, after_slot, after_slots, changed};
+ghost use Rattle.stun_agent.specs.code.Transactions.{contents, length_sent};
+ghost use Rattle.stun_agent.specs.code.Transactions.{after_change, deadlines_around};
 
 use crate::state::deadlines::{Deadline, DeadlineIndex};
 use crate::state::transaction::{Change, Transaction};
@@ -44,8 +46,8 @@ pub(crate) fn sooner(least: Option<Instant>, moment: Instant) -> Instant
     }
 }
 
-/// Passes the slots that are due, up to the one of the transaction that is sent again, and tells its id and how many
-/// bytes it has.
+/// Passes the slots that are due, up to the one of the transaction that is sent again, and tells
+/// its id and how many bytes it has.
 pub(crate) fn pass_slots<A: Allocator>(
     all: &mut Transactions<A>,
     deadlines: &mut DeadlineIndex<A>,
@@ -72,7 +74,8 @@ pub(crate) fn pass_slots<A: Allocator>(
     None
 }
 
-/// Passes the slot of the transaction at an id, and tells how many bytes it has where it is sent again.
+/// Passes the slot of the transaction at an id, and tells how many bytes it has where it is sent
+/// again.
 fn pass_slot<A: Allocator>(
     all: &mut Transactions<A>,
     deadlines: &mut DeadlineIndex<A>,
@@ -92,8 +95,8 @@ fn pass_slot<A: Allocator>(
     sent
 }
 
-/// Lets the transaction at an id take its slot, and tells what it awaited before and awaits now, and how many bytes it
-/// has where it is sent again.
+/// Lets the transaction at an id take its slot, and tells what it awaited before and awaits now,
+/// and how many bytes it has where it is sent again.
 fn take_slot<A: Allocator>(
     all: &mut Transactions<A>,
     transport: TransportType,
@@ -116,7 +119,8 @@ fn take_slot<A: Allocator>(
     ))
 }
 
-/// Changes the transaction at an id, where there is one, and tells what it awaited before and awaits now.
+/// Changes the transaction at an id, where there is one, and tells what it awaited before and
+/// awaits now.
 pub(crate) fn change<A: Allocator>(
     all: &mut Transactions<A>,
     transport: TransportType,

@@ -2,7 +2,9 @@
 ghost use Rattle.std.specs.Prelude.{◌≡◌, if◌then◌else◌};
 ghost use Rattle.std.specs.Option.{option_map};
 ghost use Rattle.stun_agent.specs.Agent.{sending_tally};
-ghost use Rattle.stun_agent.specs.Statistics.{counted, request_sent_again, request_received, indication_received, response_received, timed_out, cancelled};
+ghost use Rattle.stun_agent.specs.Statistics.{counted, request_sent_again};
+ghost use Rattle.stun_agent.specs.Statistics.{request_received, indication_received};
+ghost use Rattle.stun_agent.specs.Statistics.{response_received, timed_out, cancelled};
 
 use crate::stats::StunAgentStats;
 use stun_base::message_type::MessageClass;
@@ -52,7 +54,8 @@ pub(crate) fn count_indication_received(stats: &mut Option<StunAgentStats>, byte
     stats.count_indication_received(bytes as u64);
 }
 
-/// Counts a response of so many bytes to an outstanding request, and its round trip where it is known.
+/// Counts a response of so many bytes to an outstanding request, and its round trip where it is
+/// known.
 pub(crate) fn count_response_received(
     stats: &mut Option<StunAgentStats>,
     bytes: usize,

@@ -60,7 +60,8 @@ fn a_counter_fills_up(rt: HostRuntime) -> Result<(), Fail> {
     Ok(())
 }
 
-/// The mean of a full sum is that sum divided by the count: of 2^128 - 1 nanoseconds by 2^64 - 1, which is 2^64 + 1.
+/// The mean of a full sum is that sum divided by the count: of 2^128 - 1 nanoseconds by 2^64 - 1,
+/// which is 2^64 + 1.
 #[test]
 fn the_mean_of_a_full_sum_is_rounded_down(rt: HostRuntime) -> Result<(), Fail> {
     let stats = full();

@@ -3,8 +3,12 @@ use Rattle.std.specs.Prelude.{map}
 use Rattle.stun_types.specs.Attribute.{TypedValue}
 use Rattle.stun_types.specs.PasswordAlgorithms.{integrity_of}
 use Rattle.stun_auth.specs.declared.message.addition.AddedAttribute.{AddedAttribute}
-use Rattle.stun_auth.specs.declared.message.addition.AddedAttribute.TheVariants.{Nonce, Realm, Username, Userhash, PasswordAlgorithms, PasswordAlgorithm}
-use Rattle.stun_auth.specs.AddedAttribute.{nonce, password_algorithm, password_algorithms, realm, userhash, username}
+use Rattle.stun_auth.specs.declared.message.addition.AddedAttribute.TheVariants.{Nonce, Realm}
+use Rattle.stun_auth.specs.declared.message.addition.AddedAttribute.TheVariants.{Username, Userhash}
+use Rattle.stun_auth.specs.declared.message.addition.AddedAttribute.TheVariants.{PasswordAlgorithms}
+use Rattle.stun_auth.specs.declared.message.addition.AddedAttribute.TheVariants.{PasswordAlgorithm}
+use Rattle.stun_auth.specs.AddedAttribute.{nonce, password_algorithm, password_algorithms}
+use Rattle.stun_auth.specs.AddedAttribute.{realm, userhash, username}
 
 -- the attribute that is added
 abbrev pub attribute_of : AddedAttribute → TypedValue

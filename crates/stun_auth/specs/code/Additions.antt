@@ -8,11 +8,16 @@ abbrev pub outcome_of : {V : Type 0} → Result V StunWriteError → Page → Re
 outcome_of (Ok value) page = Ok page
 outcome_of (Err reason) page = Err reason
 
--- a call answers what the additions come to on the page before it, and a failed allocation only where one is needed for them
+-- a call answers what the additions come to on the page before it, and a failed allocation only
+-- where one is needed for them
 abbrev pub IsOutcome : List Addition → Page → ℕ → Result (Unit {0}) StunWriteError → Page → Type 0
-IsOutcome list page reserved result page_after = UnlessMemory result (outcome_of result page_after ≡ added_all list page) (WantsMemory list page reserved)
+IsOutcome list page reserved result page_after =
+    UnlessMemory result (outcome_of result page_after ≡ added_all list page)
+    (WantsMemory list page reserved)
 
 -- it does, and leaves reserved what it does not take
-pub record IsAdded (list : List Addition) (page : Page) (reserved : ℕ) (result : Result (Unit {0}) StunWriteError) (page_after : Page) (reserved_after : ℕ) : Type 0 where
+pub record IsAdded (list : List Addition) (page : Page) (reserved : ℕ)
+    (result : Result (Unit {0}) StunWriteError) (page_after : Page) (reserved_after : ℕ) : Type
+    0 where
   pub outcome : IsOutcome list page reserved result page_after
   pub kept : OnOk result (reserved ≤ reserved_after + growth list)

@@ -19,7 +19,13 @@ parts_of (V6 a) = inr (a.ip.segments, (a.port, (a.flowinfo, a.scope_id)))
 
 abbrev pub from_parts : V4Parts ⊎ V6Parts → SocketAddr
 from_parts (inl p) = V4 (record { ip = record { octets = p.0 }; port = p.1 })
-from_parts (inr p) = V6 (record { ip = record { segments = p.0 }; port = p.1.0; flowinfo = p.1.1.0; scope_id = p.1.1.1 })
+from_parts (inr p) =
+    V6 (record {
+      ip = record { segments = p.0 };
+      port = p.1.0;
+      flowinfo = p.1.1.0;
+      scope_id = p.1.1.1;
+    })
 
 pub parts_again : (a : SocketAddr) → from_parts (parts_of a) ≡ a
 parts_again (V4 a) = refl
@@ -27,4 +33,5 @@ parts_again (V6 a) = refl
 
 abbrev pub coded_address : Coded SocketAddr
 coded_address = code_by (V4Parts ⊎ V6Parts) (coded⊎ (coded× (coded_list coded_ℕ) coded_ℕ)
-    (coded× (coded_list coded_ℕ) (coded× coded_ℕ (coded× coded_ℕ coded_ℕ)))) parts_of from_parts parts_again
+    (coded× (coded_list coded_ℕ) (coded× coded_ℕ (coded× coded_ℕ coded_ℕ)))) parts_of from_parts
+    parts_again

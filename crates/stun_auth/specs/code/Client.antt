@@ -1,13 +1,15 @@
 -- What a client is set to and keeps, as data, for Models.
 use Rattle.std.specs.Prelude.{◌≡◌, ℕ, List, Bool, true, false, Option, Some, None, ◌⊎◌, refl}
 use Rattle.std.proofs.Common.{inl, inr}
-use Rattle.std.specs.Coded.{Coded, code_by, coded×, coded⊎, coded_ℕ, coded_bool, coded_list, coded_option}
+use Rattle.std.specs.Coded.{Coded, code_by, coded×, coded⊎, coded_ℕ}
+use Rattle.std.specs.Coded.{coded_bool, coded_list, coded_option}
 use Rattle.stun_base.specs.Credentials.{NameAndPassword}
 use Rattle.stun_base.specs.declared.keys.algorithm.IntegrityAlgorithm.{IntegrityAlgorithm}
 use Rattle.stun_auth.specs.code.Algorithms.{coded_algorithm}
 use Rattle.stun_auth.specs.code.Feature.{coded_feature}
 use Rattle.stun_auth.specs.declared.feature.Feature.{Feature}
-use Rattle.stun_auth.specs.Client.{Challenge, ClientSettings, ClientSide, ClientState, Naming, authenticated, authenticating, hashed, initial, plain}
+use Rattle.stun_auth.specs.Client.{Challenge, ClientSettings, ClientSide, ClientState, Naming}
+use Rattle.stun_auth.specs.Client.{authenticated, authenticating, hashed, initial, plain}
 
 -- ---- a client as data
 abbrev pub naming_parts : Naming → List ℕ ⊎ List ℕ
@@ -23,13 +25,27 @@ naming_again (plain name) = refl
 naming_again (hashed hash) = refl
 
 abbrev pub coded_naming : Coded Naming
-coded_naming = code_by (List ℕ ⊎ List ℕ) (coded⊎ (coded_list coded_ℕ) (coded_list coded_ℕ)) naming_parts from_naming_parts naming_again
+coded_naming =
+    code_by (List ℕ ⊎ List ℕ) (coded⊎ (coded_list coded_ℕ) (coded_list coded_ℕ)) naming_parts
+    from_naming_parts naming_again
 
 abbrev pub coded_challenge : Coded Challenge
-coded_challenge = code_by (Naming × (List ℕ × (List ℕ × (List IntegrityAlgorithm × (IntegrityAlgorithm × List ℕ)))))
-    (coded× coded_naming (coded× (coded_list coded_ℕ) (coded× (coded_list coded_ℕ) (coded× (coded_list coded_algorithm) (coded× coded_algorithm (coded_list coded_ℕ))))))
+coded_challenge =
+    code_by (Naming
+    × (List ℕ × (List ℕ × (List IntegrityAlgorithm × (IntegrityAlgorithm × List ℕ)))))
+    (coded× coded_naming
+    (coded× (coded_list coded_ℕ)
+    (coded× (coded_list coded_ℕ)
+    (coded× (coded_list coded_algorithm) (coded× coded_algorithm (coded_list coded_ℕ))))))
     (λ c. (c.naming, (c.realm, (c.nonce, (c.algorithms, (c.algorithm, c.key))))))
-    (λ p. record { naming = p.0; realm = p.1.0; nonce = p.1.1.0; algorithms = p.1.1.1.0; algorithm = p.1.1.1.1.0; key = p.1.1.1.1.1 }) (λ _. refl)
+    (λ p. record {
+      naming = p.0;
+      realm = p.1.0;
+      nonce = p.1.1.0;
+      algorithms = p.1.1.1.0;
+      algorithm = p.1.1.1.1.0;
+      key = p.1.1.1.1.1;
+    }) (λ _. refl)
 
 abbrev pub state_parts : ClientState → Option (Bool × Challenge)
 state_parts initial = None
@@ -47,14 +63,19 @@ state_again (authenticating c) = refl
 state_again (authenticated c) = refl
 
 abbrev pub coded_user : Coded NameAndPassword
-coded_user = code_by (List ℕ × List ℕ) (coded× (coded_list coded_ℕ) (coded_list coded_ℕ)) (λ u. (u.username, u.password)) (λ p. record { username = p.0; password = p.1 }) (λ _. refl)
+coded_user =
+    code_by (List ℕ × List ℕ) (coded× (coded_list coded_ℕ) (coded_list coded_ℕ))
+    (λ u. (u.username, u.password)) (λ p. record { username = p.0; password = p.1 }) (λ _. refl)
 
 abbrev pub coded_settings : Coded ClientSettings
 coded_settings = code_by (List IntegrityAlgorithm × (Feature × Option NameAndPassword))
     (coded× (coded_list coded_algorithm) (coded× coded_feature (coded_option coded_user)))
-    (λ s. (s.supported, (s.feature, s.credentials))) (λ p. record { supported = p.0; feature = p.1.0; credentials = p.1.1 }) (λ _. refl)
+    (λ s. (s.supported, (s.feature, s.credentials)))
+    (λ p. record { supported = p.0; feature = p.1.0; credentials = p.1.1 }) (λ _. refl)
 
 abbrev pub coded_client_side : Coded ClientSide
 coded_client_side = code_by (ClientSettings × ClientState)
-    (coded× coded_settings (code_by (Option (Bool × Challenge)) (coded_option (coded× coded_bool coded_challenge)) state_parts from_state_parts state_again))
+    (coded× coded_settings
+    (code_by (Option (Bool × Challenge)) (coded_option (coded× coded_bool coded_challenge))
+    state_parts from_state_parts state_again))
     (λ c. (c.settings, c.state)) (λ p. record { settings = p.0; state = p.1 }) (λ _. refl)

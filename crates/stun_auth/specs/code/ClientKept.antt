@@ -3,7 +3,8 @@ use Rattle.std.specs.Prelude.{◌≤◌, length, map, Result, Ok, Err, string_by
 use Rattle.std.specs.Option.{IfSome, option_map}
 use Rattle.stun_types.specs.Limits.{TEXT_LIMIT}
 use Rattle.stun_types.specs.PasswordAlgorithms.{integrity_of}
-use Rattle.stun_auth.specs.Client.{Naming, plain, hashed, Challenge, ClientState, initial, authenticating, authenticated}
+use Rattle.stun_auth.specs.Client.{Naming, plain, hashed, Challenge, ClientState}
+use Rattle.stun_auth.specs.Client.{initial, authenticating, authenticated}
 use Rattle.stun_auth.specs.ClientSigning.{kept_challenge}
 use Rattle.stun_auth.specs.ClientStep.{kept}
 use Rattle.stun_auth.specs.declared.client.challenge.Refusal.{Refusal}
@@ -35,11 +36,15 @@ state_seen (State.Authenticated c) = authenticated (challenge_seen c)
 
 -- nonce and realm that are kept are within their limits
 abbrev pub KeepsShortTexts : ClientState → Type 0
-KeepsShortTexts state = IfSome (kept_challenge state) (λ c. (length c.nonce ≤ TEXT_LIMIT) × (length c.realm ≤ TEXT_LIMIT))
+KeepsShortTexts state =
+    IfSome (kept_challenge state)
+    (λ c. (length c.nonce ≤ TEXT_LIMIT) × (length c.realm ≤ TEXT_LIMIT))
 
 -- the challenge that an offer comes to
 abbrev pub offer_kept : Feature → Offer → Challenge
-offer_kept feature o = kept feature (record { username = o.username.now; password = o.password.now }) o.realm.now o.nonce.now (option_map (map integrity_of) o.list) o.algorithm
+offer_kept feature o =
+    kept feature (record { username = o.username.now; password = o.password.now }) o.realm.now
+    o.nonce.now (option_map (map integrity_of) o.list) o.algorithm
 
 abbrev pub offer_seen : Feature → Result Offer Refusal → Result Challenge Refusal
 offer_seen feature (Ok o) = Ok (offer_kept feature o)

@@ -1,4 +1,5 @@
--- What the code comes to at an address where a message needs a nonce: the place, the verdict, the client, and what is left.
+-- What the code comes to at an address where a message needs a nonce: the place, the verdict, the
+-- client, and what is left.
 use Rattle.std.specs.Prelude.{◌≡◌, ℕ, List, [], if◌then◌else◌, Option, Some, None}
 use Rattle.std.specs.FinMap as map
 use Rattle.std.specs.String.{string_bytes}
@@ -31,7 +32,8 @@ judged (Err refusal) = Err refusal
 
 -- the name that a message gives, whether that user is present or not
 abbrev pub name_by : Option (List ℕ) → Option (List ℕ) → Registered → Feature → Option (List ℕ)
-name_by (Some hash) username users feature = if is_possible feature then name_with_hash users hash else None
+name_by (Some hash) username users feature =
+    if is_possible feature then name_with_hash users hash else None
 name_by None username users feature = username
 
 abbrev pub name_in : Registered → Feature → Reading → Option (List ℕ)
@@ -41,7 +43,8 @@ name_in users feature r = name_by r.userhash r.username users feature
 abbrev pub renewal_seen : {A : Type 0} → Renewal A → List ℕ × ℕ
 renewal_seen renewal = (string_bytes renewal.nonce.text, renewal.expires)
 
--- the place at which a message is judged: with the new nonce, if one was made, and else as it is kept
+-- the place at which a message is judged: with the new nonce, if one was made, and else as it is
+-- kept
 abbrev pub place_with : Option PlaceSeen → Option (List ℕ × ℕ) → PlaceSeen
 place_with None None = renewed None [] 0
 place_with None (Some new) = renewed None new.0 new.1
@@ -67,7 +70,8 @@ place_left place (Known a) = place
 place_left place (New client) = record place { client = Some (client_seen client) }
 
 -- the places that are left
-abbrev pub places_left : {A : Type 0} → PlacesSeen → SocketAddr → Option (List ℕ × ℕ) → Judgement A → PlacesSeen
+abbrev pub places_left : {A : Type 0} → PlacesSeen → SocketAddr → Option (List ℕ × ℕ) → Judgement A
+    → PlacesSeen
 places_left places from None judged = with_change places from (λ p. place_left p judged)
 places_left places from (Some new) judged =
     map.insert places from (place_left (renewed (map.get places from) new.0 new.1) judged)
@@ -79,10 +83,13 @@ new_nonce s now words place =
     else Some (nonce_of s.registered.algorithms s.feature words, moment_after now s.expiry)
 
 -- what a message came to at a place tells and leaves what the verdict does
-pub record IsJudged {A : Type 0} (users : Registered) (feature : Feature) (r : Reading) (place : PlaceSeen) (judged : Judgement A) : Type 0 where
+pub record IsJudged {A : Type 0} (users : Registered) (feature : Feature) (r : Reading)
+    (place : PlaceSeen) (judged : Judgement A) : Type 0 where
   pub answer : answered judged ≡ answer_to (verdict users feature place.nonce place.offered r)
-  pub left : place_left place judged ≡ with_accepted place (verdict users feature place.nonce place.offered r)
+  pub left : place_left place judged
+      ≡ with_accepted place (verdict users feature place.nonce place.offered r)
 
 -- the verdict leaves the place as it is
 abbrev pub ChangesNoPlace : Registered → Feature → Reading → PlaceSeen → Type 0
-ChangesNoPlace users feature r place = with_accepted place (verdict users feature place.nonce place.offered r) ≡ place
+ChangesNoPlace users feature r place =
+    with_accepted place (verdict users feature place.nonce place.offered r) ≡ place

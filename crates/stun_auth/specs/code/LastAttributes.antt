@@ -2,7 +2,9 @@
 use Rattle.std.specs.Prelude.{ℕ, ◌==◌, ◌||◌, if◌then◌else◌, List, Option, Some, None}
 use Rattle.std.specs.List.{find}
 use Rattle.std.specs.Option.{is_some, option_and_then, option_map, option_or}
-use Rattle.stun_base.specs.Attributes.{ERROR_CODE, MESSAGE_INTEGRITY, MESSAGE_INTEGRITY_SHA256, NONCE, PASSWORD_ALGORITHM, PASSWORD_ALGORITHMS, REALM, USERHASH, USERNAME}
+use Rattle.stun_base.specs.Attributes.{ERROR_CODE, MESSAGE_INTEGRITY}
+use Rattle.stun_base.specs.Attributes.{MESSAGE_INTEGRITY_SHA256, NONCE, PASSWORD_ALGORITHM}
+use Rattle.stun_base.specs.Attributes.{PASSWORD_ALGORITHMS, REALM, USERHASH, USERNAME}
 use Rattle.stun_base.specs.declared.wire.message_type.MessageClass.{MessageClass}
 use Rattle.stun_types.specs.Attribute.{TypedValue}
 use Rattle.stun_types.specs.ErrorCode.{CodeAndReason, error_of}
@@ -27,7 +29,8 @@ last_attributes members = record {
   has_integrity = is_some (find (λ m. is_integrity m.1) members);
 }
 
--- with one attribute more, which is the last of its type; of the integrity attributes the first of its type is kept
+-- with one attribute more, which is the last of its type; of the integrity attributes the first of
+-- its type is kept
 abbrev pub with_attribute : LastAttributes → Member → LastAttributes
 with_attribute last m = record {
   error_code = if m.1.kind == ERROR_CODE then Some m.1 else last.error_code;
@@ -35,14 +38,18 @@ with_attribute last m = record {
   nonce = if m.1.kind == NONCE then Some m.1 else last.nonce;
   username = if m.1.kind == USERNAME then Some m.1 else last.username;
   userhash = if m.1.kind == USERHASH then Some m.1 else last.userhash;
-  password_algorithms = if m.1.kind == PASSWORD_ALGORITHMS then Some m.1 else last.password_algorithms;
+  password_algorithms = if m.1.kind == PASSWORD_ALGORITHMS then Some m.1
+      else last.password_algorithms;
   password_algorithm = if m.1.kind == PASSWORD_ALGORITHM then Some m.1 else last.password_algorithm;
   integrity = option_or last.integrity (if m.1.kind == MESSAGE_INTEGRITY then Some m else None);
-  integrity_sha256 = option_or last.integrity_sha256 (if m.1.kind == MESSAGE_INTEGRITY_SHA256 then Some m else None);
+  integrity_sha256 =
+      option_or last.integrity_sha256
+      (if m.1.kind == MESSAGE_INTEGRITY_SHA256 then Some m else None);
   has_integrity = is_integrity m.1 || last.has_integrity;
 }
 
 -- the code that the last ERROR-CODE of a message of a class tells
 abbrev pub error_in : MessageClass → Option TypedValue → Option ℕ
 error_in class attribute =
-    if is_error class then option_map (λ (e : CodeAndReason). e.code) (option_and_then error_of attribute) else None
+    if is_error class
+    then option_map (λ (e : CodeAndReason). e.code) (option_and_then error_of attribute) else None

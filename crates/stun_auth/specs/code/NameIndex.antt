@@ -31,9 +31,12 @@ names_hashed pairs = set.from_list (map hashed_seen pairs)
 abbrev pub IsLeastNamed : HashedNames → List ℕ → Option (List ℕ) → Type 0
 IsLeastNamed names hash None = (name : List ℕ) → set.contains names (hash, name) ≡ false
 IsLeastNamed names hash (Some least) =
-    (set.contains names (hash, least) ≡ true) × ((name : List ℕ) → set.contains names (hash, name) ≡ true → is_gt (name_cmp least name) ≡ false)
+    (set.contains names (hash, least) ≡ true)
+    × ((name : List ℕ) → set.contains names (hash, name) ≡ true
+    → is_gt (name_cmp least name) ≡ false)
 
 -- the names are those of the present users, each with its hash at the realm
 abbrev pub IsIndexOf : List ℕ → fin.FinMap name_cmp UserSecret → HashedNames → Type 0
 IsIndexOf realm secrets names =
-    (hash name : List ℕ) → set.contains names (hash, name) ≡ (bytes_eq hash (userhash name realm) && fin.contains_key secrets name)
+    (hash name : List ℕ) → set.contains names (hash, name)
+    ≡ (bytes_eq hash (userhash name realm) && fin.contains_key secrets name)

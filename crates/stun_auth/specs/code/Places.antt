@@ -26,14 +26,18 @@ place_seen p = record {
 
 -- a place with a new nonce, and with a new client if there is one
 abbrev pub renewed_with : Option PlaceSeen → List ℕ → ℕ → Option ClientSeen → PlaceSeen
-renewed_with place nonce expires client = with_client (option_or client (renewed place nonce expires).client) (renewed place nonce expires)
+renewed_with place nonce expires client =
+    with_client (option_or client (renewed place nonce expires).client)
+    (renewed place nonce expires)
 
 -- an address is the first that has a place, from a start on; or none has one there
 abbrev pub IsFirstFrom : PlacesSeen → Bound SocketAddr → Option SocketAddr → Type 0
-IsFirstFrom places start None = (q : SocketAddr) → is_from_start address_cmp start q ≡ true → fin.get places q ≡ None
+IsFirstFrom places start None =
+    (q : SocketAddr) → is_from_start address_cmp start q ≡ true → fin.get places q ≡ None
 IsFirstFrom places start (Some a) =
     IsSome (fin.get places a) × (is_from_start address_cmp start a ≡ true)
-    × ((q : SocketAddr) → is_from_start address_cmp start q ≡ true → IsSome (fin.get places q) → is_gt (address_cmp a q) ≡ false)
+    × ((q : SocketAddr) → is_from_start address_cmp start q ≡ true → IsSome (fin.get places q)
+    → is_gt (address_cmp a q) ≡ false)
 
 abbrev pub places_seen : {A : Type 0} → List (SocketAddr × Place A) → PlacesSeen
 places_seen entries = fin.from_entries (map (λ e. (e.0, place_seen e.1)) entries)

@@ -13,5 +13,7 @@ coded_client =
 
 abbrev pub coded_place : Coded PlaceSeen
 coded_place = code_by (List ℕ × (ℕ × (Option AlgorithmSet × Option ClientSeen)))
-    (coded× (coded_list coded_ℕ) (coded× coded_ℕ (coded× (coded_option coded_set) (coded_option coded_client))))
-    (λ p. (p.nonce, (p.expires, (p.offered, p.client)))) (λ q. record { nonce = q.0; expires = q.1.0; offered = q.1.1.0; client = q.1.1.1 }) (λ _. refl)
+    (coded× (coded_list coded_ℕ)
+    (coded× coded_ℕ (coded× (coded_option coded_set) (coded_option coded_client))))
+    (λ p. (p.nonce, (p.expires, (p.offered, p.client))))
+    (λ q. record { nonce = q.0; expires = q.1.0; offered = q.1.1.0; client = q.1.1.1 }) (λ _. refl)

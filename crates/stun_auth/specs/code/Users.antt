@@ -24,11 +24,14 @@ key_in user Sha256 = user.kept.value.sha256
 -- a user has the key that the secret gives for each of the algorithms, and no other
 abbrev pub HasKeys : {A : Type 0} → List ℕ → AlgorithmSet → List ℕ → User A → Type 0
 HasKeys realm algorithms name user =
-    (a : IntegrityAlgorithm) → key_in user a ≡ key_if (contains a algorithms) a name realm (secret_of user)
+    (a : IntegrityAlgorithm)
+    → key_in user a ≡ key_if (contains a algorithms) a name realm (secret_of user)
 
 -- so does each user
-abbrev pub AllHaveKeys : {A B : Type 0} → List ℕ → AlgorithmSet → BTreeMap (String A) (User B) → Type 0
-AllHaveKeys realm algorithms users = (name : List ℕ) → IfSome (get_by_text users name) (HasKeys realm algorithms name)
+abbrev pub AllHaveKeys : {A B : Type 0} → List ℕ → AlgorithmSet → BTreeMap (String A) (User B)
+    → Type 0
+AllHaveKeys realm algorithms users =
+    (name : List ℕ) → IfSome (get_by_text users name) (HasKeys realm algorithms name)
 
 -- what each user is known by, by name
 abbrev pub secrets_seen : {A B : Type 0} → List (String A × User B) → fin.FinMap name_cmp UserSecret

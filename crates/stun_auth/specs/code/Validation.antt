@@ -14,5 +14,8 @@ use Rattle.stun_auth.specs.Validation.{ServerSeen}
 
 abbrev pub coded_server : Coded ServerSeen
 coded_server = code_by (Registered × (Feature × (ℕ × map.FinMap address_cmp PlaceSeen)))
-    (coded× coded_registered (coded× coded_feature (coded× coded_ℕ (map.code coded_address coded_place))))
-    (λ s. (s.registered, (s.feature, (s.expiry, s.places)))) (λ p. record { registered = p.0; feature = p.1.0; expiry = p.1.1.0; places = p.1.1.1 }) (λ _. refl)
+    (coded× coded_registered
+    (coded× coded_feature (coded× coded_ℕ (map.code coded_address coded_place))))
+    (λ s. (s.registered, (s.feature, (s.expiry, s.places))))
+    (λ p. record { registered = p.0; feature = p.1.0; expiry = p.1.1.0; places = p.1.1.1 })
+    (λ _. refl)

@@ -9,10 +9,11 @@ use thiserror::Error;
 /// What a client makes of a message that it does not refuse.
 #[derive(Clone, Copy, Debug, PartialEq, Eq)]
 pub enum LongTermClientValidation {
-    /// The request is to be signed and sent again, under a new transaction id. Hand the message to the agent too, so that
-    /// the request that it answers ends.
+    /// The request is to be signed and sent again, under a new transaction id. Hand the message to
+    /// the agent too, so that the request that it answers ends.
     ///
-    /// The algorithm is there if the message itself was signed under the key that was kept before it.
+    /// The algorithm is there if the message itself was signed under the key that was kept before
+    /// it.
     ResendRequest(Option<IntegrityAlgorithm>),
     /// The digest of this algorithm verifies under the kept key.
     Validated(IntegrityAlgorithm),
@@ -21,14 +22,15 @@ pub enum LongTermClientValidation {
 /// Why a client refuses a message.
 #[derive(Clone, Copy, Debug, PartialEq, Eq, Error)]
 pub enum LongTermClientAuthErrorReason {
-    /// A challenge that cannot be taken up: realm, nonce, credentials or algorithms are missing, or it is the one that
-    /// was answered already.
+    /// A challenge that cannot be taken up: realm, nonce, credentials or algorithms are missing, or
+    /// it is the one that was answered already.
     #[error("The message is not sufficiently authenticated")]
     Unauthorized,
     /// No digest verifies under the kept key.
     #[error("The message failed integrity checks")]
     IntegrityFailed,
-    /// A challenge without a supported algorithm, or without the hashed user names that are required.
+    /// A challenge without a supported algorithm, or without the hashed user names that are
+    /// required.
     #[error("A required feature is not supported")]
     UnsupportedFeature,
     /// An allocation fails for what a challenge asks to keep.
@@ -36,7 +38,8 @@ pub enum LongTermClientAuthErrorReason {
     OutOfMemory,
 }
 
-/// Kept from the Rust crate: no call here uses it. Whatever the error is, the reason is `IntegrityFailed`.
+/// Kept from the Rust crate: no call here uses it. Whatever the error is, the reason is
+/// `IntegrityFailed`.
 impl From<ValidateError> for LongTermClientAuthErrorReason {
     ghost use Rattle.std.specs.Prelude.{◌≡◌};
     ghost use Rattle.stun_auth.specs.declared.client.answer.LongTermClientAuthErrorReason.TheVariants.{IntegrityFailed};

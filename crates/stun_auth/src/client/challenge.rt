@@ -3,7 +3,9 @@ ghost use Rattle.std.specs.Prelude.{◌≡◌, ◌≤◌, IfOk, Ok, Err, Some, N
 ghost use Rattle.std.specs.Option.{option_map};
 ghost use Rattle.stun_types.specs.Limits.{TEXT_LIMIT};
 ghost use Rattle.stun_types.specs.PasswordAlgorithms.{integrity_of};
-ghost use Rattle.stun_auth.specs.ClientStep.{choose, choose_by_list, choose_without_bits, first_supported, is_required, list_or_none, naming_of, unless};
+ghost use Rattle.stun_auth.specs.ClientStep.{choose, choose_by_list, choose_without_bits};
+ghost use Rattle.stun_auth.specs.ClientStep.{first_supported, is_required, list_or_none};
+ghost use Rattle.stun_auth.specs.ClientStep.{naming_of, unless};
 ghost use Rattle.stun_auth.specs.Nonces.{asks_for_userhash};
 ghost use Rattle.stun_auth.specs.code.Supported.{in_order};
 
@@ -41,7 +43,8 @@ pub(crate) struct KeptChallenge<A: Allocator> {
     pub(crate) key: PreparedKey<A>,
 }
 
-/// A challenge that is to be taken up: the user it is for, what the message says, and the algorithm it comes to.
+/// A challenge that is to be taken up: the user it is for, what the message says, and the algorithm
+/// it comes to.
 #[derive(Drop)]
 pub(crate) struct Offer<'a, 'm> {
     pub(crate) username: &'a str,
@@ -154,7 +157,8 @@ fn first_supported(supported: Supported, list: &PasswordAlgorithms) -> Option<In
     None
 }
 
-/// The algorithm that a server's list comes to, or that none comes to where the nonce asks for a choice.
+/// The algorithm that a server's list comes to, or that none comes to where the nonce asks for a
+/// choice.
 fn choose_by_list(
     supported: Supported,
     asks: bool,

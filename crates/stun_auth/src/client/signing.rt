@@ -1,14 +1,19 @@
 //! What a client's signing adds to a message (RFC 8489, section 9.2.5).
-ghost use Rattle.std.specs.Prelude.{◌≡◌, ◌≤◌, ◌<◌, ◌+◌, ◌-◌, ◌^◌, length, min, Bool, true, false, IfOk, IsOk, Ok, ◌*◌};
+ghost use Rattle.std.specs.Prelude.{◌≡◌, ◌≤◌, ◌<◌, ◌+◌, ◌-◌, ◌^◌, length, min};
+ghost use Rattle.std.specs.Prelude.{Bool, true, false, IfOk, IsOk, Ok, ◌*◌};
 ghost use Rattle.std.specs.Option.{option_map};
 ghost use Rattle.stun_base.specs.Header.{BeginsWithHeader};
 ghost use Rattle.stun_base.specs.MessageType.{class_in, is_request};
 ghost use Rattle.stun_types.specs.Attribute.{attribute_length};
 ghost use Rattle.stun_auth.specs.code.AddedAttribute.{attribute_of};
-ghost use Rattle.stun_auth.specs.Additions.{UnlessMemory, WantsMemory, added_all, growth, page_in, written};
+ghost use Rattle.stun_auth.specs.Additions.{UnlessMemory, WantsMemory};
+ghost use Rattle.stun_auth.specs.Additions.{added_all, growth, page_in, written};
 ghost use Rattle.stun_auth.specs.code.Additions.{IsAdded, IsOutcome};
-ghost use Rattle.stun_auth.specs.code.ClientKept.{KeepsShortTexts, challenge_seen, naming_seen, state_seen};
-ghost use Rattle.stun_auth.specs.ClientSigning.{algorithm_choice, challenge_additions, client_additions, identity, kept_challenge, name_attribute, signing_algorithm};
+ghost use Rattle.stun_auth.specs.code.ClientKept.{KeepsShortTexts, challenge_seen};
+ghost use Rattle.stun_auth.specs.code.ClientKept.{naming_seen, state_seen};
+ghost use Rattle.stun_auth.specs.ClientSigning.{algorithm_choice, challenge_additions};
+ghost use Rattle.stun_auth.specs.ClientSigning.{client_additions, identity, kept_challenge};
+ghost use Rattle.stun_auth.specs.ClientSigning.{name_attribute, signing_algorithm};
 ghost use Rattle.stun_auth.specs.Signed.{ClientMaySign, added_by_client};
 
 use crate::client::challenge::{KeptChallenge, UserNaming};
@@ -162,9 +167,9 @@ fn is_request<W: MessageWrite>(writer: &W) -> bool
 }
 
 impl<A: Allocator> LongTermClientAuth<A> {
-    /// The algorithm whose integrity attribute a signing would add now: `None` before a challenge was
-    /// taken up, where it adds nothing. Ask after each `ResendRequest`, where HMAC-SHA1 is not to be
-    /// used (see `set_supported_integrity`).
+    /// The algorithm whose integrity attribute a signing would add now: `None` before a challenge
+    /// was taken up, where it adds nothing. Ask after each `ResendRequest`, where HMAC-SHA1 is not
+    /// to be used (see `set_supported_integrity`).
     pub fn signing_algorithm(&self) -> Option<IntegrityAlgorithm>
         ensures value { result ≡ signing_algorithm self.now.state }
         ensures added { (request : Bool)
@@ -177,7 +182,8 @@ impl<A: Allocator> LongTermClientAuth<A> {
         }
     }
 
-    /// How many bytes signing adds to a request, as far as a `usize` reaches: 0 before a challenge was taken up.
+    /// How many bytes signing adds to a request, as far as a `usize` reaches: 0 before a challenge
+    /// was taken up.
     pub fn message_signature_bytes(&self) -> usize
         ensures { result ≡ min (growth (client_additions true self.now.state)) (2 ^ 64 - 1) }
     {
@@ -187,13 +193,15 @@ impl<A: Allocator> LongTermClientAuth<A> {
         }
     }
 
-    /// Adds to a message what the challenge that was taken up asks for, and the integrity attribute under its key.
+    /// Adds to a message what the challenge that was taken up asks for, and the integrity attribute
+    /// under its key.
     ///
-    /// A request gets NONCE, REALM and USERNAME or USERHASH; a message of any class PASSWORD-ALGORITHMS where the server
-    /// sent a list, PASSWORD-ALGORITHM where it did or the digest is HMAC-SHA256, and the integrity attribute. Before a
-    /// challenge was taken up the message stays as it is. The first refusal in the order of the attributes is answered,
-    /// `TooLarge` for a text past its limit included; it drops the writer and leaves the client. The writer holds a message
-    /// without FINGERPRINT.
+    /// A request gets NONCE, REALM and USERNAME or USERHASH; a message of any class
+    /// PASSWORD-ALGORITHMS where the server sent a list, PASSWORD-ALGORITHM where it did or the
+    /// digest is HMAC-SHA256, and the integrity attribute. Before a challenge was taken up the
+    /// message stays as it is. The first refusal in the order of the attributes is answered,
+    /// `TooLarge` for a text past its limit included; it drops the writer and leaves the client.
+    /// The writer holds a message without FINGERPRINT.
     pub fn sign_outgoing_message<W: MessageWrite>(&mut self, writer: W) -> Result<W, StunWriteError>
         requires { BeginsWithHeader (W.bytes writer) }
         ensures answer { let additions = client_additions
@@ -218,8 +226,8 @@ impl<A: Allocator> LongTermClientAuth<A> {
         self.signed(writer)
     }
 
-    /// The nonce and the realm that are kept are within their limits, as those of a message are. For the proof alone: it
-    /// brings in what the types of the fields promise.
+    /// The nonce and the realm that are kept are within their limits, as those of a message are.
+    /// For the proof alone: it brings in what the types of the fields promise.
     fn keeps_short_texts(&self)
         ensures { KeepsShortTexts self.now.state }
     {
@@ -243,9 +251,10 @@ impl<A: Allocator> LongTermClientAuth<A> {
         Ok(writer)
     }
 
-    /// Signs a message of which the caller knows that nothing but a failed allocation refuses it: it has no integrity attribute,
-    /// no FINGERPRINT and none that signing adds, the user name is within its limit of 513 bytes, and writer and length field
-    /// have room for what is added. The message is the one that `sign_outgoing_message` gives.
+    /// Signs a message of which the caller knows that nothing but a failed allocation refuses it:
+    /// it has no integrity attribute, no FINGERPRINT and none that signing adds, the user name is
+    /// within its limit of 513 bytes, and writer and length field have room for what is added. The
+    /// message is the one that `sign_outgoing_message` gives.
     pub fn sign_outgoing_message_unchecked<W: MessageWrite>(
         &mut self,
         writer: W,

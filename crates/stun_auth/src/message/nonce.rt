@@ -2,7 +2,8 @@
 ghost use Rattle.std.specs.Prelude.{◌≡◌, ◌++◌, List, ℕ, Some, None, map, IfOk, OnOk};
 ghost use Rattle.std.specs.String.{string_bytes};
 ghost use Rattle.stun_base.specs.Words.{next_words, after_words};
-ghost use Rattle.stun_auth.specs.Nonces.{begins_with_cookie, security_bits, letter, security_byte, nonce_of, asks_for_algorithms, asks_for_userhash};
+ghost use Rattle.stun_auth.specs.Nonces.{begins_with_cookie, security_bits, letter, security_byte};
+ghost use Rattle.stun_auth.specs.Nonces.{nonce_of, asks_for_algorithms, asks_for_userhash};
 ghost use Rattle.stun_auth.specs.Algorithms.{contains};
 ghost use Rattle.stun_auth.specs.Feature.{is_possible};
 
@@ -63,7 +64,8 @@ impl NonceSecurityBits {
         self.bytes
     }
 
-    /// The bits of a nonce: the four letters after the cookie, where they are base64 of three bytes.
+    /// The bits of a nonce: the four letters after the cookie, where they are base64 of three
+    /// bytes.
     #[tactic(auto, unfolding(crate::specs::Nonces::security_bits))]
     pub fn from_nonce(nonce: &str) -> Option<NonceSecurityBits>
         ensures { result ≡ security_bits nonce.now }
@@ -215,8 +217,8 @@ fn nonce_of_words<A: Allocator + Copy>(
     if !begins_with_cookie(text.as_bytes()) {
         return Ok(text);
     }
-    // By chance the letters begin with the cookie, which would read as security bits that nobody set. Another first letter ends
-    // that.
+    // By chance the letters begin with the cookie, which would read as security bits that nobody
+    // set. Another first letter ends that.
     let (_, others) = words.split_at(1);
     text.clear();
     text.push('p')?;
@@ -226,8 +228,8 @@ fn nonce_of_words<A: Allocator + Copy>(
 
 /// A new nonce, of the next sixteen words of the source.
 ///
-/// It asks for password algorithms exactly where HMAC-SHA256 is supported, and for hashed names exactly where these are
-/// possible. Where it asks for neither it carries no security bits.
+/// It asks for password algorithms exactly where HMAC-SHA256 is supported, and for hashed names
+/// exactly where these are possible. Where it asks for neither it carries no security bits.
 pub(crate) fn make_nonce<A: Allocator + Copy, R: Rng>(
     alloc: A,
     algorithms: AlgorithmSet,

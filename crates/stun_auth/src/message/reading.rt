@@ -1,9 +1,11 @@
-//! What an authenticator reads of a message, in one walk: the last visible attribute of each kind, where it is well formed.
+//! What an authenticator reads of a message, in one walk: the last visible attribute of each kind,
+//! where it is well formed.
 //!
 //! Nothing here allocates.
 
 ghost use Rattle.std.specs.Prelude.{◌≡◌, ◌≤◌, Option, length};
-ghost use Rattle.std.specs.Option.{is_some, option_and_then, option_copied, option_map, option_map_or};
+ghost use Rattle.std.specs.Option.{is_some, option_and_then, option_copied};
+ghost use Rattle.std.specs.Option.{option_map, option_map_or};
 ghost use Rattle.stun_base.specs.Attributes.{NONCE, REALM, USERNAME};
 ghost use Rattle.stun_types.specs.Integrity.{verified_algorithm};
 ghost use Rattle.stun_types.specs.Limits.{TEXT_LIMIT, USERNAME_LIMIT};
@@ -27,7 +29,8 @@ use stun_types::attribute::{
 use stun_types::message::{Message, MessageClass};
 use stun_types::prelude::AttributeFromRaw;
 
-/// The last visible attribute of each type that is read, and the integrity attributes, with their places.
+/// The last visible attribute of each type that is read, and the integrity attributes, with their
+/// places.
 #[derive(Drop)]
 struct LastAttributes<'a> {
     error_code: Option<RawAttribute<'a>>,
@@ -99,7 +102,8 @@ impl<'a> LastAttributes<'a> {
     }
 }
 
-/// A message with the attribute whose digest decides, which was found as the message was read. Contracts see the message.
+/// A message with the attribute whose digest decides, which was found as the message was read.
+/// Contracts see the message.
 #[derive(Drop)]
 struct Signature<'a, 'm> {
     message: &'m Message<'a>,
@@ -208,8 +212,8 @@ fn algorithm(attribute: Option<RawAttribute<'_>>) -> Option<IntegrityAlgorithm>
     }
 }
 
-/// What is read of a message (RFC 8489, sections 9.2.4 and 9.2.5): each attribute is its last visible one, where that is well
-/// formed. It borrows the message.
+/// What is read of a message (RFC 8489, sections 9.2.4 and 9.2.5): each attribute is its last
+/// visible one, where that is well formed. It borrows the message.
 #[derive(Drop)]
 pub(crate) struct Reading<'a, 'm> {
     signature: Signature<'a, 'm>,

@@ -8,7 +8,8 @@
 //! let answer = server.sign_outgoing_message_of(answer, from, &mut user)?;
 //! ```
 
-ghost use Rattle.std.specs.Prelude.{◌≡◌, ◌≤◌, ◌+◌, ⊤, Some, IfOk, IsOk, OnOk, OnErr, if◌then◌else◌, length};
+ghost use Rattle.std.specs.Prelude.{◌≡◌, ◌≤◌, ◌+◌, ⊤, Some, IfOk, IsOk};
+ghost use Rattle.std.specs.Prelude.{OnOk, OnErr, if◌then◌else◌, length};
 ghost use Rattle.std.specs.Option.{option_map};
 ghost use Rattle.std.specs.String.{string_bytes};
 ghost use Rattle.stun_base.specs.Header.{BeginsWithHeader};
@@ -19,9 +20,11 @@ ghost use Rattle.stun_auth.specs.Handed.{judged_by, just, named_in, named_seen, 
 ghost use Rattle.stun_auth.specs.Reading.{reading_of};
 ghost use Rattle.stun_auth.specs.Reasons.{OrMemory};
 ghost use Rattle.stun_auth.specs.Registered.{user_by_keys, user_by_password};
-ghost use Rattle.stun_auth.specs.ServerSigning.{after_signing, server_additions, server_growth, server_signed};
+ghost use Rattle.stun_auth.specs.ServerSigning.{after_signing, server_additions};
+ghost use Rattle.stun_auth.specs.ServerSigning.{server_growth, server_signed};
 ghost use Rattle.stun_auth.specs.Signed.{ServerMaySign};
-ghost use Rattle.stun_auth.specs.Validation.{ChangesNothing, ValidatesAccepted, after_message, answer, draws, sight};
+ghost use Rattle.stun_auth.specs.Validation.{ChangesNothing, ValidatesAccepted};
+ghost use Rattle.stun_auth.specs.Validation.{after_message, answer, draws, sight};
 ghost use Rattle.stun_auth.specs.code.ReadingSeen.{reading_seen};
 
 use crate::feature::Feature;

@@ -1,4 +1,5 @@
-//! What is kept for each address: a nonce with its end, the algorithms that were offered, and the client.
+//! What is kept for each address: a nonce with its end, the algorithms that were offered, and the
+//! client.
 
 ghost use Rattle.std.specs.Prelude.{◌≡◌, ◌↔◌, IfOk, IsTrue, false, Option, None, Some, OnOk, OnErr};
 ghost use Rattle.std.specs.Option.{option_map, option_map_or, option_copied};
@@ -6,7 +7,8 @@ ghost use Rattle.std.specs.FinMap as map;
 ghost use Rattle.std.specs.String.{string_bytes};
 ghost use Rattle.stun_base.specs.Address.{same_address};
 ghost use Rattle.stun_auth.specs.Forgetting.{is_forgotten, places_kept};
-ghost use Rattle.stun_auth.specs.ForgettingSteps.{is_looked_at, next_from, places_kept_where, start_of};
+ghost use Rattle.stun_auth.specs.ForgettingSteps.{is_looked_at, next_from};
+ghost use Rattle.stun_auth.specs.ForgettingSteps.{places_kept_where, start_of};
 ghost use Rattle.stun_auth.specs.Places.{with_change, with_client, with_offer};
 ghost use Rattle.stun_auth.specs.code.Places.{IsFirstFrom, client_seen, place_seen, renewed_with};
 
@@ -82,7 +84,8 @@ impl<A: Allocator> Place<A> {
         }
     }
 
-    /// Whether nothing of it is worth keeping at a moment: it has no client, and its nonce ended before.
+    /// Whether nothing of it is worth keeping at a moment: it has no client, and its nonce ended
+    /// before.
     fn is_forgotten(&self, now: Instant) -> bool
         ensures { result ≡ is_forgotten now (place_seen self.now) }
     {
@@ -185,8 +188,8 @@ impl<A: Allocator + Copy> Places<A> {
         self.by_address.retain(|_, place| !place.is_forgotten(now));
     }
 
-    /// The same at no more than so many addresses, from one on or from the first: it answers the one
-    /// to go on at.
+    /// The same at no more than so many addresses, from one on or from the first: it answers the
+    /// one to go on at.
     pub(crate) fn forget_expired_within(
         &mut self,
         now: Instant,
@@ -246,7 +249,8 @@ impl<A: Allocator + Copy> Places<A> {
         }
     }
 
-    /// Gives an address a nonce, which is new there or replaces the one before, and a client if there is one.
+    /// Gives an address a nonce, which is new there or replaces the one before, and a client if
+    /// there is one.
     ///
     /// Only the first nonce of an address allocates here.
     pub(crate) fn renew(

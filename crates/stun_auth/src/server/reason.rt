@@ -11,17 +11,18 @@ use thiserror::Error;
 /// What a server makes of a message that it accepts.
 #[derive(Clone, Copy, Debug, PartialEq, Eq)]
 pub enum LongTermServerValidation {
-    /// Of a request or an indication the algorithm that both sides agreed on, whose key the digest was made under; of a
-    /// response the algorithm whose digest verifies.
+    /// Of a request or an indication the algorithm that both sides agreed on, whose key the digest
+    /// was made under; of a response the algorithm whose digest verifies.
     Validated(IntegrityAlgorithm),
 }
 
 /// Why a server refuses a message (RFC 8489, section 9.2.4).
 #[derive(Clone, Copy, Debug, PartialEq, Eq, Error)]
 pub enum LongTermServerAuthErrorReason {
-    /// No well-formed integrity attribute is visible; or another nonce came whose security bits differ from the current
-    /// one's; or no registered user is named, or by a USERHASH where hashes are not taken; or the user has no key for the
-    /// algorithm that is meant; or the digest does not verify. A challenge may be sent (401).
+    /// No well-formed integrity attribute is visible; or another nonce came whose security bits
+    /// differ from the current one's; or no registered user is named, or by a USERHASH where hashes
+    /// are not taken; or the user has no key for the algorithm that is meant; or the digest does
+    /// not verify. A challenge may be sent (401).
     #[error("The message is not sufficiently authenticated")]
     Unauthorized,
     /// No digest of a response verifies under the key of the address's client.
@@ -41,7 +42,8 @@ pub enum LongTermServerAuthErrorReason {
     OutOfMemory,
 }
 
-/// Kept from the Rust crate: no call here uses it. Whatever the error is, the reason is `IntegrityFailed`.
+/// Kept from the Rust crate: no call here uses it. Whatever the error is, the reason is
+/// `IntegrityFailed`.
 impl From<ValidateError> for LongTermServerAuthErrorReason {
     ghost use Rattle.std.specs.Prelude.{◌≡◌};
     ghost use Rattle.stun_auth.specs.declared.server.reason.LongTermServerAuthErrorReason.TheVariants.{IntegrityFailed};

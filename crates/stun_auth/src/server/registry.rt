@@ -1,6 +1,7 @@
 //! The users of a realm, each with a key for each supported algorithm.
 
-ghost use Rattle.std.specs.Prelude.{◌≡◌, Option, None, Some, OnOk, OnErr, IfOk, IfErr, IfNone, IfSome};
+ghost use Rattle.std.specs.Prelude.{◌≡◌, Option, None, Some, OnOk};
+ghost use Rattle.std.specs.Prelude.{OnErr, IfOk, IfErr, IfNone, IfSome};
 ghost use Rattle.std.specs.FinMap as map;
 ghost use Rattle.std.specs.Ordering.{nat_cmp};
 ghost use Rattle.std.specs.BTreeMap.{Updates, UpdatesBy, get_by_text};
@@ -9,7 +10,8 @@ ghost use Rattle.std.specs.Option.{option_copied};
 ghost use Rattle.std.specs.String.{string_bytes, string_cmp};
 ghost use Rattle.stun_auth.specs.Algorithms.{contains};
 ghost use Rattle.stun_auth.specs.Handed.{just};
-ghost use Rattle.stun_auth.specs.Registered.{key_at, key_if, name_with_hash, new_registered, with_user, without_user};
+ghost use Rattle.stun_auth.specs.Registered.{key_at, key_if, name_with_hash};
+ghost use Rattle.stun_auth.specs.Registered.{new_registered, with_user, without_user};
 ghost use Rattle.stun_auth.specs.code.UserSecret.{secret_seen};
 ghost use Rattle.stun_auth.specs.code.Users.{AllHaveKeys, secrets_seen};
 
@@ -264,7 +266,8 @@ impl<A: Allocator + Copy> Registry<A> {
     }
 }
 
-/// Puts a user under a name, in the place of the one before. A new name comes back where an allocation fails.
+/// Puts a user under a name, in the place of the one before. A new name comes back where an
+/// allocation fails.
 fn put_user<A: Allocator + Copy>(
     users: &mut BTreeMap<String<A>, User<A>, A>,
     name: String<A>,

@@ -1,6 +1,7 @@
 //! What a server's signing adds to a message (RFC 8489, section 9.2.4).
 
-ghost use Rattle.std.specs.Prelude.{◌≡◌, ◌≤◌, ◌<◌, ◌+◌, ◌-◌, ◌^◌, length, min, not, true, Some, IfOk, IsOk, OnOk, OnErr, Ok};
+ghost use Rattle.std.specs.Prelude.{◌≡◌, ◌≤◌, ◌<◌, ◌+◌, ◌-◌, ◌^◌, length, min};
+ghost use Rattle.std.specs.Prelude.{not, true, Some, IfOk, IsOk, OnOk, OnErr, Ok};
 ghost use Rattle.std.specs.Option.{IfSome, option_map};
 ghost use Rattle.stun_base.specs.Header.{BeginsWithHeader};
 ghost use Rattle.stun_base.specs.MessageType.{class_in, is_response as is_response_class};
@@ -8,7 +9,11 @@ ghost use Rattle.stun_types.specs.Limits.{TEXT_LIMIT};
 ghost use Rattle.stun_auth.specs.Additions.{UnlessMemory, WantsMemory, growth, page_in, written};
 ghost use Rattle.stun_auth.specs.code.Additions.{IsAdded, outcome_of};
 ghost use Rattle.stun_auth.specs.code.Places.{client_seen, place_seen};
-ghost use Rattle.stun_auth.specs.ServerSigning.{additions_at, after_signing, algorithms_for, attributes_for, challenge, digest_for, growth_at, named_algorithm, offer, protected_for, protection_growth, server_additions, server_growth, server_signed, signed_at};
+ghost use Rattle.stun_auth.specs.ServerSigning.{additions_at, after_signing, algorithms_for};
+ghost use Rattle.stun_auth.specs.ServerSigning.{attributes_for, challenge, digest_for, growth_at};
+ghost use Rattle.stun_auth.specs.ServerSigning.{named_algorithm, offer, protected_for};
+ghost use Rattle.stun_auth.specs.ServerSigning.{protection_growth, server_additions};
+ghost use Rattle.stun_auth.specs.ServerSigning.{server_growth, server_signed, signed_at};
 ghost use Rattle.stun_auth.specs.Seen.{PlaceSeen};
 ghost use Rattle.stun_auth.specs.Signed.{ServerMaySign};
 ghost use Rattle.stun_auth.specs.Validation.{sight};
@@ -34,10 +39,11 @@ fn is_response<W: MessageWrite>(writer: &W) -> bool
 }
 
 impl<A: Allocator + Copy> LongTermServerAuth<A> {
-    /// How many bytes signing a message to an address adds, as far as a `usize` reaches: 0 where no nonce was made for it.
+    /// How many bytes signing a message to an address adds, as far as a `usize` reaches: 0 where no
+    /// nonce was made for it.
     ///
-    /// `is_request` is true for a request or an indication and false for a response. A user or key that is gone, or a realm
-    /// past its limit, is counted all the same.
+    /// `is_request` is true for a request or an indication and false for a response. A user or key
+    /// that is gone, or a realm past its limit, is counted all the same.
     pub fn message_signature_bytes(&self, to: SocketAddr, is_request: bool) -> usize
         ensures { result ≡ min (server_growth (sight self.now to) (not is_request)) (2 ^ 64 - 1) }
     {
@@ -47,17 +53,21 @@ impl<A: Allocator + Copy> LongTermServerAuth<A> {
         }
     }
 
-    /// Adds to a message what its receiver is to know, and the integrity attribute of the address's client.
+    /// Adds to a message what its receiver is to know, and the integrity attribute of the address's
+    /// client.
     ///
-    /// Where no nonce was made for the address the message stays as it is. A response gets NONCE and REALM. Where the
-    /// address has a client, PASSWORD-ALGORITHM follows if the client's algorithm is HMAC-SHA256, and then the integrity
-    /// attribute under the client's present key, or the refusal `IntegrityFailed` where user or key is gone. Without a
-    /// client a response gets PASSWORD-ALGORITHMS, the supported algorithms, which are then the ones offered to the address.
+    /// Where no nonce was made for the address the message stays as it is. A response gets NONCE
+    /// and REALM. Where the address has a client, PASSWORD-ALGORITHM follows if the client's
+    /// algorithm is HMAC-SHA256, and then the integrity attribute under the client's present key,
+    /// or the refusal `IntegrityFailed` where user or key is gone. Without a client a response gets
+    /// PASSWORD-ALGORITHMS, the supported algorithms, which are then the ones offered to the
+    /// address.
     ///
     /// Sign each answer but a 400, which goes out as it is (RFC 8489, section 9.2.4).
     ///
-    /// The first refusal in the order of the attributes is answered, `TooLarge` for a realm past 763 bytes included. It
-    /// drops the writer and leaves the server. The writer holds a message without FINGERPRINT.
+    /// The first refusal in the order of the attributes is answered, `TooLarge` for a realm past
+    /// 763 bytes included. It drops the writer and leaves the server. The writer holds a message
+    /// without FINGERPRINT.
     pub fn sign_outgoing_message<W: MessageWrite>(
         &mut self,
         writer: W,
@@ -96,9 +106,10 @@ impl<A: Allocator + Copy> LongTermServerAuth<A> {
         Ok(writer)
     }
 
-    /// Signs a message of which the caller knows that nothing but a failed allocation refuses it: it has no integrity attribute,
-    /// no FINGERPRINT and none that signing adds, the realm is within its limit of 763 bytes, writer and length field have room
-    /// for what is added, and the client's user and key are still there. The message is the one that `sign_outgoing_message`
+    /// Signs a message of which the caller knows that nothing but a failed allocation refuses it:
+    /// it has no integrity attribute, no FINGERPRINT and none that signing adds, the realm is
+    /// within its limit of 763 bytes, writer and length field have room for what is added, and the
+    /// client's user and key are still there. The message is the one that `sign_outgoing_message`
     /// gives.
     pub fn sign_outgoing_message_unchecked<W: MessageWrite>(
         &mut self,
@@ -269,7 +280,8 @@ impl<A: Allocator + Copy> LongTermServerAuth<A> {
         }
     }
 
-    /// How many bytes signing a message to an address with this place adds, as far as a `usize` reaches.
+    /// How many bytes signing a message to an address with this place adds, as far as a `usize`
+    /// reaches.
     fn signature_bytes(&self, place: &Place<A>, is_response: bool) -> usize
         ensures { result ≡ min (growth_at is_response self.now.registered
             (Some (place_seen place.now))) (2 ^ 64 - 1) }

@@ -1,6 +1,7 @@
 //! How a server judges the messages that come to it (RFC 8489, section 9.2.4).
 
-ghost use Rattle.std.specs.Prelude.{◌≡◌, ◌↔◌, ⊤, true, IsTrue, Option, None, Some, IfOk, IsOk, IfNone, Ok, if◌then◌else◌, option_and_then};
+ghost use Rattle.std.specs.Prelude.{◌≡◌, ◌↔◌, ⊤, true, IsTrue, Option, None, Some, IfOk};
+ghost use Rattle.std.specs.Prelude.{IsOk, IfNone, Ok, if◌then◌else◌, option_and_then};
 ghost use Rattle.std.specs.FinMap as map;
 ghost use Rattle.std.specs.Option.{option_copied, option_map};
 ghost use Rattle.stun_base.specs.Words.{next_words, after_words};
@@ -10,8 +11,11 @@ ghost use Rattle.stun_auth.specs.Seen.{PlaceSeen};
 ghost use Rattle.stun_auth.specs.code.Places.{client_seen, place_seen};
 ghost use Rattle.stun_auth.specs.Reasons.{OrMemory};
 ghost use Rattle.stun_auth.specs.Server.{stands_at};
-ghost use Rattle.stun_auth.specs.Validation.{ChangesNothing, ValidatesAccepted, after_message, answer, client_verified, draws, sight, validated_or_failed};
-ghost use Rattle.stun_auth.specs.code.Judging.{ChangesNoPlace, IsJudged, answered, new_nonce, place_with, places_left, renewal_seen};
+ghost use Rattle.stun_auth.specs.Validation.{ChangesNothing, ValidatesAccepted};
+ghost use Rattle.stun_auth.specs.Validation.{after_message, answer, client_verified};
+ghost use Rattle.stun_auth.specs.Validation.{draws, sight, validated_or_failed};
+ghost use Rattle.stun_auth.specs.code.Judging.{ChangesNoPlace, IsJudged, answered, new_nonce};
+ghost use Rattle.stun_auth.specs.code.Judging.{place_with, places_left, renewal_seen};
 ghost use Rattle.stun_auth.specs.code.ReadingSeen.{reading_seen};
 
 use crate::algorithm_set::AlgorithmSet;
@@ -85,7 +89,8 @@ fn nonce_stands<A: Allocator>(place: Option<&Place<A>>, now: Instant) -> bool
     }
 }
 
-/// The nonce at which a message is judged: the new one, if one was made, and else the one that is kept.
+/// The nonce at which a message is judged: the new one, if one was made, and else the one that is
+/// kept.
 fn nonce_at<'p, A: Allocator>(
     place: Option<&'p Place<A>>,
     renewal: &'p Option<Renewal<A>>,
@@ -152,19 +157,23 @@ impl<A: Allocator + Copy> LongTermServerAuth<A> {
 
     /// Judges a message that came from an address.
     ///
-    /// A response is `Validated` where its digest verifies under the key of the address's client, else refused by
-    /// `IntegrityFailed`. Any other message is `Validated` with an algorithm exactly where it carries a realm, the nonce
-    /// that is current for the address, algorithms that agree with those that were offered, and the digest under the key that
-    /// the present user whom it names has for that algorithm; that user is then the address's client. Else it is refused by
-    /// the first reason that holds: `Unauthorized` without integrity, `BadRequest` without realm, nonce, name or agreement,
-    /// `StaleNonce` (or `Unauthorized`, where the security bits of the two nonces differ) for another nonce, and
-    /// `Unauthorized` for the rest. The realm's value is not compared.
+    /// A response is `Validated` where its digest verifies under the key of the address's client,
+    /// else refused by `IntegrityFailed`. Any other message is `Validated` with an algorithm
+    /// exactly where it carries a realm, the nonce that is current for the address, algorithms that
+    /// agree with those that were offered, and the digest under the key that the present user whom
+    /// it names has for that algorithm; that user is then the address's client. Else it is refused
+    /// by the first reason that holds: `Unauthorized` without integrity, `BadRequest` without
+    /// realm, nonce, name or agreement, `StaleNonce` (or `Unauthorized`, where the security bits of
+    /// the two nonces differ) for another nonce, and `Unauthorized` for the rest. The realm's value
+    /// is not compared.
     ///
-    /// A nonce is made, of sixteen random words, where a message without integrity or with all of realm, nonce and name
-    /// finds none that is current: a nonce is current up to the end of its time, that moment included.
+    /// A nonce is made, of sixteen random words, where a message without integrity or with all of
+    /// realm, nonce and name finds none that is current: a nonce is current up to the end of its
+    /// time, that moment included.
     ///
-    /// `OutOfMemory` is answered only where a nonce is made or another client kept; nonce, end, offered algorithms and client
-    /// are then as before, but the source of random words may have advanced.
+    /// `OutOfMemory` is answered only where a nonce is made or another client kept; nonce, end,
+    /// offered algorithms and client are then as before, but the source of random words may have
+    /// advanced.
     pub fn validate_incoming_message<R: Rng>(
         &mut self,
         message: &Message<'_>,
@@ -187,8 +196,9 @@ impl<A: Allocator + Copy> LongTermServerAuth<A> {
             (reading_of message.now) then after_words 16
             (R.stream rng.old) else R.stream rng.old)) ⊤ }
 
-        // Where the message changes nothing, no allocation fails: so at a response and at a malformed message, and, where a
-        // nonce is current, at each refusal and at the client who is kept there already.
+        // Where the message changes nothing, no allocation fails: so at a response and at a
+        // malformed message, and, where a nonce is current, at each refusal and at the client who
+        // is kept there already.
         ensures unchanged { ChangesNothing (sight self.old from) now
             (next_words 16 (R.stream rng.old)) (reading_of message.now) →
             result ≡ answer (sight self.old from) now (next_words 16 (R.stream rng.old))
@@ -290,7 +300,8 @@ impl<A: Allocator + Copy> LongTermServerAuth<A> {
         }))
     }
 
-    /// What a message comes to at a place, with the new nonce if one was made. It allocates for another client's name alone.
+    /// What a message comes to at a place, with the new nonce if one was made. It allocates for
+    /// another client's name alone.
     fn judge(
         &self,
         reading: &Reading<'_, '_>,
@@ -320,8 +331,8 @@ impl<A: Allocator + Copy> LongTermServerAuth<A> {
         }
     }
 
-    /// Keeps the new nonce, if one was made, and the client who is not kept yet, and answers. Only the first nonce of an
-    /// address allocates here.
+    /// Keeps the new nonce, if one was made, and the client who is not kept yet, and answers. Only
+    /// the first nonce of an address allocates here.
     fn commit(
         &mut self,
         from: SocketAddr,

@@ -135,7 +135,8 @@ fn is_same_nonce(theirs: &str, ours: &str) -> bool
     is_same_text(theirs.as_bytes(), ours.as_bytes())
 }
 
-/// Who is accepted where this nonce is current and these algorithms were offered, or the first refusal that holds.
+/// Who is accepted where this nonce is current and these algorithms were offered, or the first
+/// refusal that holds.
 ///
 /// It does not allocate and derives no key.
 pub(crate) fn verdict<'a, A: Allocator + Copy>(

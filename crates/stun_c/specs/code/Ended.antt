@@ -13,8 +13,11 @@ fingerprint_value bytes = big_bytes 4 (fingerprint_number bytes)
 
 -- the attribute
 abbrev pub fingerprint_after : List ℕ → List ℕ
-fingerprint_after bytes = spelled_attribute (record { kind = FINGERPRINT; value = fingerprint_value bytes })
+fingerprint_after bytes =
+    spelled_attribute (record { kind = FINGERPRINT; value = fingerprint_value bytes })
 
 -- a message whose length counts it, and then it
 abbrev pub ended : List ℕ → List ℕ
-ended message = with_length message (length_with message 4) ++ fingerprint_after (with_length message (length_with message 4))
+ended message =
+    with_length message (length_with message 4)
+    ++ fingerprint_after (with_length message (length_with message 4))

@@ -3,7 +3,8 @@ use Rattle.std.specs.Prelude.{◌≤◌, ℕ, ◌+◌, ◌-◌}
 use Rattle.stun_types.specs.Attribute.{attribute_length}
 use Rattle.stun_types.specs.Limits.{max_length}
 
--- a header in the first `count` bytes of a buffer of `room`, and room for a value of n bytes after it
+-- a header in the first `count` bytes of a buffer of `room`, and room for a value of n bytes after
+-- it
 pub record HasRoom (count n room : ℕ) : Type 0 where
   pub header : 20 ≤ count
   pub whole : count + attribute_length n ≤ room

@@ -16,4 +16,5 @@ is_new known words kind = is_unknown known kind && not (is_told words kind)
 -- the types that are told of the attributes that are left
 unfoldable pub left_to_tell : List AttributeType → List ℕ → List Member → List AttributeType
 left_to_tell known words left =
-    types_of (filter (λ kind. not (is_told words kind)) (once (filter (is_unknown known) (kinds_of left))))
+    types_of
+    (filter (λ kind. not (is_told words kind)) (once (filter (is_unknown known) (kinds_of left))))

@@ -1,4 +1,5 @@
--- Where the types of an UNKNOWN-ATTRIBUTES are: in a message that has attributes of them, or in a message that has the attribute.
+-- Where the types of an UNKNOWN-ATTRIBUTES are: in a message that has attributes of them, or in a
+-- message that has the attribute.
 use Rattle.std.specs.Prelude.{◌≡◌, ◌%◌, List, length}
 use Rattle.stun_base.specs.declared.wire.attribute_type.AttributeType.{AttributeType}
 use Rattle.stun_extra.specs.Unknown.{types_in, unknown_types}

@@ -1,7 +1,8 @@
 //! ALTERNATE-SERVER (RFC 8489, section 14.15).
 ghost use Rattle.std.specs.Prelude.{◌≡◌};
 ghost use Rattle.std.specs.Net.Socket.{IsPlainSocket, socket_ip, socket_port};
-ghost use Rattle.stun_extra.specs.Address.{IsAddress, address_of, address_of-written, address_value};
+ghost use Rattle.stun_extra.specs.Address.{IsAddress, address_of};
+ghost use Rattle.stun_extra.specs.Address.{address_of-written, address_value};
 ghost use Rattle.stun_extra.specs.AttributeTypes.{ALTERNATE_SERVER};
 
 use crate::attribute::address::{Address, append_address, read_address};

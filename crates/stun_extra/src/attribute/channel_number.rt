@@ -1,7 +1,8 @@
 //! CHANNEL-NUMBER (RFC 8656, section 18.1).
 ghost use Rattle.std.specs.Prelude.{◌≡◌, ◌≤◌, ◌<◌, ◌↔◌, false, IfOk, IsOkUnless, IsErrOf};
 ghost use Rattle.stun_extra.specs.AttributeTypes.{CHANNEL_NUMBER};
-ghost use Rattle.stun_extra.specs.Turn.{IsChannel, channel_of, channel_of-written, channel_value, is_channel_number};
+ghost use Rattle.stun_extra.specs.Turn.{IsChannel, channel_of, channel_of-written};
+ghost use Rattle.stun_extra.specs.Turn.{channel_value, is_channel_number};
 
 use byteorder::{BigEndian, ByteOrder};
 use std::marker::Model;

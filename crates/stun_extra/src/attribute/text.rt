@@ -1,5 +1,6 @@
 //! What attributes share whose value is a text (RFC 8489, sections 14.14 and 14.16).
-ghost use Rattle.std.specs.Prelude.{◌≡◌, ◌<◌, ◌↔◌, Some, None, IfOk, IfErr, OnErr, IsOkUnless, IsErrOf, length};
+ghost use Rattle.std.specs.Prelude.{◌≡◌, ◌<◌, ◌↔◌, Some, None, IfOk, IfErr};
+ghost use Rattle.std.specs.Prelude.{OnErr, IsOkUnless, IsErrOf, length};
 ghost use Rattle.stun_types.specs.Text.{short_text, text_of};
 
 use std::str;

@@ -1,7 +1,8 @@
 //! XOR-RELAYED-ADDRESS (RFC 8656, section 18.5).
 ghost use Rattle.std.specs.Prelude.{◌≡◌};
 ghost use Rattle.std.specs.Net.Socket.{IsPlainSocket, socket_ip, socket_port};
-ghost use Rattle.stun_types.specs.XorMappedAddress.{IsHidden, IsXored, xor_port, xored_address, xored_value};
+ghost use Rattle.stun_types.specs.XorMappedAddress.{IsHidden, IsXored, xor_port};
+ghost use Rattle.stun_types.specs.XorMappedAddress.{xored_address, xored_value};
 ghost use Rattle.stun_extra.specs.Turn.{xored_address_of, xored_address_of-written};
 ghost use Rattle.stun_extra.specs.AttributeTypes.{XOR_RELAYED_ADDRESS};
 

@@ -1,6 +1,7 @@
 //! What a server answers to unknown types, and what a client makes of them (RFC 8489, sections
 //! 6.3.1, 6.3.3 and 6.3.4).
-ghost use Rattle.std.specs.Prelude.{◌≡◌, ◌≤◌, ◌<◌, ◌↔◌, [], Ok, None, IfOk, IfSome, IsErrOf, IsOkUnless, IsSome, IsTrue, length};
+ghost use Rattle.std.specs.Prelude.{◌≡◌, ◌≤◌, ◌<◌, ◌↔◌, [], Ok, None, IfOk, IfSome};
+ghost use Rattle.std.specs.Prelude.{IsErrOf, IsOkUnless, IsSome, IsTrue, length};
 ghost use Rattle.stun_base.specs.Attributes.{ERROR_CODE};
 ghost use Rattle.stun_types.specs.Integrity.{first_of};
 ghost use Rattle.stun_types.specs.Visible.{visible};

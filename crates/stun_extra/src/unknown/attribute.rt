@@ -1,8 +1,11 @@
 //! UNKNOWN-ATTRIBUTES (RFC 8489, section 14.13).
-ghost use Rattle.std.specs.Prelude.{◌≡◌, ◌≤◌, ◌<◌, ◌+◌, ◌*◌, ◌%◌, ◌^◌, ◌++◌, ◌↔◌, ℕ, [], IsTrue, min, length, slice_index};
+ghost use Rattle.std.specs.Prelude.{◌≡◌, ◌≤◌, ◌<◌, ◌+◌, ◌*◌, ◌%◌, ◌^◌, ◌++◌, ◌↔◌};
+ghost use Rattle.std.specs.Prelude.{ℕ, [], IsTrue, min, length, slice_index};
 ghost use Rattle.std.specs.List.{slice_get};
 ghost use Rattle.stun_extra.specs.AttributeTypes.{UNKNOWN_ATTRIBUTES};
-ghost use Rattle.stun_extra.specs.Unknown.{AreTypes, spelled_types, types_in, unknown_attributes_in, unknown_attributes_in-written, unknown_types};
+ghost use Rattle.stun_extra.specs.Unknown.{AreTypes, spelled_types, types_in};
+ghost use Rattle.stun_extra.specs.Unknown.{unknown_attributes_in};
+ghost use Rattle.stun_extra.specs.Unknown.{unknown_attributes_in-written, unknown_types};
 
 use crate::unknown::unknown_types;
 use byteorder::{BigEndian, ByteOrder};

@@ -2,15 +2,18 @@
 use Rattle.std.proofs.Common.{ℕ, ◌≡◌, ap, refl}
 use Rattle.std.specs.Prelude.{Option, Some, None}
 use Rattle.std.specs.Option.{option_map, option_map_or}
-use Rattle.stun_agent.specs.Agent.{Agent, with_transactions, tallied, tally_of_sent, tally_of_end, sent_by_poll, after_poll_transmit, ended_by_poll, after_poll}
+use Rattle.stun_agent.specs.Agent.{Agent, with_transactions, tallied, tally_of_sent, tally_of_end}
+use Rattle.stun_agent.specs.Agent.{sent_by_poll, after_poll_transmit, ended_by_poll, after_poll}
 use Rattle.stun_agent.specs.Transactions.{Transaction, without, after_slots}
 
 -- counting leaves transport and transactions
-pub sent_transport : (sent : Option (ℕ × Transaction)) (a : Agent) → (tally_of_sent sent a).transport ≡ a.transport
+pub sent_transport : (sent : Option (ℕ × Transaction)) (a : Agent)
+    → (tally_of_sent sent a).transport ≡ a.transport
 sent_transport None a = refl
 sent_transport (Some e) a = refl
 
-pub sent_transactions : (sent : Option (ℕ × Transaction)) (a : Agent) → (tally_of_sent sent a).transactions ≡ a.transactions
+pub sent_transactions : (sent : Option (ℕ × Transaction)) (a : Agent)
+    → (tally_of_sent sent a).transactions ≡ a.transactions
 sent_transactions None a = refl
 sent_transactions (Some e) a = refl
 
@@ -19,14 +22,24 @@ pub transmit_transport : (now : ℕ) (a : Agent) → (after_poll_transmit now a)
 transmit_transport now a = sent_transport (sent_by_poll now a) _
 
 pub transmit_transactions : (now : ℕ) (a : Agent)
-    → (after_poll_transmit now a).transactions ≡ after_slots a.transport now (option_map (λ (x : ℕ × Transaction). x.0) (sent_by_poll now a)) a.transactions
+    → (after_poll_transmit now a).transactions
+    ≡ after_slots a.transport now (option_map (λ (x : ℕ × Transaction). x.0) (sent_by_poll now a))
+    a.transactions
 transmit_transactions now a = sent_transactions (sent_by_poll now a) _
 
 -- an end
-pub poll_transport : (now : ℕ) (a : Agent) (e : ℕ × Transaction) → ended_by_poll now a ≡ Some e → (after_poll now a).transport ≡ a.transport
+pub poll_transport : (now : ℕ) (a : Agent) (e : ℕ × Transaction) → ended_by_poll now a ≡ Some e
+    → (after_poll now a).transport ≡ a.transport
 poll_transport now a e f =
-    ap (λ o. (option_map_or (λ (x : ℕ × Transaction). tallied (tally_of_end x.1) (with_transactions a (without x.0 a.transactions))) o a).transport) f
+    ap (λ o.
+    (option_map_or
+    (λ (x : ℕ × Transaction). tallied (tally_of_end x.1)
+    (with_transactions a (without x.0 a.transactions))) o a).transport) f
 
-pub poll_transactions : (now : ℕ) (a : Agent) (e : ℕ × Transaction) → ended_by_poll now a ≡ Some e → (after_poll now a).transactions ≡ without e.0 a.transactions
+pub poll_transactions : (now : ℕ) (a : Agent) (e : ℕ × Transaction) → ended_by_poll now a ≡ Some e
+    → (after_poll now a).transactions ≡ without e.0 a.transactions
 poll_transactions now a e f =
-    ap (λ o. (option_map_or (λ (x : ℕ × Transaction). tallied (tally_of_end x.1) (with_transactions a (without x.0 a.transactions))) o a).transactions) f
+    ap (λ o.
+    (option_map_or
+    (λ (x : ℕ × Transaction). tallied (tally_of_end x.1)
+    (with_transactions a (without x.0 a.transactions))) o a).transactions) f

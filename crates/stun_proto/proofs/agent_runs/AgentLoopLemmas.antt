@@ -1,6 +1,8 @@
 -- A loop that is never late makes a driven run: until the moment that it is told to wait until, no
 -- moment is awaited.
-use Rattle.std.proofs.Common.{ℕ, zero, suc, ◌≡◌, ◌+◌, ◌<◌, ◌≤◌, ◌⊎◌, inl, inr, arith, Bool, true, false, not, ◌||◌, ◌&&◌, cond, List, [], ◌∷◌, ◌++◌, map, max, min, subst, ap, sym, refl, ◌∙◌, append_assoc}
+use Rattle.std.proofs.Common.{ℕ, zero, suc, ◌≡◌, ◌+◌, ◌<◌, ◌≤◌, ◌⊎◌, inl, inr, arith, Bool}
+use Rattle.std.proofs.Common.{true, false, not, ◌||◌, ◌&&◌, cond, List, [], ◌∷◌, ◌++◌, map}
+use Rattle.std.proofs.Common.{max, min, subst, ap, sym, refl, ◌∙◌, append_assoc}
 use Rattle.std.specs.Prelude.{Some, None, find, fold, nat_le}
 use Rattle.std.specs.Option.{option_map}
 use Rattle.std.specs.List.{AllByRecursion}
@@ -14,13 +16,19 @@ use Rattle.std.proofs.lemmas.Map.Entries.{lookup_head, lookup_tail}
 use Rattle.std.proofs.lemmas.Map.Keys.{sorted_head, sorted_tail}
 use Rattle.stun_base.specs.Moments.{last_moment, moment_after}
 use Rattle.stun_base.specs.declared.wire.transport.TransportType.{TransportType}
-use Rattle.stun_agent.specs.Agent.{Agent, after_poll_transmit, sent_by_poll, tally_of_sent, with_transactions}
-use Rattle.stun_agent.specs.Transactions.{IsAscending, Transaction, Transactions, after_slot, after_slots, an_hour, at, awaited, has_slots, is_cancelled, is_due, is_over, repeats}
+use Rattle.stun_agent.specs.Agent.{Agent, after_poll_transmit, sent_by_poll}
+use Rattle.stun_agent.specs.Agent.{tally_of_sent, with_transactions}
+use Rattle.stun_agent.specs.Transactions.{IsAscending, Transaction, Transactions}
+use Rattle.stun_agent.specs.Transactions.{after_slot, after_slots, an_hour, at, awaited}
+use Rattle.stun_agent.specs.Transactions.{has_slots, is_cancelled, is_due, is_over, repeats}
 use Rattle.stun_agent.proofs.Ascending.{lookup_among}
 use Rattle.stun_agent.proofs.EntryLemmas.{own_key, later_key}
 use Rattle.stun_proto.specs.declared.replay.event.AgentEvent.{AgentEvent}
-use Rattle.stun_proto.specs.AgentLoop.{AreInTurn, Comings, Loop, LoopsAreDriven, LoopsExist, LoopsSendByPlan, events_in, handed, polled, rest, wait_of}
-use Rattle.stun_proto.specs.Run.{IsAwaited, IsDriven, IsNext, Phase, Run, Turn, again, done, ends, event, none, rests, sending, sends, stops, turn, after_event, steps_of_event}
+use Rattle.stun_proto.specs.AgentLoop.{AreInTurn, Comings, Loop, LoopsAreDriven, LoopsExist}
+use Rattle.stun_proto.specs.AgentLoop.{LoopsSendByPlan, events_in, handed, polled, rest, wait_of}
+use Rattle.stun_proto.specs.Run.{IsAwaited, IsDriven, IsNext, Phase, Run, Turn}
+use Rattle.stun_proto.specs.Run.{again, done, ends, event, none, rests, sending}
+use Rattle.stun_proto.specs.Run.{sends, stops, turn, after_event, steps_of_event}
 use Rattle.stun_proto.specs.Schedule.{AreInOrder}
 use Rattle.stun_proto.specs.Steps.{Step}
 use Rattle.stun_proto.proofs.agent_runs.Existence.{has_turn}

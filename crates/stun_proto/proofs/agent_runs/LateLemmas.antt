@@ -1,6 +1,8 @@
 -- A request in a loop that may be late: its transmissions and its end are at the first turns at
 -- which they are due.
-use Rattle.std.proofs.Common.{ℕ, zero, suc, ◌+◌, ◌*◌, ◌≡◌, ◌<◌, ◌≤◌, ◌⊎◌, inl, inr, max, min, Bool, true, false, not, ◌&&◌, cond, List, [], ◌∷◌, ◌++◌, subst, ap, sym, refl, ◌∙◌, arith, add-one}
+use Rattle.std.proofs.Common.{ℕ, zero, suc, ◌+◌, ◌*◌, ◌≡◌, ◌<◌, ◌≤◌, ◌⊎◌, inl, inr}
+use Rattle.std.proofs.Common.{max, min, Bool, true, false, not, ◌&&◌, cond, List, []}
+use Rattle.std.proofs.Common.{◌∷◌, ◌++◌, subst, ap, sym, refl, ◌∙◌, arith, add-one}
 use Rattle.std.specs.Prelude.{Option, Some, None, filter_map, fold, map, nat_le, nat_lt}
 use Rattle.std.specs.List.{AllByRecursion, cons_option, range_with_len}
 use Rattle.std.specs.Option.{option_and_then, option_map, option_map_or}
@@ -10,7 +12,8 @@ use Rattle.std.specs.BTreeMap.{is_at}
 use Rattle.std.specs.Map.{set_value}
 use Rattle.std.specs.Global.{Vec}
 use Rattle.std.specs.declared.net.socket_addr.SocketAddr.{SocketAddr}
-use Rattle.std.proofs.lemmas.Bool.{ltb-true, ltb-false, leb-true, le-ltb, lt-ltb, le-leb, lt-leb, eq-eqb, ne_eqb}
+use Rattle.std.proofs.lemmas.Bool.{ltb-true, ltb-false, leb-true, le-ltb}
+use Rattle.std.proofs.lemmas.Bool.{lt-ltb, le-leb, lt-leb, eq-eqb, ne_eqb}
 use borrow.Author.Tests.{not-true}
 use Rattle.stun_base.specs.Header.{transaction_id_field}
 use Rattle.stun_base.specs.MessageType.{IsResponse, class_in}
@@ -18,27 +21,46 @@ use Rattle.stun_base.specs.Moments.{last_moment, moment_after}
 use Rattle.stun_base.specs.declared.keys.algorithm.IntegrityAlgorithm.{IntegrityAlgorithm}
 use Rattle.stun_base.specs.declared.wire.error.StunParseError.{StunParseError}
 use Rattle.stun_base.specs.declared.wire.message_type.MessageClass.{MessageClass}
-use Rattle.stun_base.specs.declared.wire.message_type.MessageClass.TheVariants.{Request, Indication, Success, Error}
+use Rattle.stun_base.specs.declared.wire.message_type.MessageClass.TheVariants.{Request, Indication}
+use Rattle.stun_base.specs.declared.wire.message_type.MessageClass.TheVariants.{Success, Error}
 use Rattle.stun_base.specs.declared.wire.transport.TransportType.{TransportType}
 use Rattle.stun_types.specs.Message.{refusal}
-use Rattle.stun_agent.specs.Agent.{Agent, with_transactions, answered, sending_refusal, after_send, request_refusal, request_of, after_send_request, takes_message, after_class, after_response, sent_by_poll, after_poll_transmit, ended_by_poll, after_poll}
+use Rattle.stun_agent.specs.Agent.{Agent, with_transactions, answered, sending_refusal}
+use Rattle.stun_agent.specs.Agent.{after_send, request_refusal, request_of, after_send_request}
+use Rattle.stun_agent.specs.Agent.{takes_message, after_class, after_response, sent_by_poll}
+use Rattle.stun_agent.specs.Agent.{after_poll_transmit, ended_by_poll, after_poll}
 use Rattle.stun_agent.specs.Integrity.{signing_algorithm}
-use Rattle.stun_agent.specs.Timing.{Settings, timeout, slots, final_wait, planned_end, sum_of_timeouts}
-use Rattle.stun_agent.specs.Transactions.{IsAscending, Transaction, at, cancelled, silenced, configured, next_sent, first_over, wake_up, an_hour, awaited, after_slot, after_slots, slot_passed, repeats}
+use Rattle.stun_agent.specs.Timing.{Settings, timeout, slots, final_wait}
+use Rattle.stun_agent.specs.Timing.{planned_end, sum_of_timeouts}
+use Rattle.stun_agent.specs.Transactions.{IsAscending, Transaction, at, cancelled, silenced}
+use Rattle.stun_agent.specs.Transactions.{configured, next_sent, first_over, wake_up, an_hour}
+use Rattle.stun_agent.specs.Transactions.{awaited, after_slot, after_slots, slot_passed, repeats}
 use Rattle.stun_agent.specs.declared.error.StunError.{StunError}
 use Rattle.stun_agent.specs.declared.error.StunError.TheVariants.{ParseError}
 use Rattle.stun_agent.specs.declared.state.transaction.Sending.TheVariants.{Repeats}
 use Rattle.stun_agent.proofs.AnswerLemmas.{elsewhere_unanswered}
-use Rattle.stun_agent.proofs.Ascending.{IsAscending-map, IsAscending-remove, IsAscending-set_value, IsAscending-insert, lookup-remove_other, lookup-set_other, lookup-insert_other, lookup-insert_same, fold-min-le}
+use Rattle.stun_agent.proofs.Ascending.{IsAscending-map, IsAscending-remove, IsAscending-set_value}
+use Rattle.stun_agent.proofs.Ascending.{IsAscending-insert, lookup-remove_other, lookup-set_other}
+use Rattle.stun_agent.proofs.Ascending.{lookup-insert_other, lookup-insert_same, fold-min-le}
 use Rattle.stun_agent.proofs.EntryLemmas.{same_key}
 use Rattle.stun_proto.specs.declared.replay.event.AgentEvent.{AgentEvent}
-use Rattle.stun_proto.specs.declared.replay.event.AgentEvent.TheVariants.{Send, SendRequest, Receive, Cancel, CancelRetransmissions, Configure, ValidatePeer}
-use Rattle.stun_proto.specs.AgentLoop.{Comings, IsRequested, LateLoopsAreBounded, Loop, LoopsSendByTurns, TurnsAreNeverEarly, ended_at, events_in, first_from, handed, moments_in, plan_by_turns, polled, rest, sent_at, wait_of}
-use Rattle.stun_proto.specs.Run.{Turn, sends, rests, ends, again, stops, Phase, sending, transmitted, ended, after_change, after_event, steps_of_event}
+use Rattle.stun_proto.specs.declared.replay.event.AgentEvent.TheVariants.{Send, SendRequest}
+use Rattle.stun_proto.specs.declared.replay.event.AgentEvent.TheVariants.{Receive, Cancel}
+use Rattle.stun_proto.specs.declared.replay.event.AgentEvent.TheVariants.{CancelRetransmissions}
+use Rattle.stun_proto.specs.declared.replay.event.AgentEvent.TheVariants.{Configure, ValidatePeer}
+use Rattle.stun_proto.specs.AgentLoop.{Comings, IsRequested, LateLoopsAreBounded, Loop}
+use Rattle.stun_proto.specs.AgentLoop.{LoopsSendByTurns, TurnsAreNeverEarly, ended_at}
+use Rattle.stun_proto.specs.AgentLoop.{events_in, first_from, handed, moments_in}
+use Rattle.stun_proto.specs.AgentLoop.{plan_by_turns, polled, rest, sent_at, wait_of}
+use Rattle.stun_proto.specs.Run.{Turn, sends, rests, ends, again, stops, Phase, sending}
+use Rattle.stun_proto.specs.Run.{transmitted, ended, after_change, after_event, steps_of_event}
 use Rattle.stun_proto.specs.Schedule.{IsAimedAt, transmission}
-use Rattle.stun_proto.specs.Steps.{Step, Transmitted, Sent, Received, Refused, TimedOut, Cancelled, own}
-use Rattle.stun_proto.proofs.agent_runs.AfterCalls.{transmit_transport, transmit_transactions, poll_transport, poll_transactions}
-use Rattle.stun_proto.proofs.agent_runs.OneTransaction.{other_key, sent_same, sent_other, sent_none, over_same}
+use Rattle.stun_proto.specs.Steps.{Step, Transmitted, Sent, Received}
+use Rattle.stun_proto.specs.Steps.{Refused, TimedOut, Cancelled, own}
+use Rattle.stun_proto.proofs.agent_runs.AfterCalls.{transmit_transport, transmit_transactions}
+use Rattle.stun_proto.proofs.agent_runs.AfterCalls.{poll_transport, poll_transactions}
+use Rattle.stun_proto.proofs.agent_runs.OneTransaction.{other_key, sent_same, sent_other}
+use Rattle.stun_proto.proofs.agent_runs.OneTransaction.{sent_none, over_same}
 use Rattle.stun_proto.proofs.agent_runs.ScheduleLaw.{fresh_request, response_taken}
 
 module _ (late id : ℕ) (transport : TransportType) (settings : Settings) (bytes : List ℕ)

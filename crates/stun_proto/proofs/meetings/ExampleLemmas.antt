@@ -1,5 +1,6 @@
 -- A server with one user, whose hash no other has.
-use Rattle.std.proofs.Common.{◌≡◌, ℕ, zero, suc, ◌<◌, ◌≤◌, Bool, true, false, cond, List, [], ◌∷◌, length, Some, None, refl, sym, ◌∙◌, ap, arith}
+use Rattle.std.proofs.Common.{◌≡◌, ℕ, zero, suc, ◌<◌, ◌≤◌, Bool, true, false, cond, List}
+use Rattle.std.proofs.Common.{[], ◌∷◌, length, Some, None, refl, sym, ◌∙◌, ap, arith}
 use Rattle.std.specs.Prelude.{◌&&◌, codes, nat_lt}
 use Rattle.std.specs.Option.{is_some}
 use Rattle.std.specs.Str.{IsAscii}
@@ -21,7 +22,8 @@ use Rattle.stun_auth.specs.declared.algorithm_set.AlgorithmSet.TheVariants.{Both
 use Rattle.stun_auth.specs.Client.{initial}
 use Rattle.stun_auth.specs.Registered.{Registered, name_cmp, new_registered, of_password, with_user}
 use Rattle.stun_proto.specs.Headline.{IsReadyClient}
-use Rattle.stun_proto.specs.Honest.{AgreesOn, HaveOwnHashes, IsReady, ShortNamesAreSigned, StrongestIsAgreed}
+use Rattle.stun_proto.specs.Honest.{AgreesOn, HaveOwnHashes, IsReady}
+use Rattle.stun_proto.specs.Honest.{ShortNamesAreSigned, StrongestIsAgreed}
 use Rattle.stun_proto.specs.Isolation.{concerns}
 use Rattle.stun_proto.specs.Matching.{AreTexts}
 use Rattle.stun_proto.specs.MeetingExample.{a_meeting, a_server, a_user}
@@ -32,7 +34,8 @@ module _ (none : Registered) (nobody : none.secrets ≡ map.empty) (who : NameAn
   present_at : (name : List ℕ) → map.get (with_user none who).secrets name
       ≡ cond (eq_by_cmp name_cmp name who.username) (Some (of_password who.password)) None
   present_at name =
-      ap (λ secrets. map.get (map.insert secrets who.username (of_password who.password)) name) nobody
+      ap (λ secrets. map.get (map.insert secrets who.username (of_password who.password)) name)
+      nobody
       ∙ get-insert nat_list_cmp_total map.empty who.username (of_password who.password) name
       ∙ ap (cond (eq_by_cmp name_cmp name who.username) (Some (of_password who.password)))
       (map.get-empty name_cmp name)

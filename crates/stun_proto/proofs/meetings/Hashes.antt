@@ -10,7 +10,8 @@ use Rattle.std.specs.FinMap.{contains_key-keys}
 use Rattle.std.proofs.lemmas.Map.Text.{is_eq-slice_cmp}
 use Rattle.std.proofs.lemmas.Slice.Eq.{bytes_eq-Decides}
 use Rattle.stun_base.specs.Keys.{userhash}
-use Rattle.stun_auth.specs.Registered.{Registered, UserSecret, name_cmp, name_with_hash, user_named, user_with_hash}
+use Rattle.stun_auth.specs.Registered.{Registered, UserSecret, name_cmp}
+use Rattle.stun_auth.specs.Registered.{name_with_hash, user_named, user_with_hash}
 use Rattle.stun_proto.specs.Honest.{HaveOwnHashes}
 
 abbrev same : List ℕ → List ℕ → Bool
@@ -31,35 +32,47 @@ front true b h = refl
 front false b h = cc
 
 -- the only name that passes a test is found
-find_only : (names : List (List ℕ)) (test : List ℕ → Bool) (name : List ℕ) → list_any (same name) names ≡ true → test name ≡ true
-    → ((x : List ℕ) → list_any (same x) names ≡ true → test x ≡ true → x ≡ name) → find test names ≡ Some name
+find_only : (names : List (List ℕ)) (test : List ℕ → Bool) (name : List ℕ)
+    → list_any (same name) names ≡ true → test name ≡ true
+    → ((x : List ℕ) → list_any (same x) names ≡ true → test x ≡ true → x ≡ name)
+    → find test names ≡ Some name
 find_only [] test name there passes only = cc
 find_only (x ∷ names) test name there passes only =
     elim (test x) as (λ b. test x ≡ b → cond b (Some x) (find test names) ≡ Some name) [
       | true ↦ λ h. ap Some (only x (front (same x x) _ (same_name x)) h)
-      | false ↦ λ h. find_only names test name (later h (same name x) refl there) passes (λ y among. only y (either (same y x) _ among))
+      | false ↦ λ h. find_only names test name (later h (same name x) refl there) passes
+          (λ y among. only y (either (same y x) _ among))
     ] refl
   where
-    later : test x ≡ false → (b : Bool) → same name x ≡ b → (b || list_any (same name) names) ≡ true → list_any (same name) names ≡ true
-    later h true e t = let is : name ≡ x = same_names name x e in absurd_of (sym h ∙ ap test (sym is) ∙ passes)
+    later : test x ≡ false → (b : Bool) → same name x ≡ b → (b || list_any (same name) names) ≡ true
+        → list_any (same name) names ≡ true
+    later h true e t = let is : name ≡ x = same_names name x e in
+        absurd_of (sym h ∙ ap test (sym is) ∙ passes)
       where
         absurd_of : false ≡ true → list_any (same name) names ≡ true
         absurd_of h = cc
     later h false e t = t
 
-own_name : (users : Registered) (name : List ℕ) → HaveOwnHashes users → is_some (map.get users.secrets name) ≡ true
+own_name : (users : Registered) (name : List ℕ) → HaveOwnHashes users
+    → is_some (map.get users.secrets name) ≡ true
     → name_with_hash users (userhash name users.realm) ≡ Some name
 own_name users name own there =
-    find_only (map.keys users.secrets) (λ x. bytes_eq (userhash x users.realm) (userhash name users.realm)) name
+    find_only (map.keys users.secrets)
+    (λ x. bytes_eq (userhash x users.realm) (userhash name users.realm)) name
     (sym (contains_key-keys users.secrets name) ∙ there)
     ((bytes_eq-Decides (userhash name users.realm) (userhash name users.realm)).1 refl)
-    (λ x among alike. own x name (contains_key-keys users.secrets x ∙ among) there ((bytes_eq-Decides (userhash x users.realm) (userhash name users.realm)).0 alike))
+    (λ x among alike. own x name (contains_key-keys users.secrets x ∙ among) there
+    ((bytes_eq-Decides (userhash x users.realm) (userhash name users.realm)).0 alike))
 
 -- a present user is named by name
-module _ (users : Registered) (name : List ℕ) (secret : UserSecret) (present : map.get users.secrets name ≡ Some secret) where
+module _ (users : Registered) (name : List ℕ) (secret : UserSecret)
+    (present : map.get users.secrets name ≡ Some secret) where
   pub own_user : user_named users name ≡ Some (record { username = name; secret = secret })
   own_user = ap (option_map (λ (s : UserSecret). record { username = name; secret = s })) present
 
   -- and by hash
-  pub own_hash : HaveOwnHashes users → user_with_hash users (userhash name users.realm) ≡ Some (record { username = name; secret = secret })
-  own_hash own = ap (option_and_then (user_named users)) (own_name users name own (ap is_some present)) ∙ own_user
+  pub own_hash : HaveOwnHashes users → user_with_hash users (userhash name users.realm)
+      ≡ Some (record { username = name; secret = secret })
+  own_hash own =
+      ap (option_and_then (user_named users)) (own_name users name own (ap is_some present))
+      ∙ own_user

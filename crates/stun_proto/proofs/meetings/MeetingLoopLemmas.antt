@@ -5,7 +5,8 @@ use Rattle.std.specs.declared.result.Result.{Result}
 use Rattle.stun_base.specs.declared.keys.algorithm.IntegrityAlgorithm.{IntegrityAlgorithm}
 use Rattle.stun_base.specs.declared.wire.error.StunWriteError.{StunWriteError}
 use Rattle.stun_auth.specs.declared.client.answer.LongTermClientValidation.TheVariants as Read
-use Rattle.stun_auth.specs.declared.server.reason.LongTermServerAuthErrorReason.TheVariants as Server
+use Rattle.stun_auth.specs.declared.server.reason.LongTermServerAuthErrorReason.TheVariants
+    as Server
 use Rattle.stun_auth.specs.declared.server.reason.LongTermServerValidation.TheVariants as Served
 use Rattle.stun_auth.specs.Additions.{Page}
 use Rattle.stun_auth.specs.Client.{ClientState, initial}
@@ -14,8 +15,13 @@ use Rattle.stun_auth.specs.Reading.{reading_of}
 use Rattle.stun_auth.specs.ServerSigning.{after_signing}
 use Rattle.stun_auth.specs.Validation.{Answer, ServerSeen}
 use Rattle.stun_proto.specs.Honest.{ComesTo, StrongestIsAgreed, strongest}
-use Rattle.stun_proto.specs.MeetingLoop.{ChallengeRead, ChallengeSigned, FirstRead, FirstSigned, MeetingsAgree, MeetingsAreNegotiated, SecondRead, SecondSigned, SuccessSigned}
-use Rattle.stun_proto.specs.Negotiation.{Meeting, Met, asked, challenge_answered, challenge_read, challenged, ended, first_answered, first_asked, outcome_of_success, responded, second_answered, second_asked, second_read, succeeded, unwritten}
+use Rattle.stun_proto.specs.MeetingLoop.{ChallengeRead, ChallengeSigned, FirstRead}
+use Rattle.stun_proto.specs.MeetingLoop.{FirstSigned, MeetingsAgree, MeetingsAreNegotiated}
+use Rattle.stun_proto.specs.MeetingLoop.{SecondRead, SecondSigned, SuccessSigned}
+use Rattle.stun_proto.specs.Negotiation.{Meeting, Met, asked, challenge_answered, challenge_read}
+use Rattle.stun_proto.specs.Negotiation.{challenged, ended, first_answered, first_asked}
+use Rattle.stun_proto.specs.Negotiation.{outcome_of_success, responded, second_answered}
+use Rattle.stun_proto.specs.Negotiation.{second_asked, second_read, succeeded, unwritten}
 use Rattle.stun_proto.specs.Serving.{after_calls}
 use Rattle.stun_proto.specs.Signing.{if_signed}
 use Rattle.stun_proto.proofs.server_runs.ServerLoopLemmas.{calls_are_served}

@@ -3,7 +3,8 @@ use Rattle.std.proofs.Common.{◌≡◌, true, refl, ap, Result, Ok, Err}
 use Rattle.stun_base.specs.declared.keys.algorithm.IntegrityAlgorithm.{IntegrityAlgorithm}
 use Rattle.stun_base.specs.declared.wire.error.StunWriteError.{StunWriteError}
 use Rattle.stun_auth.specs.declared.client.answer.LongTermClientValidation.TheVariants as Read
-use Rattle.stun_auth.specs.declared.server.reason.LongTermServerAuthErrorReason.TheVariants as Server
+use Rattle.stun_auth.specs.declared.server.reason.LongTermServerAuthErrorReason.TheVariants
+    as Server
 use Rattle.stun_auth.specs.declared.server.reason.LongTermServerValidation.TheVariants as Served
 use Rattle.stun_auth.specs.Additions.{Page}
 use Rattle.stun_auth.specs.Client.{ClientState}
@@ -11,7 +12,10 @@ use Rattle.stun_auth.specs.ClientStep.{ClientAnswer, UNAUTHORIZED, client_step}
 use Rattle.stun_auth.specs.Reading.{reading_of}
 use Rattle.stun_auth.specs.ServerSigning.{after_signing}
 use Rattle.stun_auth.specs.Validation.{Answer, ServerSeen, after_message, answer, sight}
-use Rattle.stun_proto.specs.Negotiation.{Meeting, asked, challenge_answered, challenged, failure, first_answered, first_asked, negotiated, outcome_of_success, responded, second_answered, second_asked, succeeded, success}
+use Rattle.stun_proto.specs.Negotiation.{Meeting, asked, challenge_answered, challenged}
+use Rattle.stun_proto.specs.Negotiation.{failure, first_answered, first_asked, negotiated}
+use Rattle.stun_proto.specs.Negotiation.{outcome_of_success, responded, second_answered}
+use Rattle.stun_proto.specs.Negotiation.{second_asked, succeeded, success}
 use Rattle.stun_proto.specs.Serving.{after_calls}
 use Rattle.stun_proto.specs.declared.replay.negotiation.Outcome.{Outcome}
 use Rattle.stun_proto.specs.declared.replay.negotiation.Outcome.TheVariants.{Validated}

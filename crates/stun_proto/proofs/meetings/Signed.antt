@@ -17,17 +17,22 @@ use Rattle.stun_base.specs.MessageType.{is_response, is_success}
 use Rattle.stun_auth.specs.Reading.{Reading, reading_of, verified_under}
 use Rattle.stun_auth.specs.Registered.{key_at}
 use Rattle.stun_auth.specs.Seen.{ClientSeen, PlaceSeen}
-use Rattle.stun_auth.specs.Signed.{Added, IsSmall, added_by_client, added_by_server, hashed_name, plain_name}
+use Rattle.stun_auth.specs.Signed.{Added, IsSmall, added_by_client}
+use Rattle.stun_auth.specs.Signed.{added_by_server, hashed_name, plain_name}
 use Rattle.stun_auth.specs.Server.{Sight}
 use Rattle.stun_proto.specs.Negotiation.{asked, failure, responded, success}
 use Rattle.stun_proto.specs.Renewal.{IsAsked, IsTold}
 
 -- what a server's nonces ask for
 pub record NoncesAsk : Type 0 where
-  pub algorithms : (set : AlgorithmSet) (f : Feature) (words : List ℕ) → asks_for_algorithms (nonce_of set f words) ≡ contains Sha256 set
-  pub userhash : (set : AlgorithmSet) (f : Feature) (words : List ℕ) → asks_for_userhash (nonce_of set f words) ≡ is_possible f
-  pub there : (set : AlgorithmSet) (f : Feature) (words : List ℕ) → is_some (security_bits (nonce_of set f words)) ≡ (contains Sha256 set || is_possible f)
-  pub alike : (set : AlgorithmSet) (f : Feature) (words others : List ℕ) → security_bits (nonce_of set f words) ≡ security_bits (nonce_of set f others)
+  pub algorithms : (set : AlgorithmSet) (f : Feature) (words : List ℕ)
+      → asks_for_algorithms (nonce_of set f words) ≡ contains Sha256 set
+  pub userhash : (set : AlgorithmSet) (f : Feature) (words : List ℕ)
+      → asks_for_userhash (nonce_of set f words) ≡ is_possible f
+  pub there : (set : AlgorithmSet) (f : Feature) (words : List ℕ)
+      → is_some (security_bits (nonce_of set f words)) ≡ (contains Sha256 set || is_possible f)
+  pub alike : (set : AlgorithmSet) (f : Feature) (words others : List ℕ)
+      → security_bits (nonce_of set f words) ≡ security_bits (nonce_of set f others)
   pub text : (set : AlgorithmSet) (f : Feature) (words : List ℕ) → IsUtf8 (nonce_of set f words)
 
 -- a request that has nothing
@@ -62,24 +67,39 @@ pub record IsSuccess (a : IntegrityAlgorithm) (key : List ℕ) (r : Reading) : T
 -- what is read of each message of a run
 pub record SignedIsRead : Type 0 where
   pub bare : (id : ℕ) (page : Page) → asked id initial ≡ Ok page → IsBare (reading_of page.bytes)
-  pub request : (id : ℕ) (state : ClientState) (c : Challenge) (set : AlgorithmSet) (hashes : Bool) (name realm : List ℕ) (page : Page)
-      → kept_challenge state ≡ Some c → c.algorithms ≡ listed set → c.naming ≡ naming_of hashes name realm
-      → IsUtf8 c.realm → IsUtf8 c.nonce → IsUtf8 name → asked id state ≡ Ok page → IsRequest c (reading_of page.bytes)
-  pub challenge : (id : ℕ) (s : Sight) (p : PlaceSeen) (page : Page) → s.place ≡ Some p → p.client ≡ None → IsUtf8 s.registered.realm → IsUtf8 p.nonce
+  pub request : (id : ℕ) (state : ClientState) (c : Challenge) (set : AlgorithmSet) (hashes : Bool)
+      (name realm : List ℕ) (page : Page)
+      → kept_challenge state ≡ Some c → c.algorithms ≡ listed set
+      → c.naming ≡ naming_of hashes name realm
+      → IsUtf8 c.realm → IsUtf8 c.nonce → IsUtf8 name → asked id state ≡ Ok page
+      → IsRequest c (reading_of page.bytes)
+  pub challenge : (id : ℕ) (s : Sight) (p : PlaceSeen) (page : Page) → s.place ≡ Some p
+      → p.client ≡ None → IsUtf8 s.registered.realm → IsUtf8 p.nonce
       → responded (failure UNAUTHORIZED id) s ≡ Ok page
-      → IsFailure UNAUTHORIZED s.registered.realm p.nonce (reading_of page.bytes) × ((reading_of page.bytes).algorithms ≡ Some (listed s.registered.algorithms))
-  pub any_request : (state : ClientState) (c : Challenge) (set : AlgorithmSet) (hashes : Bool) (name realm : List ℕ) (page : Page)
-      → kept_challenge state ≡ Some c → c.algorithms ≡ listed set → c.naming ≡ naming_of hashes name realm
-      → IsUtf8 c.realm → IsUtf8 c.nonce → IsUtf8 name → IsAsked state page → IsRequest c (reading_of page.bytes)
-  pub stale : (s : Sight) (p : PlaceSeen) (page : Page) → s.place ≡ Some p → IsUtf8 s.registered.realm → IsUtf8 p.nonce
+      → IsFailure UNAUTHORIZED s.registered.realm p.nonce (reading_of page.bytes)
+      × ((reading_of page.bytes).algorithms ≡ Some (listed s.registered.algorithms))
+  pub any_request : (state : ClientState) (c : Challenge) (set : AlgorithmSet) (hashes : Bool)
+      (name realm : List ℕ) (page : Page)
+      → kept_challenge state ≡ Some c → c.algorithms ≡ listed set
+      → c.naming ≡ naming_of hashes name realm
+      → IsUtf8 c.realm → IsUtf8 c.nonce → IsUtf8 name → IsAsked state page
+      → IsRequest c (reading_of page.bytes)
+  pub stale : (s : Sight) (p : PlaceSeen) (page : Page) → s.place ≡ Some p
+      → IsUtf8 s.registered.realm → IsUtf8 p.nonce
       → IsTold s page → IsFailure STALE_NONCE s.registered.realm p.nonce (reading_of page.bytes)
-  pub success : (id : ℕ) (s : Sight) (p : PlaceSeen) (c : ClientSeen) (key : List ℕ) (page : Page) → s.place ≡ Some p → p.client ≡ Some c
-      → key_at s.registered c.name c.algorithm ≡ Some key → IsUtf8 s.registered.realm → IsUtf8 p.nonce
+  pub success : (id : ℕ) (s : Sight) (p : PlaceSeen) (c : ClientSeen) (key : List ℕ) (page : Page)
+      → s.place ≡ Some p → p.client ≡ Some c
+      → key_at s.registered c.name c.algorithm ≡ Some key → IsUtf8 s.registered.realm
+      → IsUtf8 p.nonce
       → responded (success id) s ≡ Ok page → IsSuccess c.algorithm key (reading_of page.bytes)
 
 -- each message of a run can be signed with what is small, and nonces are short
 pub record SigningSucceeds : Type 0 where
-  pub request : (id : ℕ) (state : ClientState) → IsSmall (added_by_client true state) → IsOk (asked id state)
-  pub challenge : (id : ℕ) (s : Sight) (a : Added) → added_by_server s true ≡ Some a → IsSmall a → IsOk (responded (failure UNAUTHORIZED id) s)
-  pub success : (id : ℕ) (s : Sight) (a : Added) → added_by_server s true ≡ Some a → IsSmall a → IsOk (responded (success id) s)
-  pub short : (set : AlgorithmSet) (f : Feature) (words : List ℕ) → length (nonce_of set f words) ≤ 13 + length words
+  pub request : (id : ℕ) (state : ClientState) → IsSmall (added_by_client true state)
+      → IsOk (asked id state)
+  pub challenge : (id : ℕ) (s : Sight) (a : Added) → added_by_server s true ≡ Some a → IsSmall a
+      → IsOk (responded (failure UNAUTHORIZED id) s)
+  pub success : (id : ℕ) (s : Sight) (a : Added) → added_by_server s true ≡ Some a → IsSmall a
+      → IsOk (responded (success id) s)
+  pub short : (set : AlgorithmSet) (f : Feature) (words : List ℕ)
+      → length (nonce_of set f words) ≤ 13 + length words

@@ -1,5 +1,7 @@
 -- What `best` answers is the strongest algorithm that both lists have.
-use Rattle.std.proofs.Common.{◌≡◌, ◌≤◌, ◌⊎◌, List, [], ◌∷◌, Bool, true, false, Option, Some, None, Contains, filter, fold, refl, sym, ap, ap₂, ◌∙◌, inl, inr, true≢false, arith}
+use Rattle.std.proofs.Common.{◌≡◌, ◌≤◌, ◌⊎◌, List, [], ◌∷◌, Bool, true, false}
+use Rattle.std.proofs.Common.{Option, Some, None, Contains, filter, fold, refl}
+use Rattle.std.proofs.Common.{sym, ap, ap₂, ◌∙◌, inl, inr, true≢false, arith}
 use Rattle.std.specs.Prelude.{cond, not, ◌&&◌}
 use Rattle.std.specs.Cmp.{IsEquivalence}
 use Rattle.std.specs.List.{reduce}
@@ -12,7 +14,8 @@ use Rattle.stun_auth.specs.declared.feature.Feature.TheVariants.{Auto, Required,
 use Rattle.stun_auth.specs.Algorithms.{has, same_algorithm}
 use Rattle.stun_auth.specs.ClientStep.{is_required}
 use Rattle.stun_auth.specs.Feature.{is_possible}
-use Rattle.stun_proto.specs.Best.{HashIsRefused, IsBest, IsShared, IsStrongestShared, best, stronger}
+use Rattle.stun_proto.specs.Best.{HashIsRefused, IsBest, IsShared}
+use Rattle.stun_proto.specs.Best.{IsStrongestShared, best, stronger}
 
 -- ---- by cases
 
@@ -20,7 +23,8 @@ use Rattle.stun_proto.specs.Best.{HashIsRefused, IsBest, IsShared, IsStrongestSh
 abbrev pub common : Bool → Bool → Bool → Bool → Option IntegrityAlgorithm
 common h1 h256 s1 s256 = cond (s256 && h256) (Some Sha256) (cond (s1 && h1) (Some Sha1) None)
 
-fold-stronger : (a : IntegrityAlgorithm) (list : List IntegrityAlgorithm) → fold stronger a list ≡ cond (has Sha256 (a ∷ list)) Sha256 Sha1
+fold-stronger : (a : IntegrityAlgorithm) (list : List IntegrityAlgorithm)
+    → fold stronger a list ≡ cond (has Sha256 (a ∷ list)) Sha256 Sha1
 fold-stronger Sha1 [] = refl
 fold-stronger Sha256 [] = refl
 fold-stronger Sha1 (Sha1 ∷ list) = fold-stronger Sha1 list
@@ -32,9 +36,11 @@ Some-cond : (b : Bool) (a c : IntegrityAlgorithm) → Some (cond b a c) ≡ cond
 Some-cond true a c = refl
 Some-cond false a c = refl
 
-reduce-stronger : (list : List IntegrityAlgorithm) → reduce stronger list ≡ cond (has Sha256 list) (Some Sha256) (cond (has Sha1 list) (Some Sha1) None)
+reduce-stronger : (list : List IntegrityAlgorithm) → reduce stronger list
+    ≡ cond (has Sha256 list) (Some Sha256) (cond (has Sha1 list) (Some Sha1) None)
 reduce-stronger [] = refl
-reduce-stronger (Sha1 ∷ list) = ap Some (fold-stronger Sha1 list) ∙ Some-cond (has Sha256 list) Sha256 Sha1
+reduce-stronger (Sha1 ∷ list) =
+    ap Some (fold-stronger Sha1 list) ∙ Some-cond (has Sha256 list) Sha256 Sha1
 reduce-stronger (Sha256 ∷ list) = ap Some (fold-stronger Sha256 list)
 
 same : (a b : IntegrityAlgorithm) → same_algorithm b a ≡ true → a ≡ b
@@ -43,17 +49,21 @@ same Sha256 Sha256 h = refl
 same Sha1 Sha256 h = cc
 same Sha256 Sha1 h = cc
 
-has-filter : (a : IntegrityAlgorithm) (p : IntegrityAlgorithm → Bool) (list : List IntegrityAlgorithm) → has a (filter p list) ≡ (p a && has a list)
-has-filter a p list = any-filter_same (λ b. same_algorithm b a) p (p a) (λ b h. sym (ap p (same a b h))) list
+has-filter : (a : IntegrityAlgorithm) (p : IntegrityAlgorithm → Bool)
+    (list : List IntegrityAlgorithm) → has a (filter p list) ≡ (p a && has a list)
+has-filter a p list =
+    any-filter_same (λ b. same_algorithm b a) p (p a) (λ b h. sym (ap p (same a b h))) list
 
 pub best-by_cases : (client server : List IntegrityAlgorithm) (wanted given : Feature)
     → best client server wanted given
-    ≡ cond (is_required wanted && not (is_possible given)) None (common (has Sha1 client) (has Sha256 client) (has Sha1 server) (has Sha256 server))
+    ≡ cond (is_required wanted && not (is_possible given)) None
+    (common (has Sha1 client) (has Sha256 client) (has Sha1 server) (has Sha256 server))
 best-by_cases client server wanted given =
     let both : IntegrityAlgorithm → Bool = λ a. has a server in
     ap (cond (is_required wanted && not (is_possible given)) None)
     (reduce-stronger (filter both client)
-    ∙ ap₂ (λ one other. cond other (Some Sha256) (cond one (Some Sha1) None)) (has-filter Sha1 both client) (has-filter Sha256 both client))
+    ∙ ap₂ (λ one other. cond other (Some Sha256) (cond one (Some Sha1) None))
+    (has-filter Sha1 both client) (has-filter Sha256 both client))
 
 -- ---- the law, for what both have of each algorithm, and whether nothing may be agreed on
 
@@ -77,7 +87,8 @@ none_of_two Sha1 h = cc
 none_of_two Sha256 h = cc
 
 some_is : (refused one other : Bool) (a : IntegrityAlgorithm) → choice refused one other ≡ Some a
-    → (refused ≡ false) × (of_two one other a ≡ true) × ((b : IntegrityAlgorithm) → of_two one other b ≡ true → strength b ≤ strength a)
+    → (refused ≡ false) × (of_two one other a ≡ true)
+    × ((b : IntegrityAlgorithm) → of_two one other b ≡ true → strength b ≤ strength a)
 some_is true one other a h = cc
 some_is false one true Sha256 h = (refl, refl, λ b _. below_sha256 b)
 some_is false one true Sha1 h = cc
@@ -85,22 +96,27 @@ some_is false true false Sha1 h = (refl, refl, sha1_alone)
 some_is false true false Sha256 h = cc
 some_is false false false a h = cc
 
-is_some : (refused one other : Bool) (a : IntegrityAlgorithm) → refused ≡ false → of_two one other a ≡ true
-    → ((b : IntegrityAlgorithm) → of_two one other b ≡ true → strength b ≤ strength a) → choice refused one other ≡ Some a
+is_some : (refused one other : Bool) (a : IntegrityAlgorithm) → refused ≡ false
+    → of_two one other a ≡ true
+    → ((b : IntegrityAlgorithm) → of_two one other b ≡ true → strength b ≤ strength a)
+    → choice refused one other ≡ Some a
 is_some true one other a allowed h most = cc
 is_some false one true Sha256 allowed h most = refl
-is_some false one true Sha1 allowed h most = let wrong : ⊥ = omega (arith, most Sha256 refl) in absurd wrong
+is_some false one true Sha1 allowed h most = let wrong : ⊥ =
+    omega (arith, most Sha256 refl) in absurd wrong
 is_some false true false Sha1 allowed h most = refl
 is_some false false false Sha1 allowed h most = cc
 is_some false one false Sha256 allowed h most = cc
 
-none_is : (refused one other : Bool) → choice refused one other ≡ None → (refused ≡ true) ⊎ ((a : IntegrityAlgorithm) → of_two one other a ≡ true → ⊥)
+none_is : (refused one other : Bool) → choice refused one other ≡ None
+    → (refused ≡ true) ⊎ ((a : IntegrityAlgorithm) → of_two one other a ≡ true → ⊥)
 none_is true one other h = inl refl
 none_is false one true h = cc
 none_is false true false h = cc
 none_is false false false h = inr none_of_two
 
-is_none : (refused one other : Bool) → (refused ≡ true) ⊎ ((a : IntegrityAlgorithm) → of_two one other a ≡ true → ⊥) → choice refused one other ≡ None
+is_none : (refused one other : Bool) → (refused ≡ true)
+    ⊎ ((a : IntegrityAlgorithm) → of_two one other a ≡ true → ⊥) → choice refused one other ≡ None
 is_none true one other h = refl
 is_none false one other (inl h) = cc
 is_none false one true (inr nothing) = absurd (nothing Sha256 refl)
@@ -122,13 +138,16 @@ same_equal = record { refl = itself; symm = either_way; congr = alike }
     either_way Sha256 Sha1 = refl
     either_way Sha256 Sha256 = refl
 
-    alike : (a b c : IntegrityAlgorithm) → same_algorithm b a ≡ true → same_algorithm c a ≡ same_algorithm c b
+    alike : (a b c : IntegrityAlgorithm) → same_algorithm b a ≡ true
+        → same_algorithm c a ≡ same_algorithm c b
     alike a b c h = ap (same_algorithm c) (same a b h)
 
-Contains-from_has : (a : IntegrityAlgorithm) (list : List IntegrityAlgorithm) → has a list ≡ true → Contains list a
+Contains-from_has : (a : IntegrityAlgorithm) (list : List IntegrityAlgorithm) → has a list ≡ true
+    → Contains list a
 Contains-from_has a list = Contains-from_any {eq = λ x y. same_algorithm y x} same a list
 
-pub has_from_Contains : (a : IntegrityAlgorithm) (list : List IntegrityAlgorithm) → Contains list a → has a list ≡ true
+pub has_from_Contains : (a : IntegrityAlgorithm) (list : List IntegrityAlgorithm) → Contains list a
+    → has a list ≡ true
 has_from_Contains a list = list_any-from_Contains {eq = λ x y. same_algorithm y x} same_equal a list
 
 both_true : (a b : Bool) → (a && b) ≡ true → (a ≡ true) × (b ≡ true)
@@ -136,14 +155,16 @@ both_true true true h = (refl, refl)
 both_true true false h = cc
 both_true false b h = cc
 
-refused_is : (wanted given : Feature) → (is_required wanted && not (is_possible given)) ≡ true → HashIsRefused wanted given
+refused_is : (wanted given : Feature) → (is_required wanted && not (is_possible given)) ≡ true
+    → HashIsRefused wanted given
 refused_is Required Disabled h = (refl, refl)
 refused_is Required Auto h = cc
 refused_is Required Required h = cc
 refused_is Auto given h = cc
 refused_is Disabled given h = cc
 
-is_refused : (wanted given : Feature) → HashIsRefused wanted given → (is_required wanted && not (is_possible given)) ≡ true
+is_refused : (wanted given : Feature) → HashIsRefused wanted given
+    → (is_required wanted && not (is_possible given)) ≡ true
 is_refused wanted given h = ap₂ (λ w g. is_required w && not (is_possible g)) h.0 h.1
 
 false_unless : (b : Bool) → (b ≡ true → ⊥) → b ≡ false
@@ -170,26 +191,43 @@ module _ (client server : List IntegrityAlgorithm) (wanted given : Feature) wher
       (Contains-from_has a client both.1, Contains-from_has a server both.0)
 
   is_shared : (a : IntegrityAlgorithm) → IsShared client server a → of_two one other a ≡ true
-  is_shared a h = of_lists a ∙ ap₂ (λ s c. s && c) (has_from_Contains a server h.1) (has_from_Contains a client h.0)
+  is_shared a h = of_lists a
+      ∙ ap₂ (λ s c. s && c) (has_from_Contains a server h.1) (has_from_Contains a client h.0)
 
   by_two : best client server wanted given ≡ choice refused one other
   by_two = best-by_cases client server wanted given
 
-  some_strongest : (a : IntegrityAlgorithm) → best client server wanted given ≡ Some a → (HashIsRefused wanted given → ⊥) × IsStrongestShared client server a
+  some_strongest : (a : IntegrityAlgorithm) → best client server wanted given ≡ Some a
+      → (HashIsRefused wanted given → ⊥) × IsStrongestShared client server a
   some_strongest a h =
-      let is = some_is refused one other a (sym by_two ∙ h) in
-      (λ clash. true≢false (sym (is_refused wanted given clash) ∙ is.0), record { shared = shared_is a is.1; strongest = λ b shared. is.2 b (is_shared b shared) })
+      let is = some_is refused one other a (sym by_two ∙ h) in (
+        λ clash. true≢false (sym (is_refused wanted given clash) ∙ is.0),
+        record { shared = shared_is a is.1; strongest = λ b shared. is.2 b (is_shared b shared) },
+      )
 
-  strongest_some : (a : IntegrityAlgorithm) → (HashIsRefused wanted given → ⊥) × IsStrongestShared client server a → best client server wanted given ≡ Some a
+  strongest_some : (a : IntegrityAlgorithm) → (HashIsRefused wanted given → ⊥)
+      × IsStrongestShared client server a → best client server wanted given ≡ Some a
   strongest_some a h =
-      by_two ∙ is_some refused one other a (false_unless refused (λ clash. h.0 (refused_is wanted given clash))) (is_shared a h.1.shared) (λ b has. h.1.strongest b (shared_is b has))
+      by_two ∙ is_some refused one other a
+      (false_unless refused (λ clash. h.0 (refused_is wanted given clash))) (is_shared a h.1.shared)
+      (λ b has. h.1.strongest b (shared_is b has))
 
-  none_shared : best client server wanted given ≡ None → HashIsRefused wanted given ⊎ ((a : IntegrityAlgorithm) → IsShared client server a → ⊥)
-  none_shared h = elim (none_is refused one other (sym by_two ∙ h)) [ inl clash ↦ inl (refused_is wanted given clash) | inr nothing ↦ inr (λ a shared. nothing a (is_shared a shared)) ]
+  none_shared : best client server wanted given ≡ None
+      → HashIsRefused wanted given ⊎ ((a : IntegrityAlgorithm) → IsShared client server a → ⊥)
+  none_shared h =
+      elim (none_is refused one other (sym by_two ∙ h)) [
+        | inl clash ↦ inl (refused_is wanted given clash)
+        | inr nothing
+            ↦ inr (λ a shared. nothing a (is_shared a shared))
+      ]
 
-  shared_none : HashIsRefused wanted given ⊎ ((a : IntegrityAlgorithm) → IsShared client server a → ⊥) → best client server wanted given ≡ None
+  shared_none : HashIsRefused wanted given
+      ⊎ ((a : IntegrityAlgorithm) → IsShared client server a → ⊥)
+      → best client server wanted given ≡ None
   shared_none (inl h) = by_two ∙ is_none refused one other (inl (is_refused wanted given h))
-  shared_none (inr nothing) = by_two ∙ is_none refused one other (inr (λ a has. nothing a (shared_is a has)))
+  shared_none (inr nothing) = by_two
+      ∙ is_none refused one other (inr (λ a has. nothing a (shared_is a has)))
 
   pub best_is : IsBest client server wanted given (best client server wanted given)
-  best_is = record { some = λ a. (some_strongest a, strongest_some a); none = (none_shared, shared_none) }
+  best_is =
+      record { some = λ a. (some_strongest a, strongest_some a); none = (none_shared, shared_none) }

@@ -1,17 +1,26 @@
 -- One call that a user makes of a server, by the clauses of that call.
-use Rattle.std.proofs.Common.{◌≡◌, ℕ, ◌-◌, Bool, List, length, Option, None, refl, sym, subst, ap, ◌∙◌, Result, Ok, Err}
+use Rattle.std.proofs.Common.{◌≡◌, ℕ, ◌-◌, Bool, List, length, Option, None}
+use Rattle.std.proofs.Common.{refl, sym, subst, ap, ◌∙◌, Result, Ok, Err}
 use Rattle.std.specs.Prelude.{OnErr, OnOk}
 use Rattle.std.specs.Global.{Vec}
 use Rattle.std.specs.declared.net.socket_addr.SocketAddr.{SocketAddr}
 use Rattle.stun_base.specs.MessageType.{class_in, is_response}
 use Rattle.stun_base.specs.declared.wire.error.StunParseError.{StunParseError}
 use Rattle.stun_base.specs.declared.wire.error.StunWriteError.{StunWriteError}
-use Rattle.stun_base.specs.declared.wire.error.StunWriteError.TheVariants.{NotAllowed, MessageIntegrityExists, AttributeExists, TooLarge, TooSmall, IntegrityFailed, OutOfMemory}
+use Rattle.stun_base.specs.declared.wire.error.StunWriteError.TheVariants.{NotAllowed}
+use Rattle.stun_base.specs.declared.wire.error.StunWriteError.TheVariants.{MessageIntegrityExists}
+use Rattle.stun_base.specs.declared.wire.error.StunWriteError.TheVariants.{AttributeExists}
+use Rattle.stun_base.specs.declared.wire.error.StunWriteError.TheVariants.{TooLarge, TooSmall}
+use Rattle.stun_base.specs.declared.wire.error.StunWriteError.TheVariants.{IntegrityFailed}
+use Rattle.stun_base.specs.declared.wire.error.StunWriteError.TheVariants.{OutOfMemory}
 use Rattle.stun_types.specs.Message.{IsMessage, refusal}
 use Rattle.stun_types.specs.WriteVec.{Written}
 use Rattle.stun_types.proofs.MessageLemmas.{refusal-none}
-use Rattle.stun_auth.specs.declared.server.reason.LongTermServerAuthErrorReason.{LongTermServerAuthErrorReason}
-use Rattle.stun_auth.specs.declared.server.reason.LongTermServerAuthErrorReason.TheVariants as Server
+use Rattle.stun_auth.specs.declared.server.reason.LongTermServerAuthErrorReason.{
+  LongTermServerAuthErrorReason,
+}
+use Rattle.stun_auth.specs.declared.server.reason.LongTermServerAuthErrorReason.TheVariants
+    as Server
 use Rattle.stun_auth.specs.Additions.{Page, UnlessMemory, page_of, written}
 use Rattle.stun_auth.specs.Reading.{reading_of}
 use Rattle.stun_auth.specs.Reasons.{OrMemory}

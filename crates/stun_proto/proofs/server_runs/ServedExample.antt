@@ -1,5 +1,6 @@
 -- The three calls of a client, as the server of its meeting replies to them.
-use Rattle.std.proofs.Common.{◌≡◌, ℕ, ◌<◌, ◌≤◌, ◌^◌, Bool, true, List, [], ◌∷◌, length, None, refl, sym, ap, ◌∙◌, arith, Ok, Err}
+use Rattle.std.proofs.Common.{◌≡◌, ℕ, ◌<◌, ◌≤◌, ◌^◌, Bool, true, List, [], ◌∷◌}
+use Rattle.std.proofs.Common.{length, None, refl, sym, ap, ◌∙◌, arith, Ok, Err}
 use Rattle.std.specs.List.{AllByRecursion}
 use Rattle.std.specs.declared.net.socket_addr.SocketAddr.{SocketAddr}
 use Rattle.stun_base.specs.MessageType.{class_of, type_number}
@@ -11,7 +12,8 @@ use Rattle.stun_types.specs.Visible.{visible}
 use Rattle.stun_types.specs.Walk.{walk_up_to}
 use Rattle.stun_types.specs.Writing.{IsOpen}
 use Rattle.stun_types.proofs.MessageLemmas.{refusal-none}
-use Rattle.stun_auth.specs.declared.server.reason.LongTermServerAuthErrorReason.TheVariants as Server
+use Rattle.stun_auth.specs.declared.server.reason.LongTermServerAuthErrorReason.TheVariants
+    as Server
 use Rattle.stun_auth.specs.declared.server.reason.LongTermServerValidation.TheVariants as Served
 use Rattle.stun_auth.specs.Additions.{Addition, Page, added_all, page_of}
 use Rattle.stun_auth.specs.Client.{ClientState, initial}

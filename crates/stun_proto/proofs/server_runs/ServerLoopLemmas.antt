@@ -1,5 +1,6 @@
 -- Each call that a user makes on a server is the call of a run.
-use Rattle.std.proofs.Common.{◌≡◌, ℕ, Bool, true, false, cond, List, [], ◌∷◌, Option, Some, None, refl, sym, subst, ap, ◌∙◌, Result, Ok, Err}
+use Rattle.std.proofs.Common.{◌≡◌, ℕ, Bool, true, false, cond, List, [], ◌∷◌, Option}
+use Rattle.std.proofs.Common.{Some, None, refl, sym, subst, ap, ◌∙◌, Result, Ok, Err}
 use Rattle.std.specs.Duration.{as_nanos}
 use Rattle.std.specs.declared.net.socket_addr.SocketAddr.{SocketAddr}
 use Rattle.stun_base.specs.MessageType.{class_in, is_response}
@@ -21,8 +22,11 @@ use Rattle.stun_proto.specs.declared.replay.call.ServerCall.TheVariants as Call
 use Rattle.stun_proto.specs.Headline.{ValidatesEachCall}
 use Rattle.stun_proto.specs.Isolation.{IsIsolated}
 use Rattle.stun_proto.specs.Replies.{message_read}
-use Rattle.stun_proto.specs.ServerLoop.{AreMade, BuiltAreWrittenSo, CallsAreServed, IfMessage, IsMade, Told, signed_or_refused, told}
-use Rattle.stun_proto.specs.Serving.{Reply, Done, TooShort, after_call, after_calls, is_too_short, places_unless, replies, reply, reply_of_answer, reply_of_signing, reply_unless}
+use Rattle.stun_proto.specs.ServerLoop.{AreMade, BuiltAreWrittenSo, CallsAreServed}
+use Rattle.stun_proto.specs.ServerLoop.{IfMessage, IsMade, Told, signed_or_refused, told}
+use Rattle.stun_proto.specs.Serving.{Reply, Done, TooShort, after_call, after_calls}
+use Rattle.stun_proto.specs.Serving.{is_too_short, places_unless, replies, reply}
+use Rattle.stun_proto.specs.Serving.{reply_of_answer, reply_of_signing, reply_unless}
 use Rattle.stun_proto.specs.Signing.{if_signed, next_if_written, refusal_at}
 use Rattle.stun_proto.proofs.server_runs.AcceptingLemmas.{validates_accepted}
 use Rattle.stun_proto.proofs.server_runs.Digests.{digest_held}

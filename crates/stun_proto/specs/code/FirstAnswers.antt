@@ -1,17 +1,25 @@
--- What the sides of a meeting answer to the first messages, as the code has it (RFC 8489, sections 9.2.4 and 9.2.5).
+-- What the sides of a meeting answer to the first messages, as the code has it (RFC 8489, sections
+-- 9.2.4 and 9.2.5).
 use Rattle.std.specs.Prelude.{Option, Some, None}
 use Rattle.std.specs.declared.result.Result.{Result}
 use Rattle.std.specs.declared.result.Result.TheVariants.{Ok, Err}
 use Rattle.stun_base.specs.declared.keys.algorithm.IntegrityAlgorithm.{IntegrityAlgorithm}
 use Rattle.stun_auth.specs.ClientStep.{ClientAnswer}
 use Rattle.stun_auth.specs.Validation.{Answer}
-use Rattle.stun_auth.specs.declared.client.answer.LongTermClientAuthErrorReason.TheVariants as Client
+use Rattle.stun_auth.specs.declared.client.answer.LongTermClientAuthErrorReason.TheVariants
+    as Client
 use Rattle.stun_auth.specs.declared.client.answer.LongTermClientValidation.TheVariants as Read
 use Rattle.stun_auth.specs.declared.server.reason.LongTermServerValidation.TheVariants.{Validated}
-use Rattle.stun_auth.specs.declared.server.reason.LongTermServerAuthErrorReason.{LongTermServerAuthErrorReason}
-use Rattle.stun_auth.specs.declared.server.reason.LongTermServerAuthErrorReason.TheVariants.{Unauthorized}
+use Rattle.stun_auth.specs.declared.server.reason.LongTermServerAuthErrorReason.{
+  LongTermServerAuthErrorReason,
+}
+use Rattle.stun_auth.specs.declared.server.reason.LongTermServerAuthErrorReason.TheVariants.{
+  Unauthorized,
+}
 use Rattle.stun_proto.specs.declared.replay.negotiation.Outcome.{Outcome}
-use Rattle.stun_proto.specs.declared.replay.negotiation.Outcome.TheVariants.{AlreadyValidated, ServerRefused, ClientRefused}
+use Rattle.stun_proto.specs.declared.replay.negotiation.Outcome.TheVariants.{AlreadyValidated}
+use Rattle.stun_proto.specs.declared.replay.negotiation.Outcome.TheVariants.{ServerRefused}
+use Rattle.stun_proto.specs.declared.replay.negotiation.Outcome.TheVariants.{ClientRefused}
 
 -- the answer by the algorithm of an accepted request, or by the reason of a refusal
 abbrev pub answer_of : Result IntegrityAlgorithm LongTermServerAuthErrorReason → Answer

@@ -9,4 +9,10 @@ turn_of t = record { id = t.id; now = t.moment; words = t.words; before = t.befo
 
 -- of a client that is set so
 abbrev pub meeting_of : ClientSettings → code.Meeting → Meeting
-meeting_of settings m = record { settings = settings; from = m.from; first = turn_of m.first; second = turn_of m.second }
+meeting_of settings m =
+    record {
+      settings = settings;
+      from = m.from;
+      first = turn_of m.first;
+      second = turn_of m.second;
+    }

@@ -2,7 +2,8 @@
 ghost use Rattle.std.specs.Prelude.{◌≡◌, ◌≢◌, ◌∷◌, [], None, IfOk, IsOk, OnOk, OnErr};
 ghost use Rattle.stun_agent.specs.Agent.{request_refusal};
 ghost use Rattle.stun_proto.specs.code.Calls.{Keeps, kept, TakesEvent};
-ghost use Rattle.stun_proto.specs.Run.{after_sending, step_of_sending, after_asking, step_of_asking, after_receiving, step_of_receiving};
+ghost use Rattle.stun_proto.specs.Run.{after_sending, step_of_sending, after_asking};
+ghost use Rattle.stun_proto.specs.Run.{step_of_asking, after_receiving, step_of_receiving};
 ghost use Rattle.stun_proto.specs.Steps.{Sent, step_of};
 
 use crate::replay::event::{AgentEvent, AgentStep};
@@ -14,7 +15,8 @@ use stun_agent::agent::{StunAgent, StunError};
 use stun_base::instant::Instant;
 use stun_types::message::Message;
 
-/// An event, and its step. An error means that the agent's own allocation failed: then the agent is as before.
+/// An event, and its step. An error means that the agent's own allocation failed: then the agent is
+/// as before.
 pub(crate) fn apply<A: Allocator + Copy>(
     alloc: A,
     agent: &mut StunAgent<A>,

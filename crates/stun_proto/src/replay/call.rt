@@ -13,8 +13,8 @@ use stun_base::algorithm::IntegrityAlgorithm;
 use stun_base::error::{StunParseError, StunWriteError};
 use stun_base::instant::Instant;
 
-/// A call of a server. `Debug` shows which call it is and none of its values, whatever options a formatter has: a password is
-/// one.
+/// A call of a server. `Debug` shows which call it is and none of its values, whatever options a
+/// formatter has: a password is one.
 #[derive(Drop)]
 #[derive_where(PartialEq, Eq)]
 pub enum ServerCall {
@@ -29,7 +29,8 @@ pub enum ServerCall {
         /// The random words of a nonce, where one is made.
         words: [u32; 16],
     },
-    /// A message is to be signed for an address: its attributes are written anew, and then what signing adds.
+    /// A message is to be signed for an address: its attributes are written anew, and then what
+    /// signing adds.
     Sign {
         /// The address that it goes to.
         to: SocketAddr,
@@ -99,10 +100,12 @@ pub enum ServerReply<A: Allocator = Global> {
     Refused(LongTermServerAuthErrorReason),
     /// The message as it was signed.
     Signed(Vec<u8, A>),
-    /// Writing or signing the message is refused: the first reason that holds, which is never `OutOfMemory`.
+    /// Writing or signing the message is refused: the first reason that holds, which is never
+    /// `OutOfMemory`.
     SignRefused(StunWriteError),
     /// The call is done.
     Done,
-    /// Nonces are to last for less than 30 seconds, which a server does not take. Nothing was called.
+    /// Nonces are to last for less than 30 seconds, which a server does not take. Nothing was
+    /// called.
     TooShort,
 }

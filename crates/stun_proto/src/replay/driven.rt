@@ -16,7 +16,8 @@ use std::alloc::{AllocError, Allocator};
 use stun_agent::agent::StunAgent;
 use stun_base::instant::Instant;
 
-/// Drives an agent by a list of events, each at its moment, and answers what the agent did, in order.
+/// Drives an agent by a list of events, each at its moment, and answers what the agent did, in
+/// order.
 ///
 /// The moments of the events must not go back, and none may be after `until`. The run is this:
 ///
@@ -24,8 +25,9 @@ use stun_base::instant::Instant;
 /// 2. Then the event comes, and a turn at its moment.
 /// 3. After the last event, each awaited moment up to `until` has a turn. Without events nothing happens.
 ///
-/// A turn at a moment calls `poll_transmit` until it answers `None`, then `poll` until it answers `WaitUntil`, and
-/// begins again while that moment is this one. At `Instant::MAX` there is one turn.
+/// A turn at a moment calls `poll_transmit` until it answers `None`, then `poll` until it answers
+/// `WaitUntil`, and begins again while that moment is this one. At `Instant::MAX` there is one
+/// turn.
 ///
 /// A request that one event asks for, and that no response from its address, no cancellation and no
 /// change meets up to its end, is sent at its first moment and at the sums of its timeouts from
@@ -34,10 +36,11 @@ use stun_base::instant::Instant;
 /// those that this agent made; `run` says the latter alone, and `plans` the former for ids that
 /// come again.
 ///
-/// Where an allocation fails the answer is `Stopped`, and the steps are lost. The agent is then exactly the one after
-/// the first `done` events, with the turns at their moments and before the next one (where none is left, up to
-/// `until`). Event `done` has not come. So `drive` with this agent and the events from `done` on makes the rest of the
-/// run: no event comes twice, and none is left out (law `stopped_runs_go_on`).
+/// Where an allocation fails the answer is `Stopped`, and the steps are lost. The agent is then
+/// exactly the one after the first `done` events, with the turns at their moments and before the
+/// next one (where none is left, up to `until`). Event `done` has not come. So `drive` with this
+/// agent and the events from `done` on makes the rest of the run: no event comes twice, and none is
+/// left out (law `stopped_runs_go_on`).
 pub fn drive<A: Allocator + Copy>(
     alloc: A,
     agent: &mut StunAgent<A>,
@@ -53,7 +56,8 @@ pub fn drive<A: Allocator + Copy>(
         (steps_of steps.items)) }
     ensures stopped { IfErr result (λ stopped. HasStopped until stopped.done agent.old events.now agent.new) }
 {
-    // For the proof: its clause `kept` says that ids ascend, and each request is kept under its own.
+    // For the proof: its clause `kept` says that ids ascend, and each request is kept under its
+    // own.
     let _awaited = agent.next_awaited();
     let mut log = StepLog::new(alloc);
     if events.is_empty() {
@@ -77,7 +81,8 @@ pub fn drive<A: Allocator + Copy>(
     Ok(log.steps)
 }
 
-/// The turns before an event, the event, and the turn at its moment. After an error the event has not come.
+/// The turns before an event, the event, and the turn at its moment. After an error the event has
+/// not come.
 fn take_event<A: Allocator + Copy>(
     alloc: A,
     agent: &mut StunAgent<A>,

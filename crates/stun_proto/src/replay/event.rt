@@ -49,7 +49,8 @@ pub enum AgentEvent {
         /// The longest wait between two transmissions.
         max: Duration,
     },
-    /// An address is named as one whose messages were taken. Messages of other addresses are taken all the same.
+    /// An address is named as one whose messages were taken. Messages of other addresses are taken
+    /// all the same.
     ValidatePeer(SocketAddr),
 }
 
@@ -81,12 +82,12 @@ pub enum AgentStep<A: Allocator = Global> {
     Received {
         /// The moment.
         at: Instant,
-        /// Whether the agent took it: a request or an indication always, a response where it answers an outstanding
-        /// request that went to its sender.
+        /// Whether the agent took it: a request or an indication always, a response where it
+        /// answers an outstanding request that went to its sender.
         accepted: bool,
     },
-    /// A call was refused. Bytes that were received and are no message are `ParseError`. It is never `OutOfMemory`:
-    /// where an allocation fails, the run is `Stopped`.
+    /// A call was refused. Bytes that were received and are no message are `ParseError`. It is
+    /// never `OutOfMemory`: where an allocation fails, the run is `Stopped`.
     Refused {
         /// The moment.
         at: Instant,

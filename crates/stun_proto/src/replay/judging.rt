@@ -16,8 +16,8 @@ use stun_base::instant::Instant;
 use stun_base::words::WordSource;
 use stun_types::message::Message;
 
-/// What a server makes of a message: the algorithm with which it is accepted, or why it is refused. The one
-/// error is that an allocation failed; the server is then as before.
+/// What a server makes of a message: the algorithm with which it is accepted, or why it is refused.
+/// The one error is that an allocation failed; the server is then as before.
 pub(crate) fn judged<A: Allocator + Copy>(
     server: &mut LongTermServerAuth<A>,
     message: &Message<'_>,

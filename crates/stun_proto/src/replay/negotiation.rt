@@ -32,7 +32,8 @@ use thiserror::Error;
 /// What a client and a server come to.
 #[derive(Clone, Copy, Debug, PartialEq, Eq)]
 pub enum Outcome {
-    /// Both sides said so: the server accepted the second request with this algorithm, and the client its success.
+    /// Both sides said so: the server accepted the second request with this algorithm, and the
+    /// client its success.
     Validated(IntegrityAlgorithm),
     /// The server accepted the first request with this algorithm already.
     AlreadyValidated(IntegrityAlgorithm),
@@ -86,10 +87,11 @@ impl From<Stopped> for NegotiateError {
     }
 }
 
-/// A client and a server meet: a Binding request with the first id, which the server reads at the first moment; a 401, which
-/// the client reads; a request with the second id, which the server reads at the second moment; a success, which the client
-/// reads. Each message is signed by the side that sends it, and read through its bytes. The server makes the first list of
-/// calls just before the client reads the 401, and the second one just before it reads the second request.
+/// A client and a server meet: a Binding request with the first id, which the server reads at the
+/// first moment; a 401, which the client reads; a request with the second id, which the server
+/// reads at the second moment; a success, which the client reads. Each message is signed by the
+/// side that sends it, and read through its bytes. The server makes the first list of calls just
+/// before the client reads the 401, and the second one just before it reads the second request.
 ///
 /// A ready client is accepted with its second request and with the strongest algorithm that both
 /// sides support; the server knows it then, and it the server. Where there is none, it answers
@@ -102,11 +104,12 @@ impl From<Stopped> for NegotiateError {
 /// said of a downgrade. The clause `headline` says this; `strongest` says it without the two
 /// limits, where no signing is refused; and `steps` says that both went through the meeting.
 ///
-/// The answer is the outcome that ends the run: a first request that is accepted, a refusal of the server other than
-/// `Unauthorized` to the first request, a refusal of the client, an answer of the client to the 401 other than
-/// `ResendRequest`, or both sides' acceptance. `Write` is the reason of a signing that was refused, and never
-/// `OutOfMemory`. Where an allocation fails the answer is `Memory`. Both sides are then as the first steps of the run leave
-/// them, and another step was to follow; each call of a list is a step.
+/// The answer is the outcome that ends the run: a first request that is accepted, a refusal of the
+/// server other than `Unauthorized` to the first request, a refusal of the client, an answer of the
+/// client to the 401 other than `ResendRequest`, or both sides' acceptance. `Write` is the reason
+/// of a signing that was refused, and never `OutOfMemory`. Where an allocation fails the answer is
+/// `Memory`. Both sides are then as the first steps of the run leave them, and another step was to
+/// follow; each call of a list is a step.
 #[tactic(none)]
 pub fn negotiate<A: Allocator + Copy>(
     alloc: A,
@@ -174,7 +177,8 @@ fn turn_at<'a>(
     }
 }
 
-/// A nonce is made of sixteen words. For the proof alone: the type of the words says it, and contracts do not see types.
+/// A nonce is made of sixteen words. For the proof alone: the type of the words says it, and
+/// contracts do not see types.
 fn words_are_sixteen(words: [u32; 16])
     ensures { length words ≡ 16 }
 {}

@@ -1,6 +1,7 @@
 //! A server's run over a list of calls.
 
-ghost use Rattle.std.specs.Prelude.{◌≡◌, ◌≢◌, ◌≤◌, None, Ok, Err, IfOk, OnOk, OnErr, IfErr, IsOk, length, take};
+ghost use Rattle.std.specs.Prelude.{◌≡◌, ◌≢◌, ◌≤◌, None, Ok, Err, IfOk};
+ghost use Rattle.std.specs.Prelude.{OnOk, OnErr, IfErr, IsOk, length, take};
 ghost use Rattle.std.specs.declared.net.socket_addr.SocketAddr.{SocketAddr as TheAddress};
 ghost use Rattle.stun_types.specs.Message.{refusal};
 ghost use Rattle.stun_auth.specs.Reading.{reading_of};
@@ -9,7 +10,9 @@ ghost use Rattle.stun_proto.specs.Accepting.{ValidatesAccepted};
 ghost use Rattle.stun_proto.specs.Headline.{ValidatesEachCall};
 ghost use Rattle.stun_proto.specs.Isolation.{IsIsolated, own, sight_over};
 ghost use Rattle.stun_proto.specs.Replies.{message_read};
-ghost use Rattle.stun_proto.specs.Serving.{after_call, after_calls, places_unless, replies, replies_of, reply, reply_of, reply_of_answer, reply_unless};
+ghost use Rattle.stun_proto.specs.Serving.{after_call, after_calls, places_unless};
+ghost use Rattle.stun_proto.specs.Serving.{replies, replies_of, reply, reply_of};
+ghost use Rattle.stun_proto.specs.Serving.{reply_of_answer, reply_unless};
 
 use crate::replay::call::{ServerCall, ServerReply};
 use crate::replay::event::Stopped;
@@ -26,13 +29,16 @@ use stun_types::message::Message;
 
 /// Makes the calls in their order, and answers the reply to each.
 ///
-/// The replies to an address are those of a run over its own calls and those that concern every address (on users and
-/// settings, and `ForgetExpired`): no call of another address has a part in them. A request or an indication is validated if
-/// and only if it has a realm, the nonce that is current at its address, consistent algorithms, and the digest under the key of
-/// the registered user whom it names (RFC 8489, section 9.2.4), at the place that its address's own earlier calls leave.
+/// The replies to an address are those of a run over its own calls and those that concern every
+/// address (on users and settings, and `ForgetExpired`): no call of another address has a part in
+/// them. A request or an indication is validated if and only if it has a realm, the nonce that is
+/// current at its address, consistent algorithms, and the digest under the key of the registered
+/// user whom it names (RFC 8489, section 9.2.4), at the place that its address's own earlier calls
+/// leave.
 ///
-/// The one error is that an allocation failed: the server is then as after the first `done` calls. The call whose allocation
-/// failed is none of them, unless it was complete and only its reply found no room.
+/// The one error is that an allocation failed: the server is then as after the first `done` calls.
+/// The call whose allocation failed is none of them, unless it was complete and only its reply
+/// found no room.
 pub fn serve<A: Allocator + Copy>(
     alloc: A,
     server: &mut LongTermServerAuth<A>,
@@ -122,7 +128,8 @@ fn serve_call<A: Allocator + Copy>(
     }
 }
 
-/// Validates bytes that came from an address, where they are a message. Where they are none, no allocation fails.
+/// Validates bytes that came from an address, where they are a message. Where they are none, no
+/// allocation fails.
 fn validate<A: Allocator + Copy>(
     server: &mut LongTermServerAuth<A>,
     bytes: &[u8],

@@ -6,8 +6,8 @@ ghost use Rattle.stun_proto.specs.code.Calls.{Keeps, kept};
 use crate::replay::event::AgentStep;
 use std::alloc::{AllocError, Allocator};
 
-/// The steps of an agent. Once an allocation fails they are lost, and the calls of the run go on without them, up to
-/// a place where the run can stop.
+/// The steps of an agent. Once an allocation fails they are lost, and the calls of the run go on
+/// without them, up to a place where the run can stop.
 #[derive(Drop)]
 pub(crate) struct StepLog<A: Allocator> {
     /// The steps, unless they are lost.

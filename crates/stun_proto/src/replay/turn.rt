@@ -1,7 +1,8 @@
 //! One turn of a run: what is due at a moment is sent, and what is over ends.
 ghost use Rattle.std.specs.Prelude.{◌≡◌, IfOk};
 ghost use Rattle.stun_base.specs.Header.{BeginsWithHeader, transaction_id_field};
-ghost use Rattle.stun_proto.specs.code.Calls.{kept, SendsOne, EndsOne, SendsAll, EndsAll, TakesTurn};
+ghost use Rattle.stun_proto.specs.code.Calls.{kept, SendsOne, EndsOne};
+ghost use Rattle.stun_proto.specs.code.Calls.{SendsAll, EndsAll, TakesTurn};
 ghost use Rattle.stun_proto.specs.Steps.{Transmitted, step_of};
 
 use crate::replay::event::AgentStep;
@@ -12,8 +13,9 @@ use stun_agent::agent::{StunAgent, StunAgentPollRet};
 use stun_base::header::MessageHeader;
 use stun_base::instant::Instant;
 
-/// One turn at a moment: what is due is sent, what is over ends, and again while the moment to wait until is this
-/// one. At the last moment there is one turn. The agent's calls allocate nothing, so a turn is always whole.
+/// One turn at a moment: what is due is sent, what is over ends, and again while the moment to wait
+/// until is this one. At the last moment there is one turn. The agent's calls allocate nothing, so
+/// a turn is always whole.
 pub(crate) fn turn<A: Allocator + Copy>(
     alloc: A,
     agent: &mut StunAgent<A>,

@@ -1,14 +1,22 @@
 //! The calls on an agent: requests and their time (RFC 8489, section 6.2).
 
-ghost use Rattle.std.specs.Prelude.{◌≡◌, ◌⊎◌, length, pos, MatchResult, Some, None, Ok, IfNone, IfSome, IsTrue};
-ghost use Rattle.stun_agent.specs.Agent.{after_poll, after_poll_transmit, after_send, poll_answer, sent_by_poll};
+ghost use Rattle.std.specs.Prelude.{◌≡◌, ◌⊎◌, length, pos, MatchResult};
+ghost use Rattle.std.specs.Prelude.{Some, None, Ok, IfNone, IfSome, IsTrue};
+ghost use Rattle.stun_agent.specs.Agent.{after_poll, after_poll_transmit};
+ghost use Rattle.stun_agent.specs.Agent.{after_send, poll_answer, sent_by_poll};
 ghost use Rattle.stun_agent.specs.Transactions.{cancelled, silenced};
 ghost use Rattle.stun_state.specs.Addresses.{socket_address};
-ghost use Rattle.stun_state.specs.Agent.{bytes_told, found, handled, id_in, id_told, kept_after_configuring, kept_after_forgetting, kept_after_message, kept_after_naming, kept_after_request, known, made, made_with, moment_told, peer_found, polled, requested, sent, sent_again, sent_to, statistics_answer, told_of, transport_numbered, unless_untimed, with_changed};
+ghost use Rattle.stun_state.specs.Agent.{bytes_told, found, handled, id_in, id_told};
+ghost use Rattle.stun_state.specs.Agent.{kept_after_configuring, kept_after_forgetting};
+ghost use Rattle.stun_state.specs.Agent.{kept_after_message, kept_after_naming, kept_after_request};
+ghost use Rattle.stun_state.specs.Agent.{known, made, made_with, moment_told, peer_found, polled};
+ghost use Rattle.stun_state.specs.Agent.{requested, sent, sent_again, sent_to, statistics_answer};
+ghost use Rattle.stun_state.specs.Agent.{told_of, transport_numbered, unless_untimed, with_changed};
 ghost use Rattle.stun_state.specs.Answers.{at_address, done_if_given};
 ghost use Rattle.stun_state.specs.Codes.{code_of};
 ghost use Rattle.stun_state.specs.Memory.{IsRequestTaken, message_adds_none, naming_adds_none};
-ghost use Rattle.stun_state.specs.Numbers.{IsOrOutOfMemory, OrOutOfMemory, done_answer, left_by, length_answer, number_answer};
+ghost use Rattle.stun_state.specs.Numbers.{IsOrOutOfMemory, OrOutOfMemory, done_answer};
+ghost use Rattle.stun_state.specs.Numbers.{left_by, length_answer, number_answer};
 
 use crate::address::Address;
 use crate::agent::{Statistics, Timeouts};

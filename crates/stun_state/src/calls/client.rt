@@ -1,14 +1,17 @@
 //! The calls on the long-term authenticator of a client (RFC 8489, sections 9.2.3 and 9.2.5).
 
-ghost use Rattle.std.specs.Prelude.{◌≡◌, ◌⊎◌, length, pos, MatchOption, Some, None, Ok, IfNone, IfSome};
+ghost use Rattle.std.specs.Prelude.{◌≡◌, ◌⊎◌, length, pos, MatchOption};
+ghost use Rattle.std.specs.Prelude.{Some, None, Ok, IfNone, IfSome};
 ghost use Rattle.stun_auth.specs.ClientSigning.{signing_algorithm};
 ghost use Rattle.stun_state.specs.Answers.{done_if_given, texts_refusal};
 ghost use Rattle.stun_auth.specs.Client.{new_client};
 ghost use Rattle.stun_state.specs.Client as on_client;
 ghost use Rattle.stun_state.specs.Client.{after_validating, validated, with_credentials};
-ghost use Rattle.stun_state.specs.Codes.{algorithm_or_none, algorithms_numbered, code_of, feature_numbered};
+ghost use Rattle.stun_state.specs.Codes.{algorithm_or_none, algorithms_numbered};
+ghost use Rattle.stun_state.specs.Codes.{code_of, feature_numbered};
 ghost use Rattle.stun_state.specs.Memory.{AsksAgain};
-ghost use Rattle.stun_state.specs.Numbers.{OrOutOfMemory, done_answer, length_answer, reading_answer};
+ghost use Rattle.stun_state.specs.Numbers.{OrOutOfMemory, done_answer};
+ghost use Rattle.stun_state.specs.Numbers.{length_answer, reading_answer};
 ghost use Rattle.stun_state.specs.Signing.{buffer_after, length_of, signed_by_client};
 
 use crate::codes::Refusal;

@@ -1,26 +1,30 @@
 //! The calls on the long-term authenticator of a server (RFC 8489, section 9.2.4).
-
 ghost use Rattle.std.specs.FinMap as map;
 ghost use Rattle.std.specs.Prelude.{◌≡◌, length, pos, MatchOption, Some, None, Ok, IfNone, IfSome};
 ghost use Rattle.stun_auth.specs.Forgetting.{after_forgetting, without_place};
 ghost use Rattle.stun_auth.specs.ForgettingSteps.{after_step, next_address};
 ghost use Rattle.stun_state.specs.Addresses.{socket_address, start_for, start_told};
-ghost use Rattle.stun_state.specs.Answers.{after_address, after_start, at_address, at_start, done_if_given, text_refusal, texts_refusal, unless_refused};
-ghost use Rattle.stun_state.specs.Handed.{kept_after_signing_of, kept_after_validating_of, named_by, naming_answer, naming_length, naming_written, signed_of, user_of_keys, user_of_password, validation_number_of};
+ghost use Rattle.stun_state.specs.Answers.{after_address, after_start};
+ghost use Rattle.stun_state.specs.Answers.{at_start, done_if_given, text_refusal};
+ghost use Rattle.stun_state.specs.Answers.{texts_refusal, unless_refused};
 ghost use Rattle.stun_auth.specs.Registered.{with_user};
 ghost use Rattle.stun_auth.specs.Validation.{new_server};
 ghost use Rattle.stun_state.specs.Codes.{algorithms_numbered, code_of, feature_numbered};
 ghost use Rattle.stun_state.specs.Memory.{LeavesServer};
-ghost use Rattle.stun_state.specs.Numbers.{IsOrOutOfMemory, OrOutOfMemory, done_answer, found_answer, left_by, length_answer, number_answer};
+ghost use Rattle.stun_state.specs.Numbers.{OrOutOfMemory, done_answer};
+ghost use Rattle.stun_state.specs.Numbers.{found_answer, left_by, length_answer, number_answer};
 ghost use Rattle.stun_state.specs.Server as on_server;
-ghost use Rattle.stun_state.specs.Server.{UNBOUNDED, client_at, client_found, kept_after_validating, name_length_of, name_written, nonce_at, nonce_found, nonce_written, step_answer, validation_number, with_expiry, without_client, without_named};
+ghost use Rattle.stun_state.specs.Server.{UNBOUNDED, client_at, client_found};
+ghost use Rattle.stun_state.specs.Server.{kept_after_validating, name_length_of};
+ghost use Rattle.stun_state.specs.Server.{name_written, nonce_at, nonce_found};
+ghost use Rattle.stun_state.specs.Server.{nonce_written, step_answer, validation_number};
+ghost use Rattle.stun_state.specs.Server.{with_expiry, without_client, without_named};
 ghost use Rattle.stun_state.specs.Signing.{buffer_after, kept_after_signing, length_of, signed_for};
 
 use crate::address::Address;
 use crate::codes::Refusal;
-use crate::handed::Given;
 use crate::handle::server::{Server, ServerHandle};
-use crate::{answers, handed, server};
+use crate::{answers, server};
 use std::alloc::Global;
 
 /// Fills a handle with a server of a realm.
@@ -296,185 +300,6 @@ pub extern "C" fn stunp_server_sign(
         return Refusal::EmptyHandle.code();
     };
     let answer = answers::length(server::sign(&mut kept.server, buffer, length, to));
-    handle.put(alloc, kept);
-    answer
-}
-
-/// By whose key a message that came from an address is judged.
-#[unsafe(no_mangle)]
-pub extern "C" fn stunp_server_named_user(
-    alloc: Global,
-    handle: &mut ServerHandle,
-    message: &[u8],
-    from: &Address,
-    name: &mut [u8],
-    name_length: &mut usize,
-) -> i64
-    ensures empty { IfNone handle.old.server ((result ≡ code_of Refusal.EmptyHandle)
-        × (handle.new.server ≡ None)
-        × (name.new ≡ name.old) × (name_length.new ≡ name_length.old)) }
-    ensures answer { IfSome handle.old.server (λ kept. result ≡ number_answer
-        (at_address (socket_address from.now)
-        (naming_answer kept.server message.now (length name.old)))) }
-    ensures name { IfSome handle.old.server (λ kept. name.new
-        ≡ after_address (socket_address from.now) name.old
-        (λ from. naming_written name.old (named_by kept.server message.now from))) }
-
-    // Also where the buffer has no room for it.
-    ensures name_length { IfSome handle.old.server (λ kept. name_length.new
-        ≡ after_address (socket_address from.now) name_length.old
-        (λ from. naming_length (named_by kept.server message.now from) name_length.old)) }
-    ensures same { handle.new.server ≡ handle.old.server }
-{
-    let Some(kept) = handle.take(alloc) else {
-        return Refusal::EmptyHandle.code();
-    };
-    let named = handed::named_user(&kept.server, message, from, name, name_length);
-    let answer = answers::number(named);
-    handle.put(alloc, kept);
-    answer
-}
-
-/// Who signed a message that came from an address, where the server has just the user of a name and
-/// a password.
-#[unsafe(no_mangle)]
-pub extern "C" fn stunp_server_validate_of(
-    alloc: Global,
-    handle: &mut ServerHandle,
-    message: &[u8],
-    from: &Address,
-    now: u64,
-    words: &[u32; 16],
-    name: &[u8],
-    password: &[u8],
-) -> i64
-    ensures empty { IfNone handle.old.server ((result ≡ code_of Refusal.EmptyHandle)
-        × (handle.new.server ≡ None)) }
-    ensures answer { IfSome handle.old.server (λ kept. OrOutOfMemory result
-        handle.old.server handle.new.server
-        (validation_number_of kept message.now from.now now words.now
-        (user_of_password name.now password.now))
-        (Some (record kept {
-          server = kept_after_validating_of kept message.now from.now now words.now
-              (user_of_password name.now password.now);
-        }))) }
-{
-    let Some(mut kept) = handle.take(alloc) else {
-        return Refusal::EmptyHandle.code();
-    };
-    let given = Given::Password(password);
-    let verdict = handed::validate(alloc, &mut kept, message, from, now, words, name, given);
-    let answer = answers::algorithm(verdict);
-    handle.put(alloc, kept);
-    answer
-}
-
-/// Signs the message at the front of a buffer, which goes to an address, where the server has just
-/// the user of a name and a password.
-#[unsafe(no_mangle)]
-pub extern "C" fn stunp_server_sign_of(
-    alloc: Global,
-    handle: &mut ServerHandle,
-    buffer: &mut [u8],
-    length: usize,
-    to: &Address,
-    name: &[u8],
-    password: &[u8],
-) -> i64
-    ensures empty { IfNone handle.old.server ((result ≡ code_of Refusal.EmptyHandle)
-        × (handle.new.server ≡ None)
-        × (buffer.new ≡ buffer.old)) }
-    ensures answer { IfSome handle.old.server (λ kept. IsOrOutOfMemory result (length_answer
-        (length_of (signed_of kept.server buffer.old length to.now
-        (user_of_password name.now password.now))))) }
-    ensures written { IfSome handle.old.server (λ kept. buffer.new ≡ left_by result buffer.old
-        (buffer_after (signed_of kept.server buffer.old length to.now
-        (user_of_password name.now password.now)) buffer.old)) }
-    ensures state { IfSome handle.old.server (λ kept. handle.new.server ≡ Some (record kept {
-      server = left_by result kept.server
-          (kept_after_signing_of kept.server buffer.old length to.now
-          (user_of_password name.now password.now));
-    })) }
-{
-    let Some(mut kept) = handle.take(alloc) else {
-        return Refusal::EmptyHandle.code();
-    };
-    let given = Given::Password(password);
-    let signed = handed::sign(alloc, &mut kept.server, buffer, length, to, name, given);
-    let answer = answers::length(signed);
-    handle.put(alloc, kept);
-    answer
-}
-
-/// Who signed a message that came from an address, where the server has just the user of a name and
-/// stored keys.
-#[unsafe(no_mangle)]
-pub extern "C" fn stunp_server_validate_of_keys(
-    alloc: Global,
-    handle: &mut ServerHandle,
-    message: &[u8],
-    from: &Address,
-    now: u64,
-    words: &[u32; 16],
-    name: &[u8],
-    sha1: &[u8],
-    sha256: &[u8],
-) -> i64
-    ensures empty { IfNone handle.old.server ((result ≡ code_of Refusal.EmptyHandle)
-        × (handle.new.server ≡ None)) }
-    ensures answer { IfSome handle.old.server (λ kept. OrOutOfMemory result
-        handle.old.server handle.new.server
-        (validation_number_of kept message.now from.now now words.now
-        (user_of_keys name.now sha1.now sha256.now))
-        (Some (record kept {
-          server = kept_after_validating_of kept message.now from.now now words.now
-              (user_of_keys name.now sha1.now sha256.now);
-        }))) }
-{
-    let Some(mut kept) = handle.take(alloc) else {
-        return Refusal::EmptyHandle.code();
-    };
-    let given = Given::Keys(sha1, sha256);
-    let verdict = handed::validate(alloc, &mut kept, message, from, now, words, name, given);
-    let answer = answers::algorithm(verdict);
-    handle.put(alloc, kept);
-    answer
-}
-
-/// Signs the message at the front of a buffer, which goes to an address, where the server has just
-/// the user of a name and stored keys.
-#[unsafe(no_mangle)]
-pub extern "C" fn stunp_server_sign_of_keys(
-    alloc: Global,
-    handle: &mut ServerHandle,
-    buffer: &mut [u8],
-    length: usize,
-    to: &Address,
-    name: &[u8],
-    sha1: &[u8],
-    sha256: &[u8],
-) -> i64
-    ensures empty { IfNone handle.old.server ((result ≡ code_of Refusal.EmptyHandle)
-        × (handle.new.server ≡ None)
-        × (buffer.new ≡ buffer.old)) }
-    ensures answer { IfSome handle.old.server (λ kept. IsOrOutOfMemory result (length_answer
-        (length_of (signed_of kept.server buffer.old length to.now
-        (user_of_keys name.now sha1.now sha256.now))))) }
-    ensures written { IfSome handle.old.server (λ kept. buffer.new ≡ left_by result buffer.old
-        (buffer_after (signed_of kept.server buffer.old length to.now
-        (user_of_keys name.now sha1.now sha256.now)) buffer.old)) }
-    ensures state { IfSome handle.old.server (λ kept. handle.new.server ≡ Some (record kept {
-      server = left_by result kept.server
-          (kept_after_signing_of kept.server buffer.old length to.now
-          (user_of_keys name.now sha1.now sha256.now));
-    })) }
-{
-    let Some(mut kept) = handle.take(alloc) else {
-        return Refusal::EmptyHandle.code();
-    };
-    let given = Given::Keys(sha1, sha256);
-    let signed = handed::sign(alloc, &mut kept.server, buffer, length, to, name, given);
-    let answer = answers::length(signed);
     handle.put(alloc, kept);
     answer
 }

@@ -4,4 +4,7 @@ use Rattle.stun_agent.proofs.ResponseLemmas.{unanswering_ignored}
 use Rattle.stun_agent.proofs.laws.a_response_from_elsewhere_changes_nothing.Goals as goal
 
 pub returns : goal.returns
-returns c = λ moment bytes from agent t response there apart. unanswering_ignored (class_in bytes) moment bytes from agent response (elsewhere_unanswered bytes from agent t there apart)
+returns c =
+    λ moment bytes from agent t response there apart.
+    unanswering_ignored (class_in bytes) moment bytes from agent response
+    (elsewhere_unanswered bytes from agent t there apart)

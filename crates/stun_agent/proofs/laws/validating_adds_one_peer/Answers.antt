@@ -9,4 +9,7 @@ returns-clause-added c = λ address other peers. is_peer-with_peer address other
 
 pub returns-clause-exact : goal.returns-clause-exact
 returns-clause-exact c =
-    λ address other. (λ same. same_address-exact address other same, λ same. subst (λ a. same_address address a ≡ true) same (same_address-own address))
+    λ address other. (
+      λ same. same_address-exact address other same,
+      λ same. subst (λ a. same_address address a ≡ true) same (same_address-own address),
+    )

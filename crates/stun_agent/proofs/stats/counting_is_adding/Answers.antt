@@ -1,4 +1,5 @@
-use Rattle.stun_agent.proofs.StatisticsLemmas.{counted-counted, counted_in_turn-new, IsLeast-none, IsGreatest-none}
+use Rattle.stun_agent.proofs.StatisticsLemmas.{counted-counted, counted_in_turn-new}
+use Rattle.stun_agent.proofs.StatisticsLemmas.{IsLeast-none, IsGreatest-none}
 use Rattle.stun_agent.specs.Statistics.{total}
 use Rattle.stun_agent.proofs.stats.counting_is_adding.Goals as goal
 
@@ -9,7 +10,9 @@ pub returns-clause-all : goal.returns-clause-all
 returns-clause-all c = λ tallies. counted_in_turn-new tallies
 
 pub returns-clause-shortest : goal.returns-clause-shortest
-returns-clause-shortest c = λ tallies. rw (counted_in_turn-new tallies) (IsLeast-none (total tallies).round_trips)
+returns-clause-shortest c =
+    λ tallies. rw (counted_in_turn-new tallies) (IsLeast-none (total tallies).round_trips)
 
 pub returns-clause-longest : goal.returns-clause-longest
-returns-clause-longest c = λ tallies. rw (counted_in_turn-new tallies) (IsGreatest-none (total tallies).round_trips)
+returns-clause-longest c =
+    λ tallies. rw (counted_in_turn-new tallies) (IsGreatest-none (total tallies).round_trips)

@@ -15,4 +15,7 @@ pub returns-clause-added : goal.returns-clause-added
 returns-clause-added c = has_added (writing c)
 
 pub returns-clause-read : goal.returns-clause-read
-returns-clause-read c = λ list message room page is_open typed done. read_back message list page.bytes (has_added (writing c) list message room page is_open typed done)
+returns-clause-read c =
+    λ list message room page is_open typed done.
+    read_back message list page.bytes
+    (has_added (writing c) list message room page is_open typed done)

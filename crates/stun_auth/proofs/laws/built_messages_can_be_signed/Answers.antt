@@ -12,7 +12,11 @@ writing c = record {
 }
 
 building : (c : goal.After-signed_message_stands) → BuildingLaws
-building c = record { begun = c.writing_adds_one_attribute.ensures.begun; continued = c.writing_adds_one_attribute.ensures.spelled }
+building c =
+    record {
+      begun = c.writing_adds_one_attribute.ensures.begun;
+      continued = c.writing_adds_one_attribute.ensures.spelled;
+    }
 
 pub returns-clause-bare : goal.returns-clause-bare
 returns-clause-bare c = bare (writing c) (building c)

@@ -8,7 +8,9 @@ pub returns-clause-left : goal.returns-clause-left
 returns-clause-left c = λ s now a place found. left_at now s.places a place found
 
 pub returns-clause-client : goal.returns-clause-client
-returns-clause-client c = λ s now a place found there. kept_at-client now s.places a place found there
+returns-clause-client c =
+    λ s now a place found there. kept_at-client now s.places a place found there
 
 pub returns-clause-current : goal.returns-clause-current
-returns-clause-current c = λ s now a place found later. kept_at-current now s.places a place found later
+returns-clause-current c =
+    λ s now a place found later. kept_at-current now s.places a place found later

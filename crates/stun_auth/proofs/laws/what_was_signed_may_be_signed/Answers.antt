@@ -3,7 +3,8 @@ use Rattle.std.specs.Prelude.{IsOk, Result}
 use Rattle.std.specs.Option.{IsSome, IsSomeAnd}
 use Rattle.stun_base.specs.declared.wire.error.StunWriteError.{StunWriteError}
 use Rattle.stun_auth.specs.Additions.{Page, added_all}
-use Rattle.stun_auth.specs.Signed.{IsSignableByServer, added_by_client, added_by_server, additions_of}
+use Rattle.stun_auth.specs.Signed.{IsSignableByServer, added_by_client}
+use Rattle.stun_auth.specs.Signed.{added_by_server, additions_of}
 use Rattle.stun_auth.proofs.JoinedLemmas.{WritingLaws}
 use Rattle.stun_auth.proofs.SignedBefore.{was_signable}
 use Rattle.stun_auth.proofs.SignedLimits.{by_client, by_server}
@@ -23,7 +24,8 @@ page_of : (r : Result Page StunWriteError) → IsOk r → (page : Page) × (r �
 page_of (Ok page) ok = (page, refl)
 page_of (Err reason) ok = absurd (cc)
 
-some_and : {A : Type 0} (o : Option A) (P : A → Type 0) → IsSome o → ((a : A) → o ≡ Some a → P a) → IsSomeAnd o P
+some_and : {A : Type 0} (o : Option A) (P : A → Type 0) → IsSome o → ((a : A) → o ≡ Some a → P a)
+    → IsSomeAnd o P
 some_and None P is holds = absurd (cc)
 some_and (Some a) P is holds = holds a refl
 
@@ -31,15 +33,20 @@ pub returns-clause-client : goal.returns-clause-client
 returns-clause-client c = λ request state message room is_open short ok.
     let start : Page = record { bytes = message; room = room } in
     let signed = page_of (added_all (additions_of (added_by_client request state)) start)
-    (subst (λ list. IsOk (added_all list start)) (c.sides_add_by_attribute.ensures.client request state) ok) in
+    (subst (λ list. IsOk (added_all list start))
+    (c.sides_add_by_attribute.ensures.client request state) ok) in
     by_client (added_by_client request state) message room
-    (was_signable (writing c) (added_by_client request state) message room signed.0 is_open short signed.1)
+    (was_signable (writing c) (added_by_client request state) message room signed.0 is_open short
+    signed.1)
 
 pub returns-clause-server : goal.returns-clause-server
 returns-clause-server c = λ s response message room is_open short ok.
     let start : Page = record { bytes = message; room = room } in
-    some_and (added_by_server s response) (λ a. IsSignableByServer a message room) (c.sides_add_by_attribute.ensures.there s response start ok)
+    some_and (added_by_server s response) (λ a. IsSignableByServer a message room)
+    (c.sides_add_by_attribute.ensures.there s response start ok)
     (λ a is.
     let signed = page_of (added_all (additions_of a) start)
-    (subst (λ (r : Result Page StunWriteError). IsOk r) (c.sides_add_by_attribute.ensures.server s response start a is) ok) in
-    by_server a message room (was_signable (writing c) a message room signed.0 is_open short signed.1))
+    (subst (λ (r : Result Page StunWriteError). IsOk r)
+    (c.sides_add_by_attribute.ensures.server s response start a is) ok) in
+    by_server a message room
+    (was_signable (writing c) a message room signed.0 is_open short signed.1))

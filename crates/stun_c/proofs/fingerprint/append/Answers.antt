@@ -9,6 +9,9 @@ use Rattle.stun_c.proofs.fingerprint.append.Goals as goal
 pub returns-clause-written : goal.returns-clause-written
 returns-clause-written c =
     let message = take c.args.count c.args.buffer.now in
-    let raised : c.set_length.new.message ≡ with_length message (length_with message 4) = search rules in
-    let behind : c.spell_after.new.buffer ≡ fingerprint_after c.set_length.new.message ++ drop 8 (drop c.args.count c.args.buffer.now) = search rules in
-    ended_written c.args.count c.args.buffer.now c.set_length.new.message c.spell_after.new.buffer raised behind
+    let raised : c.set_length.new.message ≡ with_length message (length_with message 4) =
+    search rules in
+    let behind : c.spell_after.new.buffer ≡ fingerprint_after c.set_length.new.message
+    ++ drop 8 (drop c.args.count c.args.buffer.now) = search rules in
+    ended_written c.args.count c.args.buffer.now c.set_length.new.message c.spell_after.new.buffer
+    raised behind

@@ -7,4 +7,6 @@ use Rattle.stun_c.proofs.Members.{read_member-is}
 use Rattle.stun_c.proofs.reading.error_in.Goals as goal
 
 pub returns : goal.returns
-returns c = read_member-is ERROR_CODE error_of (first_of ERROR_CODE (visible c.args.message.now)) c.attribute.result c.attribute.ensures
+returns c =
+    read_member-is ERROR_CODE error_of (first_of ERROR_CODE (visible c.args.message.now))
+    c.attribute.result c.attribute.ensures

@@ -12,7 +12,11 @@ use Rattle.stun_c.proofs.reading.first_of.Goals as goal
 pub returns-clause-first : goal.returns-clause-first
 returns-clause-first c =
     sym (option_map_id c.find.result)
-    ∙ find_from_yields_List (λ m. m.1.kind == c.args.kind.0) _ _ c.find.result c.find.ensures.ran (YieldsList-from_first (λ m. m) (λ left. left) (visible c.args.message.now) c.iter_attributes.ensures.visible) (λ m b q k. search (rules, tests))
+    ∙ find_from_yields_List (λ m. m.1.kind == c.args.kind.0) _ _ c.find.result c.find.ensures.ran
+    (YieldsList-from_first (λ m. m) (λ left. left) (visible c.args.message.now)
+    c.iter_attributes.ensures.visible) (λ m b q k. search (rules, tests))
 
 pub returns-clause-within : goal.returns-clause-within
-returns-clause-within c = subst (λ found. IfSome found (λ m. m.0 ≤ length c.args.message.now)) (sym (returns-clause-first c)) (first-within c.args.kind.0 c.args.message.now)
+returns-clause-within c =
+    subst (λ found. IfSome found (λ m. m.0 ≤ length c.args.message.now))
+    (sym (returns-clause-first c)) (first-within c.args.kind.0 c.args.message.now)

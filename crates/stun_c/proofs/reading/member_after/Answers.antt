@@ -12,7 +12,11 @@ use Rattle.stun_c.proofs.reading.member_after.Goals as goal
 pub returns-clause-first : goal.returns-clause-first
 returns-clause-first c =
     sym (option_map_id c.find.result)
-    ∙ find_from_yields_List (λ m. nat_lt c.args.place m.0) _ _ c.find.result c.find.ensures.ran (YieldsList-from_first (λ m. m) (λ left. left) (visible c.args.message.now) c.iter_attributes.ensures.visible) (λ m b q k. search (rules, tests))
+    ∙ find_from_yields_List (λ m. nat_lt c.args.place m.0) _ _ c.find.result c.find.ensures.ran
+    (YieldsList-from_first (λ m. m) (λ left. left) (visible c.args.message.now)
+    c.iter_attributes.ensures.visible) (λ m b q k. search (rules, tests))
 
 pub returns-clause-within : goal.returns-clause-within
-returns-clause-within c = subst (λ found. IfSome found (λ m. m.0 ≤ length c.args.message.now)) (sym (returns-clause-first c)) (next-within c.args.place c.args.message.now)
+returns-clause-within c =
+    subst (λ found. IfSome found (λ m. m.0 ≤ length c.args.message.now))
+    (sym (returns-clause-first c)) (next-within c.args.place c.args.message.now)

@@ -9,5 +9,7 @@ pub returns-clause-ok : goal.returns-clause-ok
 returns-clause-ok c =
     let shown = c.in_ok-port.ensures.ok (transaction_id_field c.args.message.now) in
     let key = c.xor_key.ensures ∙ ap xor_key c.transaction_id.ensures in
-    let hidden = c.xor_with.ensures ∙ (ap (λ octets. xor_bytes octets c.xor_key.result) c.copy_from_slice.ensures.after ∙ ap (xor_bytes c.in_ok-port.octets.now) key) in
+    let hidden = c.xor_with.ensures
+    ∙ (ap (λ octets. xor_bytes octets c.xor_key.result) c.copy_from_slice.ensures.after
+    ∙ ap (xor_bytes c.in_ok-port.octets.now) key) in
     shown ∙ ap Ok (sym hidden)

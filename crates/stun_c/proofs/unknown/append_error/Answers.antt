@@ -8,5 +8,6 @@ use Rattle.stun_c.proofs.unknown.append_error.Goals as goal
 pub returns : goal.returns
 returns c =
     c.append.ensures.written
-    ∙ (λ i. with_attribute (take 20 c.args.out.now) (record { kind = ERROR_CODE; value = c.write_error.ensures i })
+    ∙ (λ i. with_attribute (take 20 c.args.out.now)
+    (record { kind = ERROR_CODE; value = c.write_error.ensures i })
     ++ drop (20 + attribute_length (length (c.write_error.ensures i))) c.args.out.now)

@@ -16,6 +16,9 @@ returns-clause-written c =
     let types = unknown_types c.args.known.now c.args.message.now in
     let within : 48 ≤ length out = omega arith in
     let short : length (take 48 out) ≡ 48 = length-take-le 48 out within in
-    let raised : c.set_length.new.message ≡ with_length (take 48 out) (length_with (take 48 out) (2 * c.args.count)) = search rules in
-    let behind : c.spell_types.new.buffer ≡ spelled_attribute (types_attribute types) ++ drop (attribute_length (2 * c.args.count)) (drop 48 out) = search rules in
-    types_written c.args.count out c.set_length.new.message c.spell_types.new.buffer types c.requires.count raised behind
+    let raised : c.set_length.new.message
+    ≡ with_length (take 48 out) (length_with (take 48 out) (2 * c.args.count)) = search rules in
+    let behind : c.spell_types.new.buffer ≡ spelled_attribute (types_attribute types)
+    ++ drop (attribute_length (2 * c.args.count)) (drop 48 out) = search rules in
+    types_written c.args.count out c.set_length.new.message c.spell_types.new.buffer types
+    c.requires.count raised behind

@@ -14,9 +14,15 @@ pub returns : goal.returns
 returns c =
     let types = unknown_types c.args.known.now c.args.message.now in
     let value = spelled_types types in
-    let size : length value ≡ 2 * c.args.count = length_spelled types ∙ ap (λ n. 2 * n) (sym c.requires.count) in
-    spelled_in UNKNOWN_ATTRIBUTES _ value c.args.buffer.now _ _ _ _ _ _ (c.write_header.ensures ∙ (λ i. big_bytes 2 UNKNOWN_ATTRIBUTES ++ big_bytes 2 (sym size i)))
+    let size : length value ≡ 2 * c.args.count = length_spelled types
+    ∙ ap (λ n. 2 * n) (sym c.requires.count) in
+    spelled_in UNKNOWN_ATTRIBUTES _ value c.args.buffer.now _ _ _ _ _ _
+    (c.write_header.ensures ∙ (λ i. big_bytes 2 UNKNOWN_ATTRIBUTES ++ big_bytes 2 (sym size i)))
     c.write_types.ensures
     (c.write_zeros.ensures ∙ ap (λ n. replicate n 0) c.split_at_mut-padding.ensures.front_len)
-    c.split_at_mut-header.ensures.back (c.split_at_mut-place.ensures.back ∙ ap (λ n. drop n c.split_at_mut-header.result.1.now) (sym size)) c.split_at_mut-padding.ensures.back (omega (arith, size))
-    ∙ ap (λ n. spelled_attribute (types_attribute types) ++ drop (attribute_length n) c.args.buffer.now) size
+    c.split_at_mut-header.ensures.back
+    (c.split_at_mut-place.ensures.back
+    ∙ ap (λ n. drop n c.split_at_mut-header.result.1.now) (sym size))
+    c.split_at_mut-padding.ensures.back (omega (arith, size))
+    ∙ ap (λ n. spelled_attribute (types_attribute types)
+    ++ drop (attribute_length n) c.args.buffer.now) size

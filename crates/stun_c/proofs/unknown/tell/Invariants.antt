@@ -1,4 +1,5 @@
--- The types that were told are at the front of the caller's, as far as there is room, and the others are left.
+-- The types that were told are at the front of the caller's, as far as there is room, and the
+-- others are left.
 use Rattle.std.proofs.Common.{◌≡◌, ◌+◌, drop, length, take}
 use Rattle.stun_extra.specs.Unknown.{unknown_types}
 use Rattle.stun_c.specs.Extra.{numbers_after}

@@ -12,13 +12,17 @@ pub returns-clause-answer : goal.returns-clause-answer
 returns-clause-answer c =
     let types = unknown_types c.args.known.now c.args.request.now in
     let room : 48 + attribute_length (2 * c.args.count) ≤ length c.args.out.now = omega arith in
-    let number : written_number (fitted (Ok (unknown_answer c.args.request.now types)) (length c.args.out.now)) ≡ pos (48 + attribute_length (2 * c.args.count)) =
-    answer_number c.args.request.now types c.args.count (length c.args.out.now) c.requires.count room in
+    let number : written_number
+    (fitted (Ok (unknown_answer c.args.request.now types)) (length c.args.out.now))
+    ≡ pos (48 + attribute_length (2 * c.args.count)) =
+    answer_number c.args.request.now types c.args.count (length c.args.out.now) c.requires.count
+    room in
     search rules
 
 pub returns-clause-written : goal.returns-clause-written
 returns-clause-written c =
     let types = unknown_types c.args.known.now c.args.request.now in
     let room : 48 + attribute_length (2 * c.args.count) ≤ length c.args.out.now = omega arith in
-    answer_written c.args.request.now c.args.out.now c.write_front.new.out c.append_types.new.out types c.args.count c.requires.count
+    answer_written c.args.request.now c.args.out.now c.write_front.new.out c.append_types.new.out
+    types c.args.count c.requires.count
     c.write_front.ensures c.append_types.ensures.written room

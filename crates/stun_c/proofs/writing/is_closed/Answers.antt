@@ -13,4 +13,6 @@ pub returns : goal.returns
 returns c =
     c.is_some.ensures
     ∙ ap is_some (sym (option_map_id c.find.result)
-    ∙ find_from_yields_List (λ m. is_set_apart m.1.kind) _ _ c.find.result c.find.ensures.ran (YieldsList-from_first (λ m. m) (λ left. left) (visible c.args.message.now) c.iter_attributes.ensures.visible) (λ m b q k. search (rules, tests)))
+    ∙ find_from_yields_List (λ m. is_set_apart m.1.kind) _ _ c.find.result c.find.ensures.ran
+    (YieldsList-from_first (λ m. m) (λ left. left) (visible c.args.message.now)
+    c.iter_attributes.ensures.visible) (λ m b q k. search (rules, tests)))

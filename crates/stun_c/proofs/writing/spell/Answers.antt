@@ -6,6 +6,8 @@ use Rattle.stun_c.proofs.writing.spell.Goals as goal
 
 pub returns : goal.returns
 returns c =
-    spelled_in c.args.kind.0 _ c.args.value.now c.args.buffer.now _ _ _ _ _ _ c.write_header.ensures c.copy_from_slice.ensures.after
+    spelled_in c.args.kind.0 _ c.args.value.now c.args.buffer.now _ _ _ _ _ _ c.write_header.ensures
+    c.copy_from_slice.ensures.after
     (c.write_zeros.ensures ∙ ap (λ n. replicate n 0) c.split_at_mut-padding.ensures.front_len)
-    c.split_at_mut-header.ensures.back c.split_at_mut-place.ensures.back c.split_at_mut-padding.ensures.back (omega arith)
+    c.split_at_mut-header.ensures.back c.split_at_mut-place.ensures.back
+    c.split_at_mut-padding.ensures.back (omega arith)

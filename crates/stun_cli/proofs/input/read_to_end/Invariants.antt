@@ -4,7 +4,8 @@ use Rattle.std.specs.Io.KnownBytes.{Consumes}
 use Rattle.stun_cli.proofs.Reading.{IsAsked}
 use Rattle.stun_cli.proofs.input.read_to_end.Given as goal
 
--- the bytes so far are those that the reader has given, no more than it may give, and it was asked once a turn
+-- the bytes so far are those that the reader has given, no more than it may give, and it was asked
+-- once a turn
 abbrev pub invariant-loop-turn : goal.invariant-loop-turn
 invariant-loop-turn g l =
     Consumes (g.R.Read.remaining l.initial.reader) (g.R.Read.remaining l.reader) l.bytes.items

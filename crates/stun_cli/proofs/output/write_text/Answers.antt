@@ -11,9 +11,14 @@ loop-preserved g c = elim c.match-write.branch [
   | in-Ok w ↦
       let text = c.args.text.now in (
         search rules,
-        subst (Appends _ _) (take-then-more text c.loop.written w.in-Ok.count ∙ ap (λ n. take n text) (sym w.written-is))
+        subst (Appends _ _)
+            (take-then-more text c.loop.written w.in-Ok.count
+            ∙ ap (λ n. take n text) (sym w.written-is))
             (Appends-trans _ _ _ _ _ c.loop.invariant.1 w.in-Ok.ensures.bytes),
       )
-  | in-Err+else-ne w ↦
-      (search rules, subst (Appends _ _) (search rules) (Appends-kept _ _ _ _ c.loop.invariant.1 w.in-Err.ensures.bytes))
+  | in-Err+else-ne w ↦ (
+    search rules,
+    subst (Appends _ _) (search rules)
+        (Appends-kept _ _ _ _ c.loop.invariant.1 w.in-Err.ensures.bytes),
+  )
 ]

@@ -5,4 +5,7 @@ use Rattle.stun_cli.proofs.output.write_text.Given as goal
 
 -- what is written so far is a beginning of the text
 abbrev pub invariant-loop : goal.invariant-loop
-invariant-loop g l = (l.written ≤ length l.text) × Appends (g.W.Write.contents l.initial.writer) (g.W.Write.contents l.writer) (take l.written l.text)
+invariant-loop g l =
+    (l.written ≤ length l.text)
+    × Appends (g.W.Write.contents l.initial.writer) (g.W.Write.contents l.writer)
+    (take l.written l.text)

@@ -5,4 +5,6 @@ use Rattle.stun_extra.proofs.Crc32Lemmas.{after_byte-by_table}
 use Rattle.stun_extra.proofs.crc32.after_byte.Goals as goal
 
 pub returns : goal.returns
-returns c = ap (bit_xor (c.args.remainder / 256)) c.entry.ensures ∙ sym (after_byte-by_table c.args.remainder c.args.byte c.ranges.byte.fits)
+returns c =
+    ap (bit_xor (c.args.remainder / 256)) c.entry.ensures
+    ∙ sym (after_byte-by_table c.args.remainder c.args.byte c.ranges.byte.fits)

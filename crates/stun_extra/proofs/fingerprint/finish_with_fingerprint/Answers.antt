@@ -4,7 +4,8 @@ use Rattle.std.proofs.lemmas.Grind.{common_steps}
 use Rattle.stun_types.specs.Integrity.{verified_by}
 use Rattle.stun_types.specs.Writing.{HasOneMore}
 use Rattle.stun_extra.specs.Fingerprint.{fingerprint_attribute, fingerprint_in}
-use Rattle.stun_extra.proofs.FingerprintLemmas.{HasOneMore-fingerprint, IsFree, fingerprint_in-added, verified_by-fingerprint}
+use Rattle.stun_extra.proofs.FingerprintLemmas.{HasOneMore-fingerprint, IsFree}
+use Rattle.stun_extra.proofs.FingerprintLemmas.{fingerprint_in-added, verified_by-fingerprint}
 use Rattle.stun_extra.proofs.fingerprint.finish_with_fingerprint.Goals as goal
 
 pub returns-clause-bytes : goal.returns-clause-bytes
@@ -18,7 +19,8 @@ returns-clause-added g c is_message =
       none = sym c.has_attribute.ensures ∙ c.if-has_attribute.false;
       short = omega (arith, ap length c.data.ensures, c.if-message_length-gt-MAX_LENGTH.false);
     } in
-    subst (λ after. HasOneMore message after (fingerprint_attribute message)) (sym (returns-clause-bytes g c)) (HasOneMore-fingerprint message free)
+    subst (λ after. HasOneMore message after (fingerprint_attribute message))
+    (sym (returns-clause-bytes g c)) (HasOneMore-fingerprint message free)
 
 pub returns-clause-right : goal.returns-clause-right
 returns-clause-right g c is_message =

@@ -12,4 +12,10 @@ returns-clause-types c =
 pub returns-clause-few : goal.returns-clause-few
 returns-clause-few c =
     let few = unknown_types-few c.args.known.now c.args.message.now in
-    omega (arith, few, ap length (returns-clause-types c), ap length c.iter_attributes.ensures.visible, c.iter_attributes.ensures.few)
+    omega (
+      arith,
+      few,
+      ap length (returns-clause-types c),
+      ap length c.iter_attributes.ensures.visible,
+      c.iter_attributes.ensures.few,
+    )

@@ -9,7 +9,9 @@ pub returns : goal.returns
 returns g c =
     let before = g.W.Write.contents c.args.writer.now in
     let after = g.W.Write.contents c.decode_all.new.writer in
-    of_raw_input (g.R.Read.remaining c.args.reader.now) c.in_ok-input.input.items c.decode_all.result
+    of_raw_input (g.R.Read.remaining c.args.reader.now) c.in_ok-input.input.items
+    c.decode_all.result
     (λ bytes status. PrintsDecoded bytes status before after) c.in_ok-input.ensures.all
-    (subst (λ bytes. is_raw bytes ≡ true → IfOk c.decode_all.result (λ status. PrintsDecoded bytes status before after))
+    (subst (λ bytes. is_raw bytes ≡ true
+    → IfOk c.decode_all.result (λ status. PrintsDecoded bytes status before after))
     c.as_slice.ensures.value c.decode_all.ensures)

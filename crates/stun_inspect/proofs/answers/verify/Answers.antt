@@ -11,7 +11,8 @@ returns g c =
     let before = g.W.Write.contents c.args.writer.now in
     let after = g.W.Write.contents c.write_text-2.new.writer in
     let notes = c.as_bytes-2.result.now in
-    let line_is = c.as_bytes.ensures.value ∙ (c.line.ensures ∙ ap line_of c.verdict_on-verdict.ensures) in (
+    let line_is = c.as_bytes.ensures.value
+    ∙ (c.line.ensures ∙ ap line_of c.verdict_on-verdict.ensures) in (
       c.status.ensures.value ∙ ap status_of c.verdict_on-verdict.ensures,
       notes,
       subst (λ line. Appends before after (line ++ notes)) line_is

@@ -10,5 +10,7 @@ returns g c =
     let before = g.W.Write.contents c.args.writer.now in
     let after = g.W.Write.contents c.verify_each.new.writer in
     let input = c.args.input.now in
-    subst (λ keys. is_raw input ≡ true → IfOk c.verify_each.result (λ status. PrintsVerdict (verdict_of input keys) status before after))
+    subst (λ keys. is_raw input ≡ true
+    → IfOk c.verify_each.result
+    (λ status. PrintsVerdict (verdict_of input keys) status before after))
     c.in_ok-credentials.ensures c.verify_each.ensures

@@ -13,10 +13,17 @@ returns g c = λ other.
     let after = g.W.Write.contents c.verify_all.new.writer in
     let who = c.args.who in
     let rest = c.in_ok-found.found.1.now in
-    of_raw_input (g.R.Read.remaining c.args.reader.now) c.in_ok-input.input.items c.verify_all.result
-    (λ bytes status. PrintsVerdict (verdict_of bytes (keys_for who.user who.password.now)) status before after)
+    of_raw_input (g.R.Read.remaining c.args.reader.now) c.in_ok-input.input.items
+    c.verify_all.result
+    (λ bytes status.
+    PrintsVerdict (verdict_of bytes (keys_for who.user who.password.now)) status before after)
     c.in_ok-input.ensures.all
-    (subst (λ bytes. is_raw bytes ≡ true → IfOk c.verify_all.result (λ status. PrintsVerdict (verdict_of bytes (keys_for who.user who.password.now)) status before after))
+    (subst (λ bytes. is_raw bytes ≡ true
+    → IfOk c.verify_all.result
+    (λ status.
+    PrintsVerdict (verdict_of bytes (keys_for who.user who.password.now)) status before after))
     (c.in_ok-found.ensures.input other ∙ c.as_slice.ensures.value)
-    (subst (λ password. is_raw rest ≡ true → IfOk c.verify_all.result (λ status. PrintsVerdict (verdict_of rest (keys_for who.user password)) status before after))
+    (subst (λ password. is_raw rest ≡ true
+    → IfOk c.verify_all.result
+    (λ status. PrintsVerdict (verdict_of rest (keys_for who.user password)) status before after))
     (c.in_ok-found.ensures.word other) c.verify_all.ensures))

@@ -11,8 +11,10 @@ returns g c =
       string_bytes c.in_ok-text.text,
       lines,
       c.in_ok-text.ensures,
-      subst (λ message. AreLinesOn message (told_of c.args.message.now) lines) c.as_bytes-bytes.ensures.bytes
-          (subst (λ told. AreLinesOn c.as_bytes-bytes.result.now told lines) (c.as_slice.ensures.value ∙ c.in_ok-told.ensures.told)
+      subst (λ message. AreLinesOn message (told_of c.args.message.now) lines)
+          c.as_bytes-bytes.ensures.bytes
+          (subst (λ told. AreLinesOn c.as_bytes-bytes.result.now told lines)
+          (c.as_slice.ensures.value ∙ c.in_ok-told.ensures.told)
           c.in_ok-lines.ensures),
       search rules,
     )

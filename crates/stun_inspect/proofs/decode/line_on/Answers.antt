@@ -1,4 +1,5 @@
--- The line has the columns of its name, its type and its place in front, and its ending after the rest.
+-- The line has the columns of its name, its type and its place in front, and its ending after the
+-- rest.
 use Rattle.std.proofs.Common.{◌≡◌, ◌<◌, ◌^◌, arith, sym}
 use Rattle.std.specs.Prelude.{string_bytes}
 use Rattle.stun_inspect.specs.Decode.{line_with}
@@ -17,6 +18,7 @@ returns g c =
       name,
       rest,
       c.in_ok-name.ensures.length,
-      line_with-is_line message told name rest (string_bytes c.in_ok-line.line) fits c.in_ok-name.ensures.unbroken c.in_ok-rest.ensures is,
+      line_with-is_line message told name rest (string_bytes c.in_ok-line.line) fits
+          c.in_ok-name.ensures.unbroken c.in_ok-rest.ensures is,
       is,
     )

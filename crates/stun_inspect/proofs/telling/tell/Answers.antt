@@ -12,22 +12,28 @@ use Rattle.stun_inspect.proofs.telling.tell.Goals as goal
 pub loop-attribute-init : goal.loop-attribute-init
 loop-attribute-init g c = record {
   passed = HasPassed-none c.as_bytes-bytes.result.now;
-  so_far = rw (before-walk_from HEADER_LENGTH HEADER_LENGTH c.as_bytes-bytes.result.now (omega arith)) c.new-told.ensures.items;
+  so_far =
+      rw (before-walk_from HEADER_LENGTH HEADER_LENGTH c.as_bytes-bytes.result.now (omega arith))
+      c.new-told.ensures.items;
 }
 
 pub loop-attribute-preserved : goal.loop-attribute-preserved
 loop-attribute-preserved g c =
     let at = c.loop-attribute in
     let and = c.and-passed.ensures in
-    let stands : StandsAt at.place c.as_bytes-bytes.result.now c.in-Some.attribute c.get_type-kind.result.0 (at.place + c.padded_len-length.result) = record {
+    let stands : StandsAt at.place c.as_bytes-bytes.result.now c.in-Some.attribute
+    c.get_type-kind.result.0 (at.place + c.padded_len-length.result) = record {
       whole = c.in-Some.ensures.whole;
       attribute_is = c.in-Some.ensures.value;
       kind_is = c.get_type-kind.ensures;
       behind_is = ap (λ n. at.place + n) c.padded_len-length.ensures;
     } in
     record {
-      passed = HasPassed-and at.invariant.passed stands and.integrity and.integrity_sha256 and.fingerprint;
-      so_far = c.in_ok-push.ensures.items ∙ rw c.hider.ensures (told-step at.invariant.passed stands at.invariant.so_far);
+      passed =
+          HasPassed-and at.invariant.passed stands and.integrity and.integrity_sha256
+          and.fingerprint;
+      so_far = c.in_ok-push.ensures.items
+          ∙ rw c.hider.ensures (told-step at.invariant.passed stands at.invariant.so_far);
     }
 
 pub returns-clause-told : goal.returns-clause-told
@@ -36,8 +42,11 @@ returns-clause-told g c =
     let bytes = c.as_bytes-bytes.result.now in
     let front = before at.place (walk bytes) in
     let whole : front ≡ walk bytes =
-    sym (append-nil front) ∙ (ap (λ ms. front ++ ms) (sym (walk_from-end at.place bytes c.in_default.ensures.none)) ∙ at.invariant.passed.is_place) in
-    rw (sym c.as_bytes-bytes.ensures.bytes) (at.invariant.so_far ∙ ap (map (told_at (walk bytes))) whole)
+    sym (append-nil front)
+    ∙ (ap (λ ms. front ++ ms) (sym (walk_from-end at.place bytes c.in_default.ensures.none))
+    ∙ at.invariant.passed.is_place) in
+    rw (sym c.as_bytes-bytes.ensures.bytes)
+    (at.invariant.so_far ∙ ap (map (told_at (walk bytes))) whole)
 
 pub returns-clause-visible : goal.returns-clause-visible
 returns-clause-visible g c = ap shown (returns-clause-told g c) ∙ shown-visible c.args.message.now

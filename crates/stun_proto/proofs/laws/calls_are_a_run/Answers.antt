@@ -1,5 +1,6 @@
 -- Call by call, replies and servers are those of the run.
-use Rattle.stun_proto.proofs.server_runs.ServerLoopLemmas.{built_are_written_so, calls_are_served, calls_are_validated}
+use Rattle.stun_proto.proofs.server_runs.ServerLoopLemmas.{built_are_written_so}
+use Rattle.stun_proto.proofs.server_runs.ServerLoopLemmas.{calls_are_served, calls_are_validated}
 use Rattle.stun_proto.proofs.laws.calls_are_a_run.Goals as goal
 
 pub returns-clause-served : goal.returns-clause-served

@@ -6,7 +6,13 @@ use Rattle.stun_proto.proofs.laws.nonce_is_renewed.Goals as goal
 nonces : (c : goal.After-sides_add_by_attribute) → NoncesAsk
 nonces c =
     let laws = c.nonces_ask_for_what_is_supported.ensures in
-    record { algorithms = laws.algorithms; userhash = laws.userhash; there = laws.there; alike = laws.alike; text = laws.text }
+    record {
+      algorithms = laws.algorithms;
+      userhash = laws.userhash;
+      there = laws.there;
+      alike = laws.alike;
+      text = laws.text;
+    }
 
 signing : (c : goal.After-sides_add_by_attribute) → SigningLaws
 signing c = record {
@@ -19,4 +25,5 @@ signing c = record {
 }
 
 pub returns : goal.returns
-returns c m who server p challenge texts old = is_renewed (nonces c) (signed_is_read (signing c)) m who server p challenge texts old
+returns c m who server p challenge texts old =
+    is_renewed (nonces c) (signed_is_read (signing c)) m who server p challenge texts old

@@ -12,4 +12,14 @@ returns-clause-tcp c = λ to. refl
 
 pub returns-clause-asked : goal.returns-clause-asked
 returns-clause-asked c =
-    λ transport here to. record { header = refl; class = refl; names = refl; goes_there = λ peer set. cc; new = refl; not_before = tt; not_again = tt; undisturbed = tt }
+    λ transport here to.
+    record {
+      header = refl;
+      class = refl;
+      names = refl;
+      goes_there = λ peer set. cc;
+      new = refl;
+      not_before = tt;
+      not_again = tt;
+      undisturbed = tt;
+    }

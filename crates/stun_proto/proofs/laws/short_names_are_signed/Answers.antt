@@ -1,12 +1,19 @@
 use Rattle.stun_proto.proofs.meetings.Meeting.{all_signed}
 use Rattle.stun_proto.proofs.meetings.Signed.{NoncesAsk}
-use Rattle.stun_proto.proofs.meetings.SignedRuns.{RoomLaws, SigningLaws, signed_is_read, signing_succeeds}
+use Rattle.stun_proto.proofs.meetings.SignedRuns.{RoomLaws, SigningLaws}
+use Rattle.stun_proto.proofs.meetings.SignedRuns.{signed_is_read, signing_succeeds}
 use Rattle.stun_proto.proofs.laws.short_names_are_signed.Goals as goal
 
 nonces : (c : goal.After-sides_sign_with_room) → NoncesAsk
 nonces c =
     let laws = c.nonces_ask_for_what_is_supported.ensures in
-    record { algorithms = laws.algorithms; userhash = laws.userhash; there = laws.there; alike = laws.alike; text = laws.text }
+    record {
+      algorithms = laws.algorithms;
+      userhash = laws.userhash;
+      there = laws.there;
+      alike = laws.alike;
+      text = laws.text;
+    }
 
 signing : (c : goal.After-sides_sign_with_room) → SigningLaws
 signing c = record {
@@ -27,4 +34,7 @@ room c = record {
 
 pub returns : goal.returns
 returns c m who server texts short ready =
-    all_signed (nonces c) (signed_is_read (signing c)) m who server texts ready (signing_succeeds (signing c) (room c), short)
+    all_signed (nonces c) (signed_is_read (signing c)) m who server texts ready (
+      signing_succeeds (signing c) (room c),
+      short,
+    )

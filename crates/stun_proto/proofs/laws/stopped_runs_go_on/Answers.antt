@@ -1,5 +1,6 @@
 -- What a stop leaves awaits no moment before the next event's, so nothing is turned twice.
-use Rattle.stun_proto.proofs.agent_runs.GoingOn.{runs_end, runs_go_on, runs_have_the_rest, runs_stop_again}
+use Rattle.stun_proto.proofs.agent_runs.GoingOn.{runs_end, runs_go_on}
+use Rattle.stun_proto.proofs.agent_runs.GoingOn.{runs_have_the_rest, runs_stop_again}
 use Rattle.stun_proto.proofs.laws.stopped_runs_go_on.Goals as goal
 
 pub returns-clause-left : goal.returns-clause-left

@@ -6,7 +6,9 @@ ghost use Rattle.stun_base.specs.Header.{transaction_id_field, type_field};
 ghost use Rattle.stun_base.specs.MessageType.{method_of};
 ghost use Rattle.stun_auth.specs.declared.server.reason.LongTermServerAuthErrorReason.TheVariants.{Unauthorized};
 ghost use Rattle.stun_auth.specs.declared.server.reason.LongTermServerValidation.TheVariants.{Validated};
-ghost use Rattle.stun_proto.specs.Negotiation.{BINDING as BINDING_METHOD, asked, first_answered, negotiated, outcome_of_success, second_answered, second_asked};
+ghost use Rattle.stun_proto.specs.Negotiation.{BINDING as BINDING_METHOD, asked};
+ghost use Rattle.stun_proto.specs.Negotiation.{first_answered, negotiated, outcome_of_success};
+ghost use Rattle.stun_proto.specs.Negotiation.{second_answered, second_asked};
 ghost use Rattle.stun_proto.specs.Sides.{Passes, PassesAccepted, PassesResend, PassesUnauthorized};
 ghost use Rattle.stun_proto.specs.code.FirstAnswers.{end_of_challenge, end_of_first};
 ghost use Rattle.stun_proto.specs.code.Meetings.{meeting_of};
@@ -29,8 +31,8 @@ use stun_base::transaction_id::TransactionId;
 use stun_types::message::Message;
 use stun_types::prelude::*;
 
-/// A request: its id, the moment at which the server reads it, the random words of a nonce, and the server's calls just before
-/// the 401 is read, or before the second request is.
+/// A request: its id, the moment at which the server reads it, the random words of a nonce, and the
+/// server's calls just before the 401 is read, or before the second request is.
 #[derive(Clone, Copy)]
 pub(crate) struct Turn<'a> {
     pub(crate) id: TransactionId,
@@ -47,9 +49,10 @@ pub(crate) struct Meeting<'a> {
     pub(crate) second: Turn<'a>,
 }
 
-/// The two sides meet: a request, its challenge, the request with credentials and its success, each read by the other side. The
-/// server makes its first calls just before the challenge is read, and its second just before the second request is. The first
-/// answer that is no step of this is the outcome.
+/// The two sides meet: a request, its challenge, the request with credentials and its success, each
+/// read by the other side. The server makes its first calls just before the challenge is read, and
+/// its second just before the second request is. The first answer that is no step of this is the
+/// outcome.
 #[tactic(auto)]
 pub(crate) fn meet<A: Allocator + Copy>(
     alloc: A,
@@ -72,7 +75,8 @@ pub(crate) fn meet<A: Allocator + Copy>(
     }
 }
 
-/// The first request is to be challenged: the server signs a 401, makes its first calls, and the client reads the 401.
+/// The first request is to be challenged: the server signs a 401 and makes its first calls, and
+/// the client reads the 401.
 #[tactic(auto)]
 fn after_unauthorized<A: Allocator + Copy>(
     alloc: A,
@@ -97,7 +101,8 @@ fn after_unauthorized<A: Allocator + Copy>(
     }
 }
 
-/// The client is to ask again: it signs a request, the server makes its second calls and reads the request.
+/// The client is to ask again: it signs a request, and the server makes its second calls and reads
+/// the request.
 #[tactic(auto)]
 fn after_resend<A: Allocator + Copy>(
     alloc: A,
@@ -121,7 +126,8 @@ fn after_resend<A: Allocator + Copy>(
     }
 }
 
-/// The second request is accepted with an algorithm: the server signs a success, and the client reads it.
+/// The second request is accepted with an algorithm: the server signs a success, and the client
+/// reads it.
 #[tactic(auto)]
 fn after_accepted<A: Allocator + Copy>(
     alloc: A,
@@ -173,7 +179,8 @@ fn end_of_challenge(
     }
 }
 
-/// The outcome of a second request that the server accepted with an algorithm, by the client's answer to the success.
+/// The outcome of a second request that the server accepted with an algorithm, by the client's
+/// answer to the success.
 #[tactic(auto)]
 fn outcome(
     algorithm: IntegrityAlgorithm,

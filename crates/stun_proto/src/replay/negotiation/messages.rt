@@ -6,11 +6,13 @@ ghost use Rattle.stun_base.specs.MessageType.{method_of, class_in, is_response};
 ghost use Rattle.stun_types.specs.Message.{IsMessage};
 ghost use Rattle.stun_types.specs.Writing.{IsOpen};
 ghost use Rattle.stun_auth.specs.Additions.{UnlessMemory};
-ghost use Rattle.stun_auth.specs.ClientStep.{ForReason as ForClientReason, IsResend, UNAUTHORIZED, client_step};
+ghost use Rattle.stun_auth.specs.ClientStep.{ForReason as ForClientReason};
+ghost use Rattle.stun_auth.specs.ClientStep.{IsResend, UNAUTHORIZED, client_step};
 ghost use Rattle.stun_auth.specs.Reading.{reading_of};
 ghost use Rattle.stun_auth.specs.ServerSigning.{after_signing};
 ghost use Rattle.stun_auth.specs.Validation.{sight};
-ghost use Rattle.stun_proto.specs.Negotiation.{BINDING as BINDING_METHOD, asked, failure, responded, success};
+ghost use Rattle.stun_proto.specs.Negotiation.{BINDING as BINDING_METHOD, asked};
+ghost use Rattle.stun_proto.specs.Negotiation.{failure, responded, success};
 ghost use Rattle.stun_proto.specs.code.Signed.{signed_page, written_message};
 
 use std::alloc::{AllocError, Allocator};
@@ -123,8 +125,8 @@ pub(crate) fn message_in(bytes: &[u8]) -> Message<'_>
     Message::from_bytes(bytes).unwrap()
 }
 
-/// What the client makes of a response. The one error is that an allocation fails, as it can only where a challenge is taken up;
-/// the client is then as before.
+/// What the client makes of a response. The one error is that an allocation fails, as it can only
+/// where a challenge is taken up; the client is then as before.
 pub(crate) fn read<A: Allocator + Copy>(
     client: &mut LongTermClientAuth<A>,
     bytes: &[u8],

@@ -7,4 +7,5 @@ use Rattle.stun_state.proofs.client.sign_short.Goals as goal
 pub sign_in-requires-clause-enough : goal.sign_in-requires-clause-enough
 sign_in-requires-clause-enough c =
     let message = take c.args.count c.args.buffer.now in
-    client_short (is_request (class_in message)) c.args.client.now.state message 2048 c.requires.short
+    client_short (is_request (class_in message)) c.args.client.now.state message 2048
+    c.requires.short

@@ -1,4 +1,5 @@
--- The words that the authenticator draws are those that were handed in, and its reason has its refusal.
+-- The words that the authenticator draws are those that were handed in, and its reason has its
+-- refusal.
 use Rattle.std.proofs.Common.{◌≡◌, ℕ, List, ◌∙◌, ap, Ok, Err}
 use Rattle.stun_auth.specs.Handed.{with_users}
 use Rattle.stun_auth.specs.Reading.{reading_of}
@@ -11,19 +12,30 @@ use Rattle.stun_state.proofs.handed.validate_message.Goals as goal
 
 pub returns-in-Ok-clause-answer : goal.returns-in-Ok-clause-answer
 returns-in-Ok-clause-answer c =
-    let drawn = next_words-source 16 c.new-source.result c.new-source.ensures.count ∙ c.new-source.ensures.words in
+    let drawn = next_words-source 16 c.new-source.result c.new-source.ensures.count
+    ∙ c.new-source.ensures.words in
     ap validation_answer (ap Ok c.validated_algorithm.ensures ∙ c.in-Ok.ensures.answer
-    ∙ ap (λ ws. answer (sight (with_users c.args.server.now c.args.user.now) c.args.from) c.args.now ws (reading_of c.args.message.now)) drawn)
+    ∙ ap (λ ws. answer (sight (with_users c.args.server.now c.args.user.now) c.args.from) c.args.now
+    ws (reading_of c.args.message.now)) drawn)
 
 pub returns-in-Ok-clause-state : goal.returns-in-Ok-clause-state
 returns-in-Ok-clause-state c =
-    let drawn = next_words-source 16 c.new-source.result c.new-source.ensures.count ∙ c.new-source.ensures.words in
-    c.in-Ok.ensures.state ∙ ap (λ ws. with_users (after_message (with_users c.args.server.now c.args.user.now) c.args.from c.args.now ws (reading_of c.args.message.now)) c.args.server.now.registered) drawn
+    let drawn = next_words-source 16 c.new-source.result c.new-source.ensures.count
+    ∙ c.new-source.ensures.words in
+    c.in-Ok.ensures.state
+    ∙ ap (λ ws.
+    with_users
+    (after_message (with_users c.args.server.now c.args.user.now) c.args.from c.args.now ws
+    (reading_of c.args.message.now)) c.args.server.now.registered) drawn
 
 pub returns-in-Err-clause-answer : goal.returns-in-Err-clause-answer
 returns-in-Err-clause-answer c =
-    let drawn = next_words-source 16 c.new-source.result c.new-source.ensures.count ∙ c.new-source.ensures.words in
-    let right : List ℕ → Answer = λ ws. answer (sight (with_users c.args.server.now c.args.user.now) c.args.from) c.args.now ws (reading_of c.args.message.now) in
+    let drawn = next_words-source 16 c.new-source.result c.new-source.ensures.count
+    ∙ c.new-source.ensures.words in
+    let right : List ℕ
+    → Answer =
+    λ ws. answer (sight (with_users c.args.server.now c.args.user.now) c.args.from) c.args.now ws
+    (reading_of c.args.message.now) in
     server_refused c.in-Err.error c.from.result
     (λ r. Err r ≡ validation_answer (right c.args.words)) (λ r. Unit {0})
     (c.from.ensures ∙ ap refusal_of_server c.reason.ensures)
@@ -31,10 +43,18 @@ returns-in-Err-clause-answer c =
 
 pub returns-in-Err-clause-state : goal.returns-in-Err-clause-state
 returns-in-Err-clause-state c =
-    let drawn = next_words-source 16 c.new-source.result c.new-source.ensures.count ∙ c.new-source.ensures.words in
+    let drawn = next_words-source 16 c.new-source.result c.new-source.ensures.count
+    ∙ c.new-source.ensures.words in
     server_refused c.in-Err.error c.from.result
-    (λ r. c.validate_incoming_message_of.new.self ≡ with_users (after_message (with_users c.args.server.now c.args.user.now) c.args.from c.args.now c.args.words (reading_of c.args.message.now)) c.args.server.now.registered)
+    (λ r. c.validate_incoming_message_of.new.self
+    ≡ with_users
+    (after_message (with_users c.args.server.now c.args.user.now) c.args.from c.args.now
+    c.args.words (reading_of c.args.message.now)) c.args.server.now.registered)
     (λ r. c.validate_incoming_message_of.new.self ≡ c.args.server.now)
     (c.from.ensures ∙ ap refusal_of_server c.reason.ensures)
-    (λ is. is ∙ ap (λ ws. with_users (after_message (with_users c.args.server.now c.args.user.now) c.args.from c.args.now ws (reading_of c.args.message.now)) c.args.server.now.registered) drawn)
+    (λ is. is
+    ∙ ap (λ ws.
+    with_users
+    (after_message (with_users c.args.server.now c.args.user.now) c.args.from c.args.now ws
+    (reading_of c.args.message.now)) c.args.server.now.registered) drawn)
     (λ same. same) c.in-Err.ensures.state

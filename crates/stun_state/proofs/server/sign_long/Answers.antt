@@ -9,4 +9,5 @@ use Rattle.stun_state.proofs.server.sign_long.Goals as goal
 pub sign_in-requires-clause-enough : goal.sign_in-requires-clause-enough
 sign_in-requires-clause-enough c =
     let message = take c.args.count c.args.buffer.now in
-    any_length (server_additions (sight c.args.server.now c.args.to) (is_response (class_in message))) message
+    any_length
+    (server_additions (sight c.args.server.now c.args.to) (is_response (class_in message))) message

@@ -8,4 +8,5 @@ use Rattle.stun_state.proofs.server.sign_short.Goals as goal
 pub sign_in-requires-clause-enough : goal.sign_in-requires-clause-enough
 sign_in-requires-clause-enough c =
     let message = take c.args.count c.args.buffer.now in
-    server_short (sight c.args.server.now c.args.to) (is_response (class_in message)) message 2048 c.requires.short
+    server_short (sight c.args.server.now c.args.to) (is_response (class_in message)) message 2048
+    c.requires.short

@@ -1,4 +1,5 @@
--- The words that the authenticator draws are those that were handed in, and its reason has its refusal.
+-- The words that the authenticator draws are those that were handed in, and its reason has its
+-- refusal.
 use Rattle.std.proofs.Common.{◌≡◌, ℕ, List, ◌∙◌, ap, subst, sym, Ok, Err}
 use Rattle.stun_auth.specs.Reading.{reading_of}
 use Rattle.stun_auth.specs.Validation.{Answer, ChangesNothing, after_message, answer, sight}
@@ -10,19 +11,28 @@ use Rattle.stun_state.proofs.server.validate_message.Goals as goal
 
 pub returns-in-Ok-clause-answer : goal.returns-in-Ok-clause-answer
 returns-in-Ok-clause-answer c =
-    let drawn = next_words-source 16 c.new-source.result c.new-source.ensures.count ∙ c.new-source.ensures.words in
+    let drawn = next_words-source 16 c.new-source.result c.new-source.ensures.count
+    ∙ c.new-source.ensures.words in
     ap validation_answer (ap Ok c.validated_algorithm.ensures ∙ c.in-Ok.ensures.answer
-    ∙ ap (λ ws. answer (sight c.args.server.now c.args.from) c.args.now ws (reading_of c.args.message.now)) drawn)
+    ∙ ap (λ ws. answer (sight c.args.server.now c.args.from) c.args.now ws
+    (reading_of c.args.message.now)) drawn)
 
 pub returns-in-Ok-clause-state : goal.returns-in-Ok-clause-state
 returns-in-Ok-clause-state c =
-    let drawn = next_words-source 16 c.new-source.result c.new-source.ensures.count ∙ c.new-source.ensures.words in
-    c.in-Ok.ensures.state ∙ ap (λ ws. after_message c.args.server.now c.args.from c.args.now ws (reading_of c.args.message.now)) drawn
+    let drawn = next_words-source 16 c.new-source.result c.new-source.ensures.count
+    ∙ c.new-source.ensures.words in
+    c.in-Ok.ensures.state
+    ∙ ap (λ ws. after_message c.args.server.now c.args.from c.args.now ws
+    (reading_of c.args.message.now)) drawn
 
 pub returns-in-Err-clause-answer : goal.returns-in-Err-clause-answer
 returns-in-Err-clause-answer c =
-    let drawn = next_words-source 16 c.new-source.result c.new-source.ensures.count ∙ c.new-source.ensures.words in
-    let right : List ℕ → Answer = λ ws. answer (sight c.args.server.now c.args.from) c.args.now ws (reading_of c.args.message.now) in
+    let drawn = next_words-source 16 c.new-source.result c.new-source.ensures.count
+    ∙ c.new-source.ensures.words in
+    let right : List ℕ
+    → Answer =
+    λ ws. answer (sight c.args.server.now c.args.from) c.args.now ws
+    (reading_of c.args.message.now) in
     server_refused c.in-Err.error c.from.result
     (λ r. Err r ≡ validation_answer (right c.args.words)) (λ r. Unit {0})
     (c.from.ensures ∙ ap refusal_of_server c.reason.ensures)
@@ -30,18 +40,31 @@ returns-in-Err-clause-answer c =
 
 pub returns-in-Err-clause-state : goal.returns-in-Err-clause-state
 returns-in-Err-clause-state c =
-    let drawn = next_words-source 16 c.new-source.result c.new-source.ensures.count ∙ c.new-source.ensures.words in
+    let drawn = next_words-source 16 c.new-source.result c.new-source.ensures.count
+    ∙ c.new-source.ensures.words in
     server_refused c.in-Err.error c.from.result
-    (λ r. c.validate_incoming_message.new.self ≡ after_message c.args.server.now c.args.from c.args.now c.args.words (reading_of c.args.message.now))
+    (λ r. c.validate_incoming_message.new.self
+    ≡ after_message c.args.server.now c.args.from c.args.now c.args.words
+    (reading_of c.args.message.now))
     (λ r. c.validate_incoming_message.new.self ≡ c.args.server.now)
     (c.from.ensures ∙ ap refusal_of_server c.reason.ensures)
-    (λ is. is ∙ ap (λ ws. after_message c.args.server.now c.args.from c.args.now ws (reading_of c.args.message.now)) drawn)
+    (λ is. is
+    ∙ ap (λ ws. after_message c.args.server.now c.args.from c.args.now ws
+    (reading_of c.args.message.now)) drawn)
     (λ same. same) c.in-Err.ensures.state
 
 pub returns-in-Err-clause-unchanged : goal.returns-in-Err-clause-unchanged
 returns-in-Err-clause-unchanged c nothing =
-    let drawn = next_words-source 16 c.new-source.result c.new-source.ensures.count ∙ c.new-source.ensures.words in
-    let right : List ℕ → Answer = λ ws. answer (sight c.args.server.now c.args.from) c.args.now ws (reading_of c.args.message.now) in
-    let Nothing : List ℕ → Type 0 = λ ws. ChangesNothing (sight c.args.server.now c.args.from) c.args.now ws (reading_of c.args.message.now) in
+    let drawn = next_words-source 16 c.new-source.result c.new-source.ensures.count
+    ∙ c.new-source.ensures.words in
+    let right : List ℕ
+    → Answer =
+    λ ws. answer (sight c.args.server.now c.args.from) c.args.now ws
+    (reading_of c.args.message.now) in
+    let Nothing : List ℕ
+    → Type 0 =
+    λ ws. ChangesNothing (sight c.args.server.now c.args.from) c.args.now ws
+    (reading_of c.args.message.now) in
     ap Err (c.from.ensures ∙ ap refusal_of_server c.reason.ensures)
-    ∙ ap validation_answer (c.in-Err.ensures.unchanged (subst Nothing (sym drawn) nothing) ∙ ap right drawn)
+    ∙ ap validation_answer
+    (c.in-Err.ensures.unchanged (subst Nothing (sym drawn) nothing) ∙ ap right drawn)

@@ -7,7 +7,12 @@ use Rattle.stun_agent.proofs.agent.StunAgent.class_to_send.Goals as goal
 
 pub returns-in_err-check_address-clause-refused : goal.returns-in_err-check_address-clause-refused
 returns-in_err-check_address-clause-refused g c =
-    let first = none-from_ok (class_refusal c.args.bytes.now) (class_in c.args.bytes.now) _ c.in_ok-class.ensures in
-    let second = some-from_err (address_refusal c.args.self.now c.args.to) _ _ c.in_err-check_address.ensures in
-    let both = or-from_second (class_refusal c.args.bytes.now) (address_refusal c.args.self.now c.args.to) _ first second in
+    let first =
+    none-from_ok (class_refusal c.args.bytes.now) (class_in c.args.bytes.now) _
+    c.in_ok-class.ensures in
+    let second =
+    some-from_err (address_refusal c.args.self.now c.args.to) _ _ c.in_err-check_address.ensures in
+    let both =
+    or-from_second (class_refusal c.args.bytes.now) (address_refusal c.args.self.now c.args.to) _
+    first second in
     search (rules, both)

@@ -18,5 +18,7 @@ returns g c =
       peers = peers;
       statistics = inside.stats;
     } in
-    ap agent_with (without_peer-removed c.args.addr inside.peers.keys c.remove.new.self.keys c.remove.ensures.keys c.remove.ensures.updates.1)
+    ap agent_with
+    (without_peer-removed c.args.addr inside.peers.keys c.remove.new.self.keys c.remove.ensures.keys
+    c.remove.ensures.updates.1)
     ∙ ap (without_validated c.args.addr) c.self.view_is

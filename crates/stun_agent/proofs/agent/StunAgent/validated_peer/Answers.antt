@@ -10,9 +10,12 @@ use Rattle.stun_agent.proofs.agent.StunAgent.validated_peer.Goals as goal
 pub returns-clause-there : goal.returns-clause-there
 returns-clause-there g c there =
     let inside = c.self.inside in
-    let there_inside = subst (λ (a : Agent). IsTrue (is_peer c.args.addr a.peers)) (sym c.self.view_is) there in
-    let added : c.in_ok-insert.field-0 ≡ not (is_peer c.args.addr inside.peers.keys) = search rules in
-    let stays : OnFalse c.in_ok-insert.field-0 (c.insert.new.self.keys ≡ inside.peers.keys) = c.in_ok-insert.ensures.unchanged in
+    let there_inside =
+    subst (λ (a : Agent). IsTrue (is_peer c.args.addr a.peers)) (sym c.self.view_is) there in
+    let added : c.in_ok-insert.field-0 ≡ not (is_peer c.args.addr inside.peers.keys) =
+    search rules in
+    let stays : OnFalse c.in_ok-insert.field-0 (c.insert.new.self.keys ≡ inside.peers.keys) =
+    c.in_ok-insert.ensures.unchanged in
     let same = same_peers _ _ _ _ added stays there_inside in
     let agent_with : Peers → Agent = λ peers. record {
       transport = inside.outstanding.transport;

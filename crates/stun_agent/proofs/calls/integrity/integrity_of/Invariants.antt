@@ -9,5 +9,8 @@ use Rattle.stun_agent.proofs.calls.integrity.integrity_of.Given as goal
 abbrev pub invariant-loop-attribute : goal.invariant-loop-attribute
 invariant-loop-attribute l =
     signing_algorithm l.bytes
-    ≡ option_or (option_map (λ m. integrity_algorithm m.1) (first_of MESSAGE_INTEGRITY_SHA256 l.attribute-iterator))
-    (option_or l.weaker (option_map (λ m. integrity_algorithm m.1) (first_of MESSAGE_INTEGRITY l.attribute-iterator)))
+    ≡ option_or
+    (option_map (λ m. integrity_algorithm m.1)
+    (first_of MESSAGE_INTEGRITY_SHA256 l.attribute-iterator))
+    (option_or l.weaker
+    (option_map (λ m. integrity_algorithm m.1) (first_of MESSAGE_INTEGRITY l.attribute-iterator)))

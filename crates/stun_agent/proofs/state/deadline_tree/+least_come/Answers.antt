@@ -3,30 +3,43 @@ use Rattle.std.proofs.Common.{ap, refl, subst}
 use Rattle.std.specs.Prelude.{None}
 use Rattle.stun_agent.specs.code.DeadlineTree.{items, height, middle}
 use Rattle.stun_agent.proofs.DeadlineTreeLemmas.{BeginsSoonest, begins_soonest}
-use Rattle.stun_agent.proofs.DeadlineTreeLeast.{later_is, no_later_is, none_come, with_top, skips_left, finds_left, left_below, right_from}
+use Rattle.stun_agent.proofs.DeadlineTreeLeast.{later_is, no_later_is, none_come, with_top}
+use Rattle.stun_agent.proofs.DeadlineTreeLeast.{skips_left, finds_left, left_below, right_from}
 use Rattle.stun_agent.proofs.DeadlineTreePaths.{none_read, search_both}
 use Rattle.stun_agent.proofs.state.deadline_tree.+least_come.Goals as goal
 
-pub least_below-returns-then-is_past-clause-answer : goal.least_below-returns-then-is_past-clause-answer
+pub least_below-returns-then-is_past-clause-answer :
+    goal.least_below-returns-then-is_past-clause-answer
 least_below-returns-then-is_past-clause-answer g t c =
     let node = c.args.node.now in
     rw c.least_come.ensures.answer
-    (skips_left c.args.now c.args.last.now c.middle-middle.result (items node.left) (items node.right) c.if-is_past.ensures
+    (skips_left c.args.now c.args.last.now c.middle-middle.result (items node.left)
+    (items node.right) c.if-is_past.ensures
     (rw c.middle-middle.ensures (left_below c.args.low c.args.high node c.requires)))
 
 pub least_below-returns-in-Some-clause-answer : goal.least_below-returns-in-Some-clause-answer
 least_below-returns-in-Some-clause-answer g t c =
-    finds_left c.args.now c.args.last.now (middle c.args.low c.args.high) _ _ c.in-Some.id c.in-Some.ensures.answer
-    (left_below c.args.low c.args.high c.args.node.now c.requires) (right_from c.args.low c.args.high c.args.node.now c.requires)
+    finds_left c.args.now c.args.last.now (middle c.args.low c.args.high) _ _ c.in-Some.id
+    c.in-Some.ensures.answer
+    (left_below c.args.low c.args.high c.args.node.now c.requires)
+    (right_from c.args.low c.args.high c.args.node.now c.requires)
 
 pub least_come-returns-then-gt-clause-answer : goal.least_come-returns-then-gt-clause-answer
 least_come-returns-then-gt-clause-answer g t c =
-    let first = subst BeginsSoonest (ap items c.in-Held.is) (begins_soonest c.args.low c.args.high c.args.link.now c.requires) in
-    rw (ap items c.in-Held.is) (none_come c.args.now c.args.last.now c.in-Held.top _ (later_is _ _ c.if-gt.ensures) first)
+    let first =
+    subst BeginsSoonest (ap items c.in-Held.is)
+    (begins_soonest c.args.low c.args.high c.args.link.now c.requires) in
+    rw (ap items c.in-Held.is)
+    (none_come c.args.now c.args.last.now c.in-Held.top _ (later_is _ _ c.if-gt.ensures) first)
 
 pub least_come-returns-else-gt-clause-answer : goal.least_come-returns-else-gt-clause-answer
 least_come-returns-else-gt-clause-answer g t c =
-    rw (ap items c.in-Held.is, c.with_id.ensures, c.least_below-below.ensures.answer, c.deref.ensures)
+    rw (
+      ap items c.in-Held.is,
+      c.with_id.ensures,
+      c.least_below-below.ensures.answer,
+      c.deref.ensures,
+    )
     (with_top c.args.now c.args.last.now c.in-Held.top _ (no_later_is _ _ c.if-gt.ensures))
 
 pub least_below-returns-in-None-clause-paths : goal.least_below-returns-in-None-clause-paths
@@ -34,9 +47,12 @@ least_below-returns-in-None-clause-paths g t c =
     let node = c.args.node.now in
     let first = c.in-None.ensures in
     let second = c.least_come-in-None.ensures in
-    search_both c.args.last.now c.args.low c.middle-middle.result (height node.left) (height node.right) c.args.reads.now c.least_come-in-None.new.reads c.least_come-2.new.reads
+    search_both c.args.last.now c.args.low c.middle-middle.result (height node.left)
+    (height node.right) c.args.reads.now c.least_come-in-None.new.reads c.least_come-2.new.reads
     c.least_come-in-None.result c.if-is_past.ensures (rw c.tick.ensures at first.paths)
-    (none_read c.args.now c.args.low (middle c.args.low c.args.high) c.args.last.now None node.left _ _ c.requires.0 refl first.answer (rw c.tick.ensures at first.work))
+    (none_read c.args.now c.args.low (middle c.args.low c.args.high) c.args.last.now None node.left
+    _ _ c.requires.0 refl first.answer (rw c.tick.ensures at first.work))
     second.paths
     (rw c.middle-middle.ensures
-    (λ none. none_read c.args.now (middle c.args.low c.args.high) c.args.high c.args.last.now c.least_come-in-None.result node.right _ _ c.requires.1 none second.answer second.work))
+    (λ none. none_read c.args.now (middle c.args.low c.args.high) c.args.high c.args.last.now
+    c.least_come-in-None.result node.right _ _ c.requires.1 none second.answer second.work))

@@ -1,16 +1,21 @@
--- The least of those below is that of the left where one has come there, and else that of the right.
+-- The least of those below is that of the left where one has come there, and else that of the
+-- right.
 use Rattle.std.proofs.Common.{ap, subst, ◌∙◌}
 use Rattle.std.specs.Prelude.{None}
 use Rattle.stun_agent.specs.code.Deadlines.{lesser}
 use Rattle.stun_agent.specs.code.DeadlineTree.{items, middle, IsTree}
 use Rattle.stun_agent.proofs.DeadlineTreeLemmas.{BeginsSoonest, begins_soonest}
-use Rattle.stun_agent.proofs.DeadlineTreeLeast.{later_is, no_later_is, none_come, goes_left, goes_right, left_below, right_from}
+use Rattle.stun_agent.proofs.DeadlineTreeLeast.{later_is, no_later_is, none_come, goes_left}
+use Rattle.stun_agent.proofs.DeadlineTreeLeast.{goes_right, left_below, right_from}
 use Rattle.stun_agent.proofs.state.deadline_tree.+least_of_all.Goals as goal
 
 pub returns-then-gt-clause-answer : goal.returns-then-gt-clause-answer
 returns-then-gt-clause-answer g t c low high h =
-    let first = subst BeginsSoonest (ap items c.in-Held.is) (begins_soonest low high c.args.link.now h) in
-    rw (ap items c.in-Held.is) (ap (lesser c.args.least) (none_come c.args.now None c.in-Held.top _ (later_is _ _ c.if-gt.ensures) first))
+    let first =
+    subst BeginsSoonest (ap items c.in-Held.is) (begins_soonest low high c.args.link.now h) in
+    rw (ap items c.in-Held.is)
+    (ap (lesser c.args.least)
+    (none_come c.args.now None c.in-Held.top _ (later_is _ _ c.if-gt.ensures) first))
 
 pub returns-then-has_come-clause-answer : goal.returns-then-has_come-clause-answer
 returns-then-has_come-clause-answer g t c low high h =
@@ -18,10 +23,14 @@ returns-then-has_come-clause-answer g t c low high h =
     let node = c.in-Held.node.value in
     let come = no_later_is _ _ c.if-gt.ensures in
     let test = rw c.deref.ensures at c.if-has_come.ensures in
-    let left = rw (c.deref-then-has_come.ensures, c.with_id-least.ensures) at (c.least_of_all.ensures.answer low (middle low high)) in
+    let left =
+    rw (c.deref-then-has_come.ensures, c.with_id-least.ensures)
+    at (c.least_of_all.ensures.answer low (middle low high)) in
     rw (ap items c.in-Held.is)
     (left old.1
-    ∙ goes_left c.args.now c.args.least c.in-Held.top (items node.left) (items node.right) come (middle low high) test (left_below low high node (old.1, old.2)) (right_from low high node (old.1, old.2)))
+    ∙ goes_left c.args.now c.args.least c.in-Held.top (items node.left) (items node.right) come
+    (middle low high) test (left_below low high node (old.1, old.2))
+    (right_from low high node (old.1, old.2)))
 
 pub returns-else-has_come-clause-answer : goal.returns-else-has_come-clause-answer
 returns-else-has_come-clause-answer g t c low high h =
@@ -29,7 +38,10 @@ returns-else-has_come-clause-answer g t c low high h =
     let node = c.in-Held.node.value in
     let come = no_later_is _ _ c.if-gt.ensures in
     let test = rw c.deref.ensures at c.if-has_come.ensures in
-    let right = rw (c.deref-else-has_come.ensures, c.with_id-least.ensures) at (c.least_of_all-else-has_come.ensures.answer (middle low high) high) in
+    let right =
+    rw (c.deref-else-has_come.ensures, c.with_id-least.ensures)
+    at (c.least_of_all-else-has_come.ensures.answer (middle low high) high) in
     rw (ap items c.in-Held.is)
     (right old.2
-    ∙ goes_right c.args.now c.args.least c.in-Held.top (items node.left) (items node.right) come test (begins_soonest low (middle low high) node.left old.1))
+    ∙ goes_right c.args.now c.args.least c.in-Held.top (items node.left) (items node.right) come
+    test (begins_soonest low (middle low high) node.left old.1))

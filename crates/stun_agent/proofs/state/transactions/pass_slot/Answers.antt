@@ -7,7 +7,10 @@ use Rattle.stun_agent.proofs.state.transactions.pass_slot.Goals as goal
 
 pub returns-clause-index : goal.returns-clause-index
 returns-clause-index g c =
-    let told = told_there c.args.transport (after_slot c.args.now) c.args.id c.args.all.now.entries c.in_ok-before.before c.in_ok-before.after c.in_ok-before.ensures.told in
+    let told =
+    told_there c.args.transport (after_slot c.args.now) c.args.id c.args.all.now.entries
+    c.in_ok-before.before c.in_ok-before.after c.in_ok-before.ensures.told in
     subst (λ m. IsIndexOf c.args.transport m c.replace.new.self) (sym c.take_slot.ensures.after)
-    (index_changed c.args.transport (after_slot c.args.now) c.args.id c.args.all.now.entries c.args.deadlines.now c.in_ok-before.before c.in_ok-before.after c.requires.index told
+    (index_changed c.args.transport (after_slot c.args.now) c.args.id c.args.all.now.entries
+    c.args.deadlines.now c.in_ok-before.before c.in_ok-before.after c.requires.index told
     c.replace.new.self c.replace.ensures)

@@ -7,4 +7,6 @@ use Rattle.stun_auth.specs.code.Supported.{in_order}
 use Rattle.stun_auth.proofs.client.challenge.first_supported.Given as goal
 
 abbrev pub invariant-loop-i : goal.invariant-loop-i
-invariant-loop-i l = first_supported (in_order l.supported) (map integrity_of l.list) ≡ first_supported (in_order l.supported) (map integrity_of (drop l.i l.list))
+invariant-loop-i l =
+    first_supported (in_order l.supported) (map integrity_of l.list)
+    ≡ first_supported (in_order l.supported) (map integrity_of (drop l.i l.list))

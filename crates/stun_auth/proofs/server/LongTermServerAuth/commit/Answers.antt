@@ -11,9 +11,12 @@ pub returns-else-is_some-clause-state : goal.returns-else-is_some-clause-state
 returns-else-is_some-clause-state g c =
     let s = c.args.self.now in
     let empty : is_some c.into_client-client.result ≡ false = search rules in
-    let none : client_in c.args.judged ≡ None = no_client c.args.judged c.into_client-client.result c.into_client-client.ensures empty in
+    let none : client_in c.args.judged ≡ None =
+    no_client c.args.judged c.into_client-client.result c.into_client-client.ensures empty in
     or_memory c.answer-answer.result
     (ap (λ places. record s { places = places })
-    (sym (at_place-same s.places c.args.from (λ p. place_left p c.args.judged) (stays c.args.judged none))
-    ∙ ap (λ (r : Option (Renewal g.row.A.Denot)). places_left s.places c.args.from (option_map renewal_seen r) c.args.judged) (sym c.in-None.is)))
+    (sym (at_place-same s.places c.args.from (λ p. place_left p c.args.judged)
+    (stays c.args.judged none))
+    ∙ ap (λ (r : Option (Renewal g.row.A.Denot)).
+    places_left s.places c.args.from (option_map renewal_seen r) c.args.judged) (sym c.in-None.is)))
     refl

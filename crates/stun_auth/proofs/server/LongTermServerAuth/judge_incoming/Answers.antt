@@ -12,13 +12,21 @@ pub returns-then-is_response-clause-state : goal.returns-then-is_response-clause
 returns-then-is_response-clause-state g c =
     let r = reading_of c.args.message.now in
     let needless : needs_nonce r ≡ false =
-    ap (λ b. not (b || is_malformed r)) (ap (λ (x : Reading). is_response x.class) (sym c.of-reading.ensures) ∙ sym c.is_response.ensures ∙ c.if-is_response.true) in
-    or_memory c.check_response.result (after_needless c.args.self.now c.args.from c.args.now (next_words 16 (g.R.Rng.stream c.args.rng.now)) r needless) refl
+    ap (λ b. not (b || is_malformed r))
+    (ap (λ (x : Reading). is_response x.class) (sym c.of-reading.ensures)
+    ∙ sym c.is_response.ensures ∙ c.if-is_response.true) in
+    or_memory c.check_response.result
+    (after_needless c.args.self.now c.args.from c.args.now
+    (next_words 16 (g.R.Rng.stream c.args.rng.now)) r needless) refl
 
 pub returns-then-is_malformed-clause-state : goal.returns-then-is_malformed-clause-state
 returns-then-is_malformed-clause-state g c =
     let r = reading_of c.args.message.now in
-    let request = ap (λ (x : Reading). is_response x.class) (sym c.of-reading.ensures) ∙ sym c.is_response.ensures ∙ c.if-is_response.false in
-    let malformed = ap is_malformed (sym c.of-reading.ensures) ∙ sym c.is_malformed.ensures ∙ c.if-is_malformed.true in
-    let needless : needs_nonce r ≡ false = ap (λ b. not (b || is_malformed r)) request ∙ ap not malformed in
-    after_needless c.args.self.now c.args.from c.args.now (next_words 16 (g.R.Rng.stream c.args.rng.now)) r needless
+    let request = ap (λ (x : Reading). is_response x.class) (sym c.of-reading.ensures)
+    ∙ sym c.is_response.ensures ∙ c.if-is_response.false in
+    let malformed = ap is_malformed (sym c.of-reading.ensures) ∙ sym c.is_malformed.ensures
+    ∙ c.if-is_malformed.true in
+    let needless : needs_nonce r ≡ false = ap (λ b. not (b || is_malformed r)) request
+    ∙ ap not malformed in
+    after_needless c.args.self.now c.args.from c.args.now
+    (next_words 16 (g.R.Rng.stream c.args.rng.now)) r needless

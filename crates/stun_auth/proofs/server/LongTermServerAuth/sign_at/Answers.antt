@@ -13,12 +13,16 @@ returns-in_err-add_attributes g c =
     let refused = err_from_is_err_and c.from_residual.result c.from_residual.ensures.1 in
     let users = c.args.self.now.registered in
     let client = option_map client_seen c.args.place.now.client in
-    refused_before (attributes_for c.args.is_response users (string_bytes c.args.place.now.nonce.text) client) (digest_for users client) _ _ _ _ _ _ _ (protected_for users client)
+    refused_before
+    (attributes_for c.args.is_response users (string_bytes c.args.place.now.nonce.text) client)
+    (digest_for users client) _ _ _ _ _ _ _ (protected_for users client)
     (refused.1 ∙ ap (λ reason. Err reason) refused.2) c.in_err-add_attributes.ensures.added
 
 pub returns-in-Some : goal.returns-in-Some
 returns-in-Some g c =
     let users = c.args.self.now.registered in
     let client = option_map client_seen c.args.place.now.client in
-    followed (attributes_for c.args.is_response users (string_bytes c.args.place.now.nonce.text) client) (digest_for users client) _ _ _ _ _ _ _ (protected_for users client)
+    followed
+    (attributes_for c.args.is_response users (string_bytes c.args.place.now.nonce.text) client)
+    (digest_for users client) _ _ _ _ _ _ _ (protected_for users client)
     c.in_ok-add_attributes.ensures.added (rw c.in-Some.is c.add_digest.ensures)

@@ -17,13 +17,22 @@ returns-in_err-add_signature-clause-succeeds g c = λ may enough.
     let s = sight c.args.self.now c.args.to in
     let page : Page = page_in bytes room c.args.writer in
     let signed : IsOk (server_signed s c.is_response-is_response.result page) =
-    subst (λ (response : Bool). IsOk (server_signed s response page)) (sym c.is_response-is_response.ensures)
+    subst (λ (response : Bool). IsOk (server_signed s response page))
+    (sym c.is_response-is_response.ensures)
     (c.sides_sign_what_is_signable.ensures.server s _ (bytes c.args.writer) (room c.args.writer)
-    (server_signable s _ (bytes c.args.writer) (room c.args.writer) c.add_signature.ensures.short may)) in
-    let reserved : server_growth s c.is_response-is_response.result ≤ g.W.MessageWrite.reserved c.args.writer =
-    subst (λ (response : Bool). server_growth s response ≤ g.W.MessageWrite.reserved c.args.writer) (sym c.is_response-is_response.ensures) enough in
-    let added = succeeds_reserved (λ r. outcome_of r (page_in bytes room c.add_signature.new.writer)) (λ reason. refl) (server_signed s c.is_response-is_response.result page)
-    (g.W.MessageWrite.reserved c.args.writer) _ _ (server_wants_short s c.is_response-is_response.result page (g.W.MessageWrite.reserved c.args.writer)) c.add_signature.result c.add_signature.ensures.signed signed reserved in
+    (server_signable s _ (bytes c.args.writer) (room c.args.writer) c.add_signature.ensures.short
+    may)) in
+    let reserved : server_growth s c.is_response-is_response.result
+    ≤ g.W.MessageWrite.reserved c.args.writer =
+    subst (λ (response : Bool). server_growth s response ≤ g.W.MessageWrite.reserved c.args.writer)
+    (sym c.is_response-is_response.ensures) enough in
+    let added =
+    succeeds_reserved (λ r. outcome_of r (page_in bytes room c.add_signature.new.writer))
+    (λ reason. refl) (server_signed s c.is_response-is_response.result page)
+    (g.W.MessageWrite.reserved c.args.writer) _ _
+    (server_wants_short s c.is_response-is_response.result page
+    (g.W.MessageWrite.reserved c.args.writer)) c.add_signature.result c.add_signature.ensures.signed
+    signed reserved in
     absurd (true≢false (sym added ∙ ap is_ok c.in_err-add_signature.was))
 
 pub returns-clause-grows : goal.returns-clause-grows
@@ -31,5 +40,7 @@ returns-clause-grows g c =
     let s = sight c.args.self.now c.args.to in
     let bytes = g.W.MessageWrite.bytes in
     let room = g.W.MessageWrite.room in
-    grown_by_server s _ (page_in bytes room c.args.writer) (page_in bytes room c.add_signature.new.writer) c.requires.is_whole
-    (ap (λ (response : Bool). server_signed s response (page_in bytes room c.args.writer)) (sym c.is_response-is_response.ensures) ∙ sym c.in_ok-add_signature.ensures.signed)
+    grown_by_server s _ (page_in bytes room c.args.writer)
+    (page_in bytes room c.add_signature.new.writer) c.requires.is_whole
+    (ap (λ (response : Bool). server_signed s response (page_in bytes room c.args.writer))
+    (sym c.is_response-is_response.ensures) ∙ sym c.in_ok-add_signature.ensures.signed)

@@ -14,6 +14,8 @@ returns-clause-accepted g c =
     let words = next_words 16 (g.R.Rng.stream c.args.rng.now) in
     let r = reading_of c.args.message.now in
     let s = sight c.args.self.now c.args.from in
-    subst (λ (given : Answer). OrMemory given (ValidatesAccepted s c.args.now words r given) ⊤) (sym c.refused.ensures)
+    subst (λ (given : Answer). OrMemory given (ValidatesAccepted s c.args.now words r given) ⊤)
+    (sym c.refused.ensures)
     (or_memory_map ⊤ c.judge_incoming.result
-    (λ is. subst (ValidatesAccepted s c.args.now words r) (sym is) (answer-accepted s c.args.now words r)) c.judge_incoming.ensures.answer)
+    (λ is. subst (ValidatesAccepted s c.args.now words r) (sym is)
+    (answer-accepted s c.args.now words r)) c.judge_incoming.ensures.answer)

@@ -13,10 +13,14 @@ use Rattle.stun_auth.proofs.server.registry.make_keys.Goals as goal
 
 pub returns-clause-keys : goal.returns-clause-keys
 returns-clause-keys g c = λ name.
-    keys-kept _ c.args.realm.now c.args.supported _ (λ k v b w f t. search rules) name (is_at (λ k. slice_cmp nat_cmp name (string_bytes k)))
-    (λ k there. sym ((bytes_eq-Decides name (string_bytes k)).0 (sym (is_eq-slice_cmp name (string_bytes k)) ∙ there))) _ _ c.retain.ensures.filtered
+    keys-kept _ c.args.realm.now c.args.supported _ (λ k v b w f t. search rules) name
+    (is_at (λ k. slice_cmp nat_cmp name (string_bytes k)))
+    (λ k there.
+    sym ((bytes_eq-Decides name (string_bytes k)).0
+    (sym (is_eq-slice_cmp name (string_bytes k)) ∙ there))) _ _ c.retain.ensures.filtered
 
 pub returns-clause-secrets : goal.returns-clause-secrets
 returns-clause-secrets g c =
     ap (λ (es : List (List ℕ × UserSecret)). fin.from_entries {R = name_cmp} es)
-    (secrets-kept _ c.args.realm.now c.args.supported _ (λ k v b w f t. search rules) _ _ c.retain.ensures.filtered)
+    (secrets-kept _ c.args.realm.now c.args.supported _ (λ k v b w f t. search rules) _ _
+    c.retain.ensures.filtered)

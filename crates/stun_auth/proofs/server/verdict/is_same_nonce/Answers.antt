@@ -8,5 +8,6 @@ pub returns : goal.returns
 returns c =
     let theirs : c.as_bytes.result.now ≡ c.args.theirs.now = search rules in
     let ours : c.as_bytes-2.result.now ≡ c.args.ours.now = search rules in
-    bytes_eq-tested c.is_same_text.result c.as_bytes.result.now c.as_bytes-2.result.now c.is_same_text.ensures
+    bytes_eq-tested c.is_same_text.result c.as_bytes.result.now c.as_bytes-2.result.now
+    c.is_same_text.ensures
     ∙ (λ i. bytes_eq (theirs i) (ours i))

@@ -9,5 +9,6 @@ pub returns : goal.returns
 returns c other =
     let words = c.args.self.now.words in
     let within : c.args.kind / 64 < length words = search rules in
-    ap (λ i. is_told (slice_set words i (with_bit (get_or words i 0) (c.args.kind % 64))) other) c.from.ensures
+    ap (λ i. is_told (slice_set words i (with_bit (get_or words i 0) (c.args.kind % 64))) other)
+    c.from.ensures
     ∙ is_told-added words c.args.kind other within

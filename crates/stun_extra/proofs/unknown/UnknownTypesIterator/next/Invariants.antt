@@ -4,7 +4,8 @@ use Rattle.stun_extra.specs.code.Told.{left_to_tell}
 use Rattle.stun_extra.proofs.unknown.UnknownTypesIterator.next.Given as goal
 
 abbrev pub invariant-loop-found : goal.invariant-loop-found
-invariant-loop-found l = left_to_tell l.self-inside.known.now l.self-inside.told.words l.self-inside.left ≡ l.fn.self
+invariant-loop-found l =
+    left_to_tell l.self-inside.known.now l.self-inside.told.words l.self-inside.left ≡ l.fn.self
 
 abbrev pub decreases-loop-found : goal.decreases-loop-found
 decreases-loop-found l = length l.self-inside.left

@@ -12,4 +12,6 @@ use Rattle.stun_extra.proofs.unknown.answer.first_error_code.Goals as goal
 pub returns : goal.returns
 returns c =
     sym (option_map_id c.find.result)
-    ∙ find_from_yields_List (λ m. m.1.kind == ERROR_CODE) _ _ c.find.result c.find.ensures.ran (YieldsList-from_first (λ m. m) (λ left. left) (visible c.args.message.now) c.iter_attributes.ensures.visible) (λ m b q k. search (rules, tests))
+    ∙ find_from_yields_List (λ m. m.1.kind == ERROR_CODE) _ _ c.find.result c.find.ensures.ran
+    (YieldsList-from_first (λ m. m) (λ left. left) (visible c.args.message.now)
+    c.iter_attributes.ensures.visible) (λ m b q k. search (rules, tests))

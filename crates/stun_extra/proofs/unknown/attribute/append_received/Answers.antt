@@ -10,11 +10,13 @@ append-requires g c = omega (arith, types_in-length c.args.bytes.now)
 pub returns-clause-bytes : goal.returns-clause-bytes
 returns-clause-bytes g c =
     let spelled : spelled_types (types_in c.args.bytes.now) ≡ c.args.bytes.now =
-    spelled-types_in c.args.bytes.now (record { each = λ i. omega (arith, c.type_inv.bytes i) }) c.requires.even in
+    spelled-types_in c.args.bytes.now (record { each = λ i. omega (arith, c.type_inv.bytes i) })
+    c.requires.even in
     rw (c.append.ensures.bytes, spelled)
 
 pub returns-clause-room : goal.returns-clause-room
 returns-clause-room g c = omega (arith, types_in-length c.args.bytes.now, c.append.ensures.room)
 
 pub returns-clause-reserved : goal.returns-clause-reserved
-returns-clause-reserved g c = omega (arith, types_in-length c.args.bytes.now, c.append.ensures.reserved)
+returns-clause-reserved g c =
+    omega (arith, types_in-length c.args.bytes.now, c.append.ensures.reserved)

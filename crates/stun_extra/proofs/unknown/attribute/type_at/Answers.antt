@@ -10,12 +10,14 @@ use Rattle.stun_extra.proofs.unknown.attribute.type_at.Goals as goal
 
 pub returns-then-i-bytes : goal.returns-then-i-bytes
 returns-then-i-bytes c =
-    let count : length (types_in c.args.bytes.now) ≤ c.args.i = omega (arith, types_in-length c.args.bytes.now) in
+    let count : length (types_in c.args.bytes.now) ≤ c.args.i =
+    omega (arith, types_in-length c.args.bytes.now) in
     sym (slice_get_past (types_in c.args.bytes.now) c.args.i count)
 
 pub returns : goal.returns
 returns c =
     let bytes = c.args.bytes.now in
-    let read : c.read_u16.result ≡ big_number 2 (drop (2 * c.args.i) bytes) = rw take_rest at c.read_u16.ensures in
+    let read : c.read_u16.result ≡ big_number 2 (drop (2 * c.args.i) bytes) =
+    rw take_rest at c.read_u16.ensures in
     let number : c.new.result.0 ≡ big_number 2 (drop (2 * c.args.i) bytes) = c.new.ensures ∙ read in
     (λ k. Some (record { 0 = number k })) ∙ sym (types_in-get bytes c.args.i (omega arith))

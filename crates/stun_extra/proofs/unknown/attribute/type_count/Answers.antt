@@ -7,4 +7,5 @@ pub returns-clause-value : goal.returns-clause-value
 returns-clause-value c = sym (types_in-length c.args.bytes.now)
 
 pub returns-clause-fit : goal.returns-clause-fit
-returns-clause-fit c = AreTypes-types_in c.args.bytes.now (record { each = λ i. omega (arith, c.type_inv.bytes i) })
+returns-clause-fit c =
+    AreTypes-types_in c.args.bytes.now (record { each = λ i. omega (arith, c.type_inv.bytes i) })

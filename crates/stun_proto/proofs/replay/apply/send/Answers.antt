@@ -13,20 +13,37 @@ use Rattle.stun_proto.proofs.replay.apply.send.Goals as goal
 pub returns-in-Err-clause-after : goal.returns-in-Err-clause-after
 returns-in-Err-clause-after g c =
     c.in-Err.ensures.err
-    ∙ sym (ap (λ (o : Option StunError). option_map_or (λ _. c.args.agent.now) o (after_send c.args.bytes.now c.args.agent.now)) (one_refused _ _ c.in-Err.error c.in-Err.ensures.refused))
+    ∙ sym (ap
+    (λ (o : Option StunError).
+    option_map_or (λ _. c.args.agent.now) o (after_send c.args.bytes.now c.args.agent.now))
+    (one_refused _ _ c.in-Err.error c.in-Err.ensures.refused))
 
 pub returns-in-Err-clause-added : goal.returns-in-Err-clause-added
 returns-in-Err-clause-added g c =
-    let step = ap (λ (o : Option StunError). option_map_or (λ error. Refused c.args.now error) o (Sent c.args.now c.args.to c.args.bytes.now)) (one_refused _ _ c.in-Err.error c.in-Err.ensures.refused) in
+    let step =
+    ap (λ (o : Option StunError).
+    option_map_or (λ error. Refused c.args.now error) o
+    (Sent c.args.now c.args.to c.args.bytes.now))
+    (one_refused _ _ c.in-Err.error c.in-Err.ensures.refused) in
     c.add-in-Err.ensures _ (sym step)
 
 pub returns-in-Ok-clause-after : goal.returns-in-Ok-clause-after
 returns-in-Ok-clause-after g c =
     c.in-Ok.ensures.ok
-    ∙ sym (ap (λ (o : Option StunError). option_map_or (λ _. c.args.agent.now) o (after_send c.args.bytes.now c.args.agent.now)) (one_accepted _ _ c.in-Ok.transmit c.in-Ok.ensures.refused))
+    ∙ sym (ap
+    (λ (o : Option StunError).
+    option_map_or (λ _. c.args.agent.now) o (after_send c.args.bytes.now c.args.agent.now))
+    (one_accepted _ _ c.in-Ok.transmit c.in-Ok.ensures.refused))
 
 pub returns-in-Ok-clause-added : goal.returns-in-Ok-clause-added
 returns-in-Ok-clause-added g c =
-    let lent = ap (λ (p : Bor (List ℕ) × TransportType × SocketAddr × SocketAddr). Sent c.args.now p.3 p.0.now) c.in-Ok.ensures.sent in
-    let step = ap (λ (o : Option StunError). option_map_or (λ error. Refused c.args.now error) o (Sent c.args.now c.args.to c.args.bytes.now)) (one_accepted _ _ c.in-Ok.transmit c.in-Ok.ensures.refused) in
-    subst (λ (s : Step). Keeps (kept c.args.log.now) (s ∷ []) (kept c.add.new.self)) (lent ∙ sym step) (c.add.ensures _ c.sent.ensures)
+    let lent =
+    ap (λ (p : Bor (List ℕ) × TransportType × SocketAddr × SocketAddr). Sent c.args.now p.3 p.0.now)
+    c.in-Ok.ensures.sent in
+    let step =
+    ap (λ (o : Option StunError).
+    option_map_or (λ error. Refused c.args.now error) o
+    (Sent c.args.now c.args.to c.args.bytes.now))
+    (one_accepted _ _ c.in-Ok.transmit c.in-Ok.ensures.refused) in
+    subst (λ (s : Step). Keeps (kept c.args.log.now) (s ∷ []) (kept c.add.new.self))
+    (lent ∙ sym step) (c.add.ensures _ c.sent.ensures)

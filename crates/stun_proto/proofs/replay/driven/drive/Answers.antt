@@ -2,7 +2,8 @@ use Rattle.std.proofs.Common.{◌≡◌, [], drop, sym, arith, refl, ◌∙◌}
 use Rattle.std.proofs.lemmas.Bool.{eqb-false, eqb-true}
 use Rattle.std.proofs.lemmas.List.{drop_all}
 use Rattle.stun_proto.specs.Steps.{steps_of}
-use Rattle.stun_proto.proofs.agent_runs.DriveLemmas.{drop_next, nothing_is_driven, run_start, run_more, run_stops, run_kept, is_driven}
+use Rattle.stun_proto.proofs.agent_runs.DriveLemmas.{drop_next, nothing_is_driven, run_start}
+use Rattle.stun_proto.proofs.agent_runs.DriveLemmas.{run_more, run_stops, run_kept, is_driven}
 use Rattle.stun_proto.proofs.agent_runs.Driven.{keep_plans}
 use Rattle.stun_proto.proofs.agent_runs.Once.{nothing_is_asked, sends_by_plan}
 use Rattle.stun_proto.proofs.replay.driven.drive.Goals as goal
@@ -15,12 +16,15 @@ take_event-requires g c = c.loop-moment.invariant.leads.passed
 
 pub loop-moment-preserved : goal.loop-moment-preserved
 loop-moment-preserved g c =
-    let left = drop_next c.args.events.now c.loop-moment.moment-index c.loop-moment-item.result (omega arith) c.loop-moment-item.is in
+    let left =
+    drop_next c.args.events.now c.loop-moment.moment-index c.loop-moment-item.result (omega arith)
+    c.loop-moment-item.is in
     record {
       counted = omega arith;
       leads =
           rw c.as_nanos.ensures
-          (run_more _ _ _ _ _ _ c.loop-moment-item.result.0 c.loop-moment-item.result.1 _ _ _ (rw left at c.loop-moment.invariant.leads) c.in-Ok.ensures.whole c.in-Ok.ensures.passed);
+          (run_more _ _ _ _ _ _ c.loop-moment-item.result.0 c.loop-moment-item.result.1 _ _ _
+          (rw left at c.loop-moment.invariant.leads) c.in-Ok.ensures.whole c.in-Ok.ensures.passed);
     }
 
 pub returns-then-is_empty-clause-headline : goal.returns-then-is_empty-clause-headline
@@ -33,33 +37,45 @@ returns-then-is_empty-clause-headline g c =
 
 pub returns-in-Err-clause-stopped : goal.returns-in-Err-clause-stopped
 returns-in-Err-clause-stopped g c =
-    let left = drop_next c.args.events.now c.loop-moment.moment-index c.loop-moment-item.result (omega arith) c.loop-moment-item.is in
+    let left =
+    drop_next c.args.events.now c.loop-moment.moment-index c.loop-moment-item.result (omega arith)
+    c.loop-moment-item.is in
     let turns = c.in-Err.ensures.broken in
     run_stops _ _ _ _ _ _ _ _ _ turns.0 (rw left at c.loop-moment.invariant.leads) turns.1
 
 pub returns-then-log-clause-stopped : goal.returns-then-log-clause-stopped
 returns-then-log-clause-stopped g c =
-    let left : drop c.loop-moment.moment-index c.args.events.now ≡ [] = drop_all c.loop-moment.moment-index c.args.events.now (omega arith) in
-    run_stops _ _ _ _ _ _ _ _ _ c.turns.ensures.steps (rw left at c.loop-moment.invariant.leads) (rw c.as_nanos-2.ensures at c.turns.ensures.turned)
+    let left : drop c.loop-moment.moment-index c.args.events.now ≡ [] =
+    drop_all c.loop-moment.moment-index c.args.events.now (omega arith) in
+    run_stops _ _ _ _ _ _ _ _ _ c.turns.ensures.steps (rw left at c.loop-moment.invariant.leads)
+    (rw c.as_nanos-2.ensures at c.turns.ensures.turned)
 
 pub returns-clause-run : goal.returns-clause-run
 returns-clause-run g c =
-    let left : drop c.loop-moment.moment-index c.args.events.now ≡ [] = drop_all c.loop-moment.moment-index c.args.events.now (omega arith) in
+    let left : drop c.loop-moment.moment-index c.args.events.now ≡ [] =
+    drop_all c.loop-moment.moment-index c.args.events.now (omega arith) in
     is_driven _ _ _ _ _ (eqb-false _ 0 (sym c.is_empty.ensures ∙ c.if-is_empty.false))
-    (run_kept _ _ _ _ _ _ _ _ c.turns.new.log c.if-log.false (rw left at c.loop-moment.invariant.leads) (rw c.as_nanos-2.ensures at c.turns.ensures))
+    (run_kept _ _ _ _ _ _ _ _ c.turns.new.log c.if-log.false
+    (rw left at c.loop-moment.invariant.leads) (rw c.as_nanos-2.ensures at c.turns.ensures))
 
 pub returns-clause-plans : goal.returns-clause-plans
 returns-clause-plans g c =
-    let left : drop c.loop-moment.moment-index c.args.events.now ≡ [] = drop_all c.loop-moment.moment-index c.args.events.now (omega arith) in
-    keep_plans _ _ c.turns.new.agent _ (steps_of c.turns.new.log.steps.items) (omega arith) c.next_awaited-awaited.ensures.kept.ascending c.requires
-    (run_kept _ _ _ _ _ _ _ _ c.turns.new.log c.if-log.false (rw left at c.loop-moment.invariant.leads) (rw c.as_nanos-2.ensures at c.turns.ensures))
+    let left : drop c.loop-moment.moment-index c.args.events.now ≡ [] =
+    drop_all c.loop-moment.moment-index c.args.events.now (omega arith) in
+    keep_plans _ _ c.turns.new.agent _ (steps_of c.turns.new.log.steps.items) (omega arith)
+    c.next_awaited-awaited.ensures.kept.ascending c.requires
+    (run_kept _ _ _ _ _ _ _ _ c.turns.new.log c.if-log.false
+    (rw left at c.loop-moment.invariant.leads) (rw c.as_nanos-2.ensures at c.turns.ensures))
 
 pub returns-clause-headline : goal.returns-clause-headline
 returns-clause-headline g c =
-    let left : drop c.loop-moment.moment-index c.args.events.now ≡ [] = drop_all c.loop-moment.moment-index c.args.events.now (omega arith) in
+    let left : drop c.loop-moment.moment-index c.args.events.now ≡ [] =
+    drop_all c.loop-moment.moment-index c.args.events.now (omega arith) in
     record {
       driven = returns-clause-run g c;
       by_plan =
-          sends_by_plan _ _ c.turns.new.agent _ (steps_of c.turns.new.log.steps.items) (omega arith) c.next_awaited-awaited.ensures.kept.ascending c.requires
-          (run_kept _ _ _ _ _ _ _ _ c.turns.new.log c.if-log.false (rw left at c.loop-moment.invariant.leads) (rw c.as_nanos-2.ensures at c.turns.ensures));
+          sends_by_plan _ _ c.turns.new.agent _ (steps_of c.turns.new.log.steps.items) (omega arith)
+          c.next_awaited-awaited.ensures.kept.ascending c.requires
+          (run_kept _ _ _ _ _ _ _ _ c.turns.new.log c.if-log.false
+          (rw left at c.loop-moment.invariant.leads) (rw c.as_nanos-2.ensures at c.turns.ensures));
     }

@@ -6,5 +6,6 @@ use Rattle.stun_proto.proofs.replay.driven.drive.Given as goal
 abbrev pub invariant-loop-moment : goal.invariant-loop-moment
 invariant-loop-moment g l = record {
   counted : l.done ≡ l.moment-index;
-  leads : RunLeads l.initial.agent l.events l.done l.from l.agent (drop l.moment-index l.events) (kept l.log);
+  leads : RunLeads l.initial.agent l.events l.done l.from l.agent (drop l.moment-index l.events)
+      (kept l.log);
 }

@@ -5,4 +5,5 @@ use Rattle.stun_proto.proofs.replay.negotiation.name_is_text.Goals as goal
 
 pub returns-in-Some : goal.returns-in-Some
 returns-in-Some g c =
-    subst (λ (o : Option NameAndPassword). IfSome o (λ who. IsUtf8 who.username)) c.in-Some.ensures (subst IsUtf8 c.username-name.ensures c.username-name.utf8)
+    subst (λ (o : Option NameAndPassword). IfSome o (λ who. IsUtf8 who.username)) c.in-Some.ensures
+    (subst IsUtf8 c.username-name.ensures c.username-name.utf8)

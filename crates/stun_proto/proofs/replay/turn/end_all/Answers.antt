@@ -10,7 +10,8 @@ loop-moment-smaller g c =
     let new = c.end_one.new.agent in
     let before = kept c.loop-moment.log in
     let after = kept c.end_one.new.log in
-    less_ended c.args.now old new before after (subst (EndsOne c.args.now old new before after) c.in-None.is c.end_one.ensures)
+    less_ended c.args.now old new before after
+    (subst (EndsOne c.args.now old new before after) c.in-None.is c.end_one.ensures)
 
 pub loop-moment-preserved : goal.loop-moment-preserved
 loop-moment-preserved g c =
@@ -20,8 +21,10 @@ loop-moment-preserved g c =
     let start = kept c.args.log.now in
     let before = kept c.loop-moment.log in
     let after = kept c.end_one.new.log in
-    let over : EndsOne c.args.now old new before after None = subst (EndsOne c.args.now old new before after) c.in-None.is c.end_one.ensures in
+    let over : EndsOne c.args.now old new before after None =
+    subst (EndsOne c.args.now old new before after) c.in-None.is c.end_one.ensures in
     record {
-      leads = leads_ended c.args.now first old new start before after c.loop-moment.invariant.leads over;
+      leads = leads_ended c.args.now first old new start before after
+          c.loop-moment.invariant.leads over;
       moved = moved_ended c.args.now first old new before after c.loop-moment.invariant.moved over;
     }

@@ -6,7 +6,11 @@ use Rattle.stun_proto.proofs.replay.turn.end_all.Given as goal
 
 -- the turn goes on in its second phase
 abbrev pub invariant-loop-moment : goal.invariant-loop-moment
-invariant-loop-moment g l = record { leads : Leads l.now ending ending l.initial.agent l.agent (kept l.initial.log) (kept l.log); moved : HasMoved l.initial.agent l.agent }
+invariant-loop-moment g l =
+    record {
+      leads : Leads l.now ending ending l.initial.agent l.agent (kept l.initial.log) (kept l.log);
+      moved : HasMoved l.initial.agent l.agent;
+    }
 
 abbrev pub decreases-loop-moment : goal.decreases-loop-moment
 decreases-loop-moment g l = work l.agent.transport l.agent.transactions

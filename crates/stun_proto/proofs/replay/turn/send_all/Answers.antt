@@ -1,7 +1,8 @@
 use Rattle.std.proofs.Common.{subst, refl, inr, true, false}
 use Rattle.stun_proto.specs.code.Calls.{SendsOne, kept}
 use Rattle.stun_proto.specs.Run.{sending}
-use Rattle.stun_proto.proofs.agent_runs.TurnLemmas.{leads_start, leads_sent, moved_sent, sends_all, less_sent}
+use Rattle.stun_proto.proofs.agent_runs.TurnLemmas.{leads_start, leads_sent}
+use Rattle.stun_proto.proofs.agent_runs.TurnLemmas.{moved_sent, sends_all, less_sent}
 use Rattle.stun_proto.proofs.replay.turn.send_all.Goals as goal
 
 pub loop-alloc-init : goal.loop-alloc-init
@@ -13,8 +14,10 @@ returns-then-not-send_one g c =
     let new = c.send_one.new.agent in
     let before = kept c.loop-alloc.log in
     let after = kept c.send_one.new.log in
-    let none : SendsOne c.args.now old new before after false = subst (SendsOne c.args.now old new before after) c.if-not-send_one.true c.send_one.ensures in
-    sends_all c.args.now c.args.agent.now old new (kept c.args.log.now) before after c.loop-alloc.invariant.leads c.loop-alloc.invariant.moved none
+    let none : SendsOne c.args.now old new before after false =
+    subst (SendsOne c.args.now old new before after) c.if-not-send_one.true c.send_one.ensures in
+    sends_all c.args.now c.args.agent.now old new (kept c.args.log.now) before after
+    c.loop-alloc.invariant.leads c.loop-alloc.invariant.moved none
 
 pub loop-alloc-smaller : goal.loop-alloc-smaller
 loop-alloc-smaller g c =
@@ -22,7 +25,8 @@ loop-alloc-smaller g c =
     let new = c.send_one.new.agent in
     let before = kept c.loop-alloc.log in
     let after = kept c.send_one.new.log in
-    less_sent c.args.now old new before after (subst (SendsOne c.args.now old new before after) c.if-not-send_one.false c.send_one.ensures)
+    less_sent c.args.now old new before after
+    (subst (SendsOne c.args.now old new before after) c.if-not-send_one.false c.send_one.ensures)
 
 pub loop-alloc-preserved : goal.loop-alloc-preserved
 loop-alloc-preserved g c =
@@ -32,8 +36,10 @@ loop-alloc-preserved g c =
     let start = kept c.args.log.now in
     let before = kept c.loop-alloc.log in
     let after = kept c.send_one.new.log in
-    let sent : SendsOne c.args.now old new before after true = subst (SendsOne c.args.now old new before after) c.if-not-send_one.false c.send_one.ensures in
+    let sent : SendsOne c.args.now old new before after true =
+    subst (SendsOne c.args.now old new before after) c.if-not-send_one.false c.send_one.ensures in
     record {
-      leads = leads_sent c.args.now first old new start before after c.loop-alloc.invariant.leads sent;
+      leads = leads_sent c.args.now first old new start before after
+          c.loop-alloc.invariant.leads sent;
       moved = moved_sent c.args.now first old new before after c.loop-alloc.invariant.moved sent;
     }

@@ -6,7 +6,11 @@ use Rattle.stun_proto.proofs.replay.turn.send_all.Given as goal
 
 -- the turn goes on in its first phase
 abbrev pub invariant-loop-alloc : goal.invariant-loop-alloc
-invariant-loop-alloc g l = record { leads : Leads l.now sending sending l.initial.agent l.agent (kept l.initial.log) (kept l.log); moved : HasMoved l.initial.agent l.agent }
+invariant-loop-alloc g l =
+    record {
+      leads : Leads l.now sending sending l.initial.agent l.agent (kept l.initial.log) (kept l.log);
+      moved : HasMoved l.initial.agent l.agent;
+    }
 
 abbrev pub decreases-loop-alloc : goal.decreases-loop-alloc
 decreases-loop-alloc g l = work l.agent.transport l.agent.transactions

@@ -5,5 +5,8 @@ use Rattle.stun_proto.proofs.replay.turn.send_one.Goals as goal
 
 pub returns : goal.returns
 returns g c =
-    let passed : c.poll_transmit.follows.lender-at-none ≡ after_poll_transmit c.args.now c.args.agent.now = search rules in
-    sends_one c.args.now c.args.agent.now c.poll_transmit.follows.lender-at-none _ _ _ c.in-Some.ensures.sent c.in-Some.ensures.request passed (c.add.ensures _ c.transmitted-step.ensures)
+    let passed : c.poll_transmit.follows.lender-at-none
+    ≡ after_poll_transmit c.args.now c.args.agent.now = search rules in
+    sends_one c.args.now c.args.agent.now c.poll_transmit.follows.lender-at-none _ _ _
+    c.in-Some.ensures.sent c.in-Some.ensures.request passed
+    (c.add.ensures _ c.transmitted-step.ensures)

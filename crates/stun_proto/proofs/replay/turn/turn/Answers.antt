@@ -8,12 +8,16 @@ pub returns-then-as_nanos : goal.returns-then-as_nanos
 returns-then-as_nanos g c =
     let over = c.end_all-wait.ensures in
     let waits = over.waits in
-    takes_turn _ _ _ _ _ (leads_both _ _ _ _ _ _ _ _ _ _ c.loop-alloc.invariant c.send_all.ensures over) over.settled (inl (omega arith))
+    takes_turn _ _ _ _ _
+    (leads_both _ _ _ _ _ _ _ _ _ _ c.loop-alloc.invariant c.send_all.ensures over) over.settled
+    (inl (omega arith))
 
 pub returns-then-as_nanos-eq18446744073709551615 : goal.returns-then-as_nanos-eq18446744073709551615
 returns-then-as_nanos-eq18446744073709551615 g c =
     let over = c.end_all-wait.ensures in
-    takes_turn _ _ _ _ _ (leads_both _ _ _ _ _ _ _ _ _ _ c.loop-alloc.invariant c.send_all.ensures over) over.settled (inr (omega arith))
+    takes_turn _ _ _ _ _
+    (leads_both _ _ _ _ _ _ _ _ _ _ c.loop-alloc.invariant c.send_all.ensures over) over.settled
+    (inr (omega arith))
 
 pub loop-alloc-smaller : goal.loop-alloc-smaller
 loop-alloc-smaller g c =
@@ -25,6 +29,10 @@ pub loop-alloc-preserved : goal.loop-alloc-preserved
 loop-alloc-preserved g c =
     let over = c.end_all-wait.ensures in
     let less : c.args.now < last_moment = omega arith in
-    let least : c.args.now ≤ wake_up c.end_all-wait.new.agent.transport c.args.now c.end_all-wait.new.agent.transactions = omega arith in
+    let least : c.args.now
+    ≤ wake_up c.end_all-wait.new.agent.transport c.args.now c.end_all-wait.new.agent.transactions =
+    omega arith in
     let waits = over.waits in
-    leads_again _ _ _ _ _ (leads_both _ _ _ _ _ _ _ _ _ _ c.loop-alloc.invariant c.send_all.ensures over) over.settled (omega arith) less
+    leads_again _ _ _ _ _
+    (leads_both _ _ _ _ _ _ _ _ _ _ c.loop-alloc.invariant c.send_all.ensures over) over.settled
+    (omega arith) less

@@ -5,7 +5,8 @@ use Rattle.stun_proto.proofs.replay.turn.turn.Given as goal
 
 -- the turn begins again
 abbrev pub invariant-loop-alloc : goal.invariant-loop-alloc
-invariant-loop-alloc g l = Leads l.now sending sending l.initial.agent l.agent (kept l.initial.log) (kept l.log)
+invariant-loop-alloc g l =
+    Leads l.now sending sending l.initial.agent l.agent (kept l.initial.log) (kept l.log)
 
 abbrev pub decreases-loop-alloc : goal.decreases-loop-alloc
 decreases-loop-alloc g l = work l.agent.transport l.agent.transactions

@@ -10,8 +10,11 @@ pub returns-clause-state : goal.returns-clause-state
 returns-clause-state c =
     let before = c.deref_mut.result.now in
     let kept : c.args.handle.now.agent ≡ Some before = search rules in
-    let told : to_z w64 (of_z w64 c.length-answer.result) ≡ length_answer c.poll_transmit.result = search rules in
+    let told : to_z w64 (of_z w64 c.length-answer.result) ≡ length_answer c.poll_transmit.result =
+    search rules in
     let wrap : Agent → Option Kept = λ a. Some (record { agent = a }) in
     let put : c.put.new.self.agent ≡ wrap c.poll_transmit.new.agent = search rules in
     some_is _ before _ kept
-    (left_length _ wrap c.poll_transmit.result _ before.agent c.poll_transmit.new.agent (after_poll_transmit c.args.now before.agent) _ told put c.poll_transmit.ensures.ok c.poll_transmit.ensures.err (λ e. e.0))
+    (left_length _ wrap c.poll_transmit.result _ before.agent c.poll_transmit.new.agent
+    (after_poll_transmit c.args.now before.agent) _ told put c.poll_transmit.ensures.ok
+    c.poll_transmit.ensures.err (λ e. e.0))

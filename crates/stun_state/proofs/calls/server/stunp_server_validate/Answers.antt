@@ -8,5 +8,7 @@ pub returns-clause-unchanged : goal.returns-clause-unchanged
 returns-clause-unchanged c =
     let before = c.deref_mut.result.now in
     let kept : c.args.handle.now.server ≡ Some before = search rules in
-    let told : to_z w64 (of_z w64 c.algorithm-answer.result) ≡ algorithm_answer c.validate.result = search rules in
-    some_is _ before _ kept (λ nothing. told ∙ ap algorithm_answer (c.validate.ensures.unchanged nothing))
+    let told : to_z w64 (of_z w64 c.algorithm-answer.result) ≡ algorithm_answer c.validate.result =
+    search rules in
+    some_is _ before _ kept
+    (λ nothing. told ∙ ap algorithm_answer (c.validate.ensures.unchanged nothing))

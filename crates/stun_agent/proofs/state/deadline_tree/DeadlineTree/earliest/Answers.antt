@@ -6,4 +6,6 @@ use Rattle.stun_agent.proofs.state.deadline_tree.DeadlineTree.earliest.Goals as 
 
 pub returns-in-Held : goal.returns-in-Held
 returns-in-Held g c =
-    rw (← c.self.view_is) (first_moment 0 (2 ^ 96) c.self.inside.root c.self.invariant.tree c.in-Held.top _ (ap items c.in-Held.is))
+    rw (← c.self.view_is)
+    (first_moment 0 (2 ^ 96) c.self.inside.root c.self.invariant.tree c.in-Held.top _
+    (ap items c.in-Held.is))

@@ -8,4 +8,6 @@ put-requires-clause-within g c = (omega arith, search rules)
 
 pub invariant_of-self : goal.invariant_of-self
 invariant_of-self g c =
-    whole_put c.entry.inside.deadline c.self.inside.root c.put.new.link (rw (c.entry.view_is, c.self.view_is) c.requires) c.put.ensures.items c.put.ensures.tree c.self.invariant
+    whole_put c.entry.inside.deadline c.self.inside.root c.put.new.link
+    (rw (c.entry.view_is, c.self.view_is) c.requires) c.put.ensures.items c.put.ensures.tree
+    c.self.invariant

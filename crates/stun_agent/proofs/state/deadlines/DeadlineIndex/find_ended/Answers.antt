@@ -9,15 +9,20 @@ use Rattle.stun_agent.proofs.state.deadlines.DeadlineIndex.find_ended.Goals as g
 pub returns-clause-ended : goal.returns-clause-ended
 returns-clause-ended g c =
     let inside = c.self.inside in
-    c.least.ensures ∙ ap (λ a. lesser a c.least_come-cancelled.result) {y = least_come c.args.now None inside.ends} c.least_come-ended.ensures.answer
+    c.least.ensures
+    ∙ ap (λ a. lesser a c.least_come-cancelled.result) {y = least_come c.args.now None inside.ends}
+    c.least_come-ended.ensures.answer
     ∙ ap (lesser (least_come c.args.now None inside.ends)) c.least_come-cancelled.ensures.answer
-    ∙ sym (ended_parts inside.slots inside.ends inside.cancelled c.self.invariant c.args.now) ∙ ap (least_ended c.args.now) c.self.view_is
+    ∙ sym (ended_parts inside.slots inside.ends inside.cancelled c.self.invariant c.args.now)
+    ∙ ap (least_ended c.args.now) c.self.view_is
 
 pub returns-clause-work : goal.returns-clause-work
 returns-clause-work g c =
     let inside = c.self.inside in
-    let parts : early c.args.now c.args.self.now ≡ early c.args.now inside.slots + (early c.args.now inside.ends + early c.args.now inside.cancelled) =
-    sym (ap (early c.args.now) c.self.view_is) ∙ early_parts c.args.now inside.slots inside.ends inside.cancelled in
+    let parts : early c.args.now c.args.self.now ≡ early c.args.now inside.slots
+    + (early c.args.now inside.ends + early c.args.now inside.cancelled) =
+    sym (ap (early c.args.now) c.self.view_is)
+    ∙ early_parts c.args.now inside.slots inside.ends inside.cancelled in
     let none = c.new-reads.ensures in
     let itself = c.tick.ensures in
     let one = c.least_come-ended.ensures.work in

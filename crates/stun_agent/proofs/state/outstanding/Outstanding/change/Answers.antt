@@ -6,5 +6,9 @@ use Rattle.stun_agent.proofs.state.outstanding.Outstanding.change.Goals as goal
 
 pub invariant_of-self-2 : goal.invariant_of-self-2
 invariant_of-self-2 g c =
-    let told = told_there c.self.inside.transport (after_change c.args.change) c.args.id c.self.inside.requests.entries c.in-Some.before c.in-Some.after c.in-Some.ensures.told in
-    indexed_changed _ _ _ _ _ c.self.invariant (after_change c.args.change) c.args.id c.in-Some.before c.in-Some.after (change-bytes c.args.change) told c.change.ensures.after c.replace.ensures
+    let told =
+    told_there c.self.inside.transport (after_change c.args.change) c.args.id
+    c.self.inside.requests.entries c.in-Some.before c.in-Some.after c.in-Some.ensures.told in
+    indexed_changed _ _ _ _ _ c.self.invariant (after_change c.args.change) c.args.id
+    c.in-Some.before c.in-Some.after (change-bytes c.args.change) told c.change.ensures.after
+    c.replace.ensures

@@ -9,11 +9,14 @@ use Rattle.stun_agent.proofs.state.outstanding.Outstanding.remove.Goals as goal
 
 pub take-deadline-requires : goal.take-deadline-requires
 take-deadline-requires g c =
-    subst (λ (d : Deadline). entries_at d.id c.self.inside.deadlines ≡ d ∷ []) (sym c.deadline.ensures)
+    subst (λ (d : Deadline). entries_at d.id c.self.inside.deadlines ≡ d ∷ [])
+    (sym c.deadline.ensures)
     (told_entry _ _ _ c.self.invariant.index c.args.id c.in_ok-request.request (search rules))
 
 pub invariant_of-self-2 : goal.invariant_of-self-2
 invariant_of-self-2 g c =
     let taken = some_gives c.deadline.result c.take-deadline.result c.take-deadline.ensures in
-    indexed_without _ _ _ _ _ c.self.invariant c.args.id c.in_ok-request.request c.remove.ensures.entries
-    (subst (λ (d : Deadline). IsPermutation c.self.inside.deadlines (d ∷ c.take-deadline.new.self)) c.deadline.ensures taken)
+    indexed_without _ _ _ _ _ c.self.invariant c.args.id c.in_ok-request.request
+    c.remove.ensures.entries
+    (subst (λ (d : Deadline). IsPermutation c.self.inside.deadlines (d ∷ c.take-deadline.new.self))
+    c.deadline.ensures taken)

@@ -1,7 +1,8 @@
 use Rattle.std.proofs.Common.{◌≡◌, ◌≤◌, sym, arith}
 use Rattle.std.specs.Duration.{max_nanos}
 use Rattle.stun_agent.specs.Timing.{settings_of, timeout}
-use Rattle.stun_agent.proofs.TimingLemmas.{sum_of_timeouts-zero, sum_of_timeouts-add_one, sum_of_timeouts-split}
+use Rattle.stun_agent.proofs.TimingLemmas.{sum_of_timeouts-zero, sum_of_timeouts-add_one}
+use Rattle.stun_agent.proofs.TimingLemmas.{sum_of_timeouts-split}
 use Rattle.stun_agent.proofs.state.rto.RequestRto.sum_of_timeouts.Goals as goal
 
 pub loop-i-init : goal.loop-i-init
@@ -9,7 +10,11 @@ loop-i-init c = record { value = sym (sum_of_timeouts-zero _); bound = omega ari
 
 pub loop-i-preserved : goal.loop-i-preserved
 loop-i-preserved c = record {
-  value = rw (sum_of_timeouts-add_one (settings_of c.args.self.now) c.loop-i.i, c.timeout_nanos-sum.ensures.value, c.loop-i.invariant.value);
+  value = rw (
+    sum_of_timeouts-add_one (settings_of c.args.self.now) c.loop-i.i,
+    c.timeout_nanos-sum.ensures.value,
+    c.loop-i.invariant.value,
+  );
   bound = omega arith;
 }
 
@@ -17,6 +22,8 @@ pub returns-clause-value : goal.returns-clause-value
 returns-clause-value c =
     let settings = settings_of c.args.self.now in
     let last : c.loop-i.i ≡ c.min-rising.result = omega arith in
-    let long : timeout settings 94 ≤ max_nanos = rw (← c.timeout_nanos.ensures.value) c.timeout_nanos.ensures.bound in
+    let long : timeout settings 94 ≤ max_nanos =
+    rw (← c.timeout_nanos.ensures.value) c.timeout_nanos.ensures.bound in
     rw (c.loop-i.invariant.value, last, c.timeout_nanos.ensures.value, ← c.repetitions-all.ensures)
-    (sum_of_timeouts-split settings c.repetitions-all.result c.min-rising.result long c.min-rising.ensures)
+    (sum_of_timeouts-split settings c.repetitions-all.result c.min-rising.result long
+    c.min-rising.ensures)

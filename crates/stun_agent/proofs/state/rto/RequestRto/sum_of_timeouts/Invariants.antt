@@ -4,4 +4,8 @@ use Rattle.stun_agent.specs.Timing.{settings_of, sum_of_timeouts}
 use Rattle.stun_agent.proofs.state.rto.RequestRto.sum_of_timeouts.Given as goal
 
 abbrev pub invariant-loop-i : goal.invariant-loop-i
-invariant-loop-i l = record { value : l.sum ≡ sum_of_timeouts (settings_of l.self) l.i; bound : l.sum ≤ l.i * max_nanos }
+invariant-loop-i l =
+    record {
+      value : l.sum ≡ sum_of_timeouts (settings_of l.self) l.i;
+      bound : l.sum ≤ l.i * max_nanos;
+    }

@@ -12,17 +12,23 @@ pub returns-in_err-add-clause-added : goal.returns-in_err-add-clause-added
 returns-in_err-add-clause-added g c =
     let refused = err_from_is_err_and c.from_residual.result c.from_residual.ensures.1 in
     let kept = challenge_seen c.args.self.now in
-    let others : List Addition = attribute (realm kept.realm) ∷ attribute (name_attribute kept.naming) ∷ [] in
-    refused_at_first _ _ others _ _ _ _ _ _ _ _ (refused.1 ∙ ap (λ reason. Err reason) refused.2) (rw c.as_str.ensures.value refl) c.in_err-add.ensures.added
+    let others : List Addition =
+    attribute (realm kept.realm) ∷ attribute (name_attribute kept.naming) ∷ [] in
+    refused_at_first _ _ others _ _ _ _ _ _ _ _ (refused.1 ∙ ap (λ reason. Err reason) refused.2)
+    (rw c.as_str.ensures.value refl) c.in_err-add.ensures.added
 
 pub returns-in_err-add-2-clause-added : goal.returns-in_err-add-2-clause-added
 returns-in_err-add-2-clause-added g c =
-    let refused = err_from_is_err_and c.from_residual-in_err-add-2.result c.from_residual-in_err-add-2.ensures.1 in
+    let refused =
+    err_from_is_err_and c.from_residual-in_err-add-2.result
+    c.from_residual-in_err-add-2.ensures.1 in
     let kept = challenge_seen c.args.self.now in
     let name : List Addition = attribute (name_attribute kept.naming) ∷ [] in
     let others : List Addition = attribute (realm kept.realm) ∷ name in
     then_added _ _ others _ _ _ _ _ _ _ _ (rw c.as_str.ensures.value refl) c.in_ok-add.ensures.added
-    (refused_at_first others _ name _ _ _ _ _ _ _ _ (refused.1 ∙ ap (λ reason. Err reason) refused.2) (rw c.as_str-2.ensures.value refl) c.in_err-add-2.ensures.added)
+    (refused_at_first others _ name _ _ _ _ _ _ _ _
+    (refused.1 ∙ ap (λ reason. Err reason) refused.2) (rw c.as_str-2.ensures.value refl)
+    c.in_err-add-2.ensures.added)
 
 pub returns-clause-added : goal.returns-clause-added
 returns-clause-added g c =
@@ -30,5 +36,6 @@ returns-clause-added g c =
     let name : List Addition = attribute (name_attribute kept.naming) ∷ [] in
     let others : List Addition = attribute (realm kept.realm) ∷ name in
     then_added _ _ others _ _ _ _ _ _ _ _ (rw c.as_str.ensures.value refl) c.in_ok-add.ensures.added
-    (then_added others _ name _ _ _ _ _ _ _ _ (rw c.as_str-2.ensures.value refl) c.in_ok-add-2.ensures.added
+    (then_added others _ name _ _ _ _ _ _ _ _ (rw c.as_str-2.ensures.value refl)
+    c.in_ok-add-2.ensures.added
     (rw (← c.attribute.ensures) c.add-3.ensures.added))

@@ -10,11 +10,13 @@ pub returns-in_err-add_algorithm_choice : goal.returns-in_err-add_algorithm_choi
 returns-in_err-add_algorithm_choice g c =
     let refused = err_from_is_err_and c.from_residual.result c.from_residual.ensures.1 in
     let kept = challenge_seen c.args.self.now in
-    refused_outcome _ (algorithm_choice kept.algorithms kept.algorithm) (protection kept) _ _ _ _ _ _ _ (refused.1 ∙ ap (λ reason. Err reason) refused.2) refl
+    refused_outcome _ (algorithm_choice kept.algorithms kept.algorithm) (protection kept) _ _ _ _ _
+    _ _ (refused.1 ∙ ap (λ reason. Err reason) refused.2) refl
     c.in_err-add_algorithm_choice.ensures.added
 
 pub returns : goal.returns
 returns g c =
     let kept = challenge_seen c.args.self.now in
-    then_outcome _ (algorithm_choice kept.algorithms kept.algorithm) (protection kept) _ _ _ _ _ _ _ refl
+    then_outcome _ (algorithm_choice kept.algorithms kept.algorithm) (protection kept) _ _ _ _ _ _
+    _ refl
     c.in_ok-add_algorithm_choice.ensures.added c.add_integrity.ensures

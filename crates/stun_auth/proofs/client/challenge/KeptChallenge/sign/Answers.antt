@@ -10,11 +10,14 @@ pub returns-in_err-add_identity : goal.returns-in_err-add_identity
 returns-in_err-add_identity g c =
     let refused = err_from_is_err_and c.from_residual.result c.from_residual.ensures.1 in
     let kept = challenge_seen c.args.self.now in
-    refused_outcome _ (identity kept) (challenge_additions false kept) _ _ _ _ _ _ _ (refused.1 ∙ ap (λ reason. Err reason) refused.2)
-    (ap (λ request. challenge_additions request kept) c.if-is_request.true) c.in_err-add_identity.ensures.added
+    refused_outcome _ (identity kept) (challenge_additions false kept) _ _ _ _ _ _ _
+    (refused.1 ∙ ap (λ reason. Err reason) refused.2)
+    (ap (λ request. challenge_additions request kept) c.if-is_request.true)
+    c.in_err-add_identity.ensures.added
 
 pub returns-in_ok-add_identity : goal.returns-in_ok-add_identity
 returns-in_ok-add_identity g c =
     let kept = challenge_seen c.args.self.now in
     then_outcome _ (identity kept) (challenge_additions false kept) _ _ _ _ _ _ _
-    (ap (λ request. challenge_additions request kept) c.if-is_request.true) c.in_ok-add_identity.ensures.added c.add_protection.ensures
+    (ap (λ request. challenge_additions request kept) c.if-is_request.true)
+    c.in_ok-add_identity.ensures.added c.add_protection.ensures

@@ -6,5 +6,8 @@ use Rattle.stun_auth.proofs.server.name_index.NameIndex.remove.Goals as goal
 
 pub returns : goal.returns
 returns g c =
-    names_hashed-removed c.self.inside.hashed c.remove.new.self (c.args.hash, c.args.name) c.remove.ensures.updates
+    names_hashed-removed c.self.inside.hashed c.remove.new.self (
+      c.args.hash,
+      c.args.name,
+    ) c.remove.ensures.updates
     ∙ ap (λ names. set.remove names (c.args.hash, string_bytes c.args.name)) c.self.view_is

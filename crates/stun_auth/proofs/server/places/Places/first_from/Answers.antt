@@ -8,11 +8,17 @@ use Rattle.stun_auth.proofs.server.places.Places.first_from.Goals as goal
 
 pub returns-in_err-address : goal.returns-in_err-address
 returns-in_err-address g c =
-    subst (λ (o : Option SocketAddr). IsFirstFrom c.args.self.now c.args.start o) (sym c.from_residual.ensures)
+    subst (λ (o : Option SocketAddr). IsFirstFrom c.args.self.now c.args.start o)
+    (sym c.from_residual.ensures)
     (subst (λ (places : PlacesSeen). IsFirstFrom places c.args.start None) c.self.view_is
-    (first_none c.self.inside.by_address c.args.start c.range.result (c.range.ensures.in_range tt) c.in_err-address.ensures.steps.0))
+    (first_none c.self.inside.by_address c.args.start c.range.result (c.range.ensures.in_range tt)
+    c.in_err-address.ensures.steps.0))
 
 pub returns : goal.returns
 returns g c =
-    subst (λ (places : PlacesSeen). IsFirstFrom places c.args.start (Some c.in_ok-address.address.now)) c.self.view_is
-    (first_some c.self.inside.by_address c.args.start c.range.result (c.range.ensures.in_range tt) (c.in_ok-address.address.now, c.in_ok-address.field-0-1.now) c.next.new.self c.in_ok-address.ensures.steps)
+    subst (λ (places : PlacesSeen).
+    IsFirstFrom places c.args.start (Some c.in_ok-address.address.now)) c.self.view_is
+    (first_some c.self.inside.by_address c.args.start c.range.result (c.range.ensures.in_range tt) (
+      c.in_ok-address.address.now,
+      c.in_ok-address.field-0-1.now,
+    ) c.next.new.self c.in_ok-address.ensures.steps)

@@ -6,5 +6,6 @@ use Rattle.stun_auth.proofs.server.places.Places.forget.Goals as goal
 
 pub returns : goal.returns
 returns g c =
-    places_seen-removed c.self.inside.by_address c.remove.new.self c.args.address c.remove.ensures.updates
+    places_seen-removed c.self.inside.by_address c.remove.new.self c.args.address
+    c.remove.ensures.updates
     ∙ ap (λ m. map.remove m c.args.address) c.self.view_is

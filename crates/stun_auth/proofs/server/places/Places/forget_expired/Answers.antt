@@ -12,6 +12,7 @@ use Rattle.stun_auth.proofs.server.places.Places.forget_expired.Goals as goal
 pub returns : goal.returns
 returns g c =
     ap (λ (es : List (SocketAddr × Place g.row.A.Denot)). places_seen es)
-    (filter_same_pairs _ (λ e. not (is_forgotten c.args.now (place_seen e.1))) _ (λ k v b w f t. search rules) _ _ c.retain.ensures.filtered)
+    (filter_same_pairs _ (λ e. not (is_forgotten c.args.now (place_seen e.1))) _
+    (λ k v b w f t. search rules) _ _ c.retain.ensures.filtered)
     ∙ places_seen-filter c.args.now c.self.inside.by_address.entries c.retain.ensures.was_ordered
     ∙ ap (places_kept c.args.now) c.self.view_is

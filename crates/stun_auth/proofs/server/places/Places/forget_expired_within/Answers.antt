@@ -2,7 +2,9 @@
 use Rattle.std.proofs.Common.{◌≡◌, Option, None, rules, sym, ◌∙◌, subst}
 use Rattle.std.specs.declared.net.socket_addr.SocketAddr.{SocketAddr}
 use Rattle.stun_auth.specs.ForgettingSteps.{is_looked_at, places_kept_where, start_of}
-use Rattle.stun_auth.proofs.SteppingLemmas.{begun_left, begun_next, begun_within, left_last, left_more, next_last, next_more, next_none, still_within}
+use Rattle.stun_auth.proofs.SteppingLemmas.{begun_left, begun_next, begun_within}
+use Rattle.stun_auth.proofs.SteppingLemmas.{left_last, left_more, next_last}
+use Rattle.stun_auth.proofs.SteppingLemmas.{next_more, next_none, still_within}
 use Rattle.stun_auth.proofs.server.places.Places.forget_expired_within.Goals as goal
 
 pub loop-looked-init : goal.loop-looked-init
@@ -14,25 +16,39 @@ loop-looked-init g c = record {
 
 pub loop-looked-preserved : goal.loop-looked-preserved
 loop-looked-preserved g c = record {
-  left = left_more (start_of c.args.from) c.loop-looked.start c.args.now c.args.self.now c.loop-looked.self _ c.in_ok-address.address c.loop-looked.invariant.left c.loop-looked.invariant.within c.in_ok-address.ensures c.forget_if_expired.ensures;
-  within = still_within (start_of c.args.from) c.loop-looked.start c.in_ok-address.address c.in_ok-address.ensures.1 c.loop-looked.invariant.within;
-  next = next_more (start_of c.args.from) c.loop-looked.start c.args.now c.args.self.now c.loop-looked.self c.in_ok-address.address _ c.args.most c.loop-looked._looked (search rules) c.loop-looked.invariant.left c.in_ok-address.ensures c.loop-looked.invariant.next;
+  left = left_more (start_of c.args.from) c.loop-looked.start c.args.now c.args.self.now
+      c.loop-looked.self _ c.in_ok-address.address c.loop-looked.invariant.left
+      c.loop-looked.invariant.within c.in_ok-address.ensures c.forget_if_expired.ensures;
+  within =
+      still_within (start_of c.args.from) c.loop-looked.start c.in_ok-address.address
+      c.in_ok-address.ensures.1 c.loop-looked.invariant.within;
+  next = next_more (start_of c.args.from) c.loop-looked.start c.args.now c.args.self.now
+      c.loop-looked.self c.in_ok-address.address _ c.args.most c.loop-looked._looked (search rules)
+      c.loop-looked.invariant.left c.in_ok-address.ensures c.loop-looked.invariant.next;
 }
 
 pub returns-in_err-address-clause-next : goal.returns-in_err-address-clause-next
 returns-in_err-address-clause-next g c =
     c.from_residual.ensures
-    ∙ next_none (start_of c.args.from) c.loop-looked.start c.args.now c.args.self.now c.loop-looked.self _ c.args.most c.loop-looked._looked (search rules) c.loop-looked.invariant.left c.in_err-address.ensures c.loop-looked.invariant.next
+    ∙ next_none (start_of c.args.from) c.loop-looked.start c.args.now c.args.self.now
+    c.loop-looked.self _ c.args.most c.loop-looked._looked (search rules)
+    c.loop-looked.invariant.left c.in_err-address.ensures c.loop-looked.invariant.next
 
 pub returns-in_err-address-clause-state : goal.returns-in_err-address-clause-state
 returns-in_err-address-clause-state g c =
-    subst (λ (o : Option SocketAddr). c.loop-looked.self ≡ places_kept_where (is_looked_at c.args.from o) c.args.now c.args.self.now) (sym c.from_residual.ensures)
-    (left_last c.args.from c.loop-looked.start c.args.now c.args.self.now c.loop-looked.self None c.loop-looked.invariant.left c.in_err-address.ensures)
+    subst (λ (o : Option SocketAddr). c.loop-looked.self
+    ≡ places_kept_where (is_looked_at c.args.from o) c.args.now c.args.self.now)
+    (sym c.from_residual.ensures)
+    (left_last c.args.from c.loop-looked.start c.args.now c.args.self.now c.loop-looked.self None
+    c.loop-looked.invariant.left c.in_err-address.ensures)
 
 pub returns-clause-next : goal.returns-clause-next
 returns-clause-next g c =
-    next_last (start_of c.args.from) c.loop-looked.start c.args.now c.args.self.now c.loop-looked.self _ _ c.args.most c.loop-looked._looked (search rules) c.loop-looked.invariant.left c.first_from-next.ensures c.loop-looked.invariant.next
+    next_last (start_of c.args.from) c.loop-looked.start c.args.now c.args.self.now
+    c.loop-looked.self _ _ c.args.most c.loop-looked._looked (search rules)
+    c.loop-looked.invariant.left c.first_from-next.ensures c.loop-looked.invariant.next
 
 pub returns-clause-state : goal.returns-clause-state
 returns-clause-state g c =
-    left_last c.args.from c.loop-looked.start c.args.now c.args.self.now c.loop-looked.self _ c.loop-looked.invariant.left c.first_from-next.ensures
+    left_last c.args.from c.loop-looked.start c.args.now c.args.self.now c.loop-looked.self _
+    c.loop-looked.invariant.left c.first_from-next.ensures

@@ -4,7 +4,12 @@ use Rattle.stun_auth.proofs.SteppingLemmas.{kept_if_current, kept_if_expired}
 use Rattle.stun_auth.proofs.server.places.Places.forget_if_expired.Goals as goal
 
 pub returns-then-has_expired : goal.returns-then-has_expired
-returns-then-has_expired g c = c.forget.ensures ∙ kept_if_expired c.args.address c.args.now c.args.self.now (sym c.has_expired.ensures ∙ c.if-has_expired.true)
+returns-then-has_expired g c =
+    c.forget.ensures
+    ∙ kept_if_expired c.args.address c.args.now c.args.self.now
+    (sym c.has_expired.ensures ∙ c.if-has_expired.true)
 
 pub returns-else-has_expired : goal.returns-else-has_expired
-returns-else-has_expired g c = kept_if_current c.args.address c.args.now c.args.self.now (sym c.has_expired.ensures ∙ c.if-has_expired.false)
+returns-else-has_expired g c =
+    kept_if_current c.args.address c.args.now c.args.self.now
+    (sym c.has_expired.ensures ∙ c.if-has_expired.false)

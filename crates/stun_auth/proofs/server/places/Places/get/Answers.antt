@@ -6,4 +6,7 @@ use Rattle.stun_auth.proofs.PlaceMaps.{get-places_seen}
 use Rattle.stun_auth.proofs.server.places.Places.get.Goals as goal
 
 pub returns : goal.returns
-returns g c = ap (option_map place_seen) c.get.ensures.value ∙ get-places_seen c.self.inside.by_address c.args.address ∙ ap (λ m. map.get m c.args.address) c.self.view_is
+returns g c =
+    ap (option_map place_seen) c.get.ensures.value
+    ∙ get-places_seen c.self.inside.by_address c.args.address
+    ∙ ap (λ m. map.get m c.args.address) c.self.view_is

@@ -6,4 +6,5 @@ use Rattle.stun_auth.proofs.server.places.Places.len.Goals as goal
 
 pub returns : goal.returns
 returns g c =
-    c.len.ensures.len ∙ sym (len-places_seen c.self.inside.by_address.entries c.len.ensures.ordered) ∙ ap map.len c.self.view_is
+    c.len.ensures.len ∙ sym (len-places_seen c.self.inside.by_address.entries c.len.ensures.ordered)
+    ∙ ap map.len c.self.view_is

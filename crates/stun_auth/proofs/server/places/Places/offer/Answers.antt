@@ -10,10 +10,13 @@ returns-in-Some g c =
     let map = c.self.inside.by_address in
     let old = c.in-Some.place.now in
     let new = c.offer.new.self in
-    let written = (c.get_mut.follows.holds new).3 (is_found map c.args.address old c.in-Some.ensures.value) in
-    places_seen-at map (c.get_mut.follows.lender new) c.args.address c.args.self.now old new (with_offer c.args.supported) c.self.view_is c.in-Some.ensures.value written c.offer.ensures
+    let written =
+    (c.get_mut.follows.holds new).3 (is_found map c.args.address old c.in-Some.ensures.value) in
+    places_seen-at map (c.get_mut.follows.lender new) c.args.address c.args.self.now old new
+    (with_offer c.args.supported) c.self.view_is c.in-Some.ensures.value written c.offer.ensures
 
 pub returns-in-None : goal.returns-in-None
 returns-in-None g c =
     ap (λ m. places_seen m.entries) c.get_mut.follows.holds-at-none ∙ c.self.view_is
-    ∙ places_seen-none c.self.inside.by_address c.args.address c.args.self.now (with_offer c.args.supported) c.self.view_is c.in-None.ensures.value
+    ∙ places_seen-none c.self.inside.by_address c.args.address c.args.self.now
+    (with_offer c.args.supported) c.self.view_is c.in-None.ensures.value

@@ -9,12 +9,22 @@ use Rattle.stun_auth.proofs.server.places.Places.renew.Goals as goal
 pub returns-in-Some-clause-ok : goal.returns-in-Some-clause-ok
 returns-in-Some-clause-ok g c =
     let map = c.self.inside.by_address in
-    let written = (c.get_mut.follows.holds c.renew.new.self).3 (is_found map c.args.address c.in-Some.place.now c.in-Some.ensures.value) in
-    places_seen-changed map (c.get_mut.follows.lender c.renew.new.self) c.args.address c.args.self.now (Some c.in-Some.place.now) c.renew.new.self (λ o. renewed_with o (string_bytes c.args.nonce.text) c.args.expires (option_map client_seen c.args.client)) c.self.view_is c.in-Some.ensures.value written c.renew.ensures
+    let written =
+    (c.get_mut.follows.holds c.renew.new.self).3
+    (is_found map c.args.address c.in-Some.place.now c.in-Some.ensures.value) in
+    places_seen-changed map (c.get_mut.follows.lender c.renew.new.self) c.args.address
+    c.args.self.now (Some c.in-Some.place.now) c.renew.new.self
+    (λ o. renewed_with o (string_bytes c.args.nonce.text) c.args.expires
+    (option_map client_seen c.args.client)) c.self.view_is c.in-Some.ensures.value written
+    c.renew.ensures
 
 pub returns-in_ok-insert-in-None-clause-ok : goal.returns-in_ok-insert-in-None-clause-ok
 returns-in_ok-insert-in-None-clause-ok g c =
     let map = c.get_mut.follows.lender-at-none in
     let same = c.get_mut.follows.holds-at-none in
-    places_seen-changed map c.insert.new.self c.args.address c.args.self.now None c.new-place.result (λ o. renewed_with o (string_bytes c.args.nonce.text) c.args.expires (option_map client_seen c.args.client))
-    (ap (λ m. places_seen m.entries) same ∙ c.self.view_is) (c.in-None.ensures.value ∙ sym (ap (λ m. tree.get_by (derived c.args.address) m) same)) c.in_ok-insert-in-None.ensures.updates c.new-place.ensures
+    places_seen-changed map c.insert.new.self c.args.address c.args.self.now None c.new-place.result
+    (λ o. renewed_with o (string_bytes c.args.nonce.text) c.args.expires
+    (option_map client_seen c.args.client))
+    (ap (λ m. places_seen m.entries) same ∙ c.self.view_is)
+    (c.in-None.ensures.value ∙ sym (ap (λ m. tree.get_by (derived c.args.address) m) same))
+    c.in_ok-insert-in-None.ensures.updates c.new-place.ensures

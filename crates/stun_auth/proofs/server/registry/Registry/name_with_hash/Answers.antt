@@ -9,5 +9,6 @@ use Rattle.stun_auth.proofs.server.registry.Registry.name_with_hash.Goals as goa
 pub returns : goal.returns
 returns g c =
     let r = c.self.inside in
-    name_found (string_bytes r.realm) (secrets_seen r.users.entries) r.hashed c.args.hash.now (option_copied c.least.result) c.self.invariant.1 c.least.ensures
+    name_found (string_bytes r.realm) (secrets_seen r.users.entries) r.hashed c.args.hash.now
+    (option_copied c.least.result) c.self.invariant.1 c.least.ensures
     ∙ ap (λ s. name_with_hash s c.args.hash.now) c.self.view_is

@@ -14,6 +14,9 @@ pub invariant_of-result : goal.invariant_of-result
 invariant_of-result g c =
     let realm = string_bytes c.args.realm in (
       keys_where_same realm OnlySha1 c.new.result [] c.new.ensures.empty (λ name. tt),
-      subst (λ (secrets : Secrets). IsIndexOf realm secrets c.new-2.result) (sym (ap (λ (es : List (String g.row.A.Denot × User g.row.A.Denot)). secrets_seen es) c.new.ensures.empty))
-          (subst (λ (names : HashedNames). IsIndexOf realm fin.empty names) (sym c.new-2.ensures) (indexed_none realm)),
+      subst (λ (secrets : Secrets). IsIndexOf realm secrets c.new-2.result)
+          (sym (ap (λ (es : List (String g.row.A.Denot × User g.row.A.Denot)). secrets_seen es)
+          c.new.ensures.empty))
+          (subst (λ (names : HashedNames). IsIndexOf realm fin.empty names) (sym c.new-2.ensures)
+          (indexed_none realm)),
     )

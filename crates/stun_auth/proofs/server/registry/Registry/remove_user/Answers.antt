@@ -16,21 +16,29 @@ invariant_of-self g c =
     let name = c.args.name.now in
     let kept : string_bytes c.in-Some.name ≡ name = c.in-Some.ensures.name in
     let hash : c.userhash-hash.result ≡ userhash name realm =
-    c.userhash-hash.ensures ∙ (λ i. userhash ((c.as_str.ensures.value ∙ kept) i) (c.as_str-in-Some.ensures.value i)) in (
-      keys_after_remove realm r.supported r.users c.take_user.new.users name c.take_user.ensures.updates c.self.invariant.0,
-      index_after_remove realm name (secrets_seen r.users.entries) r.hashed c.self.invariant.1 c.userhash-hash.result (string_bytes c.in-Some.name) hash kept
+    c.userhash-hash.ensures
+    ∙ (λ i. userhash ((c.as_str.ensures.value ∙ kept) i) (c.as_str-in-Some.ensures.value i)) in (
+      keys_after_remove realm r.supported r.users c.take_user.new.users name
+          c.take_user.ensures.updates c.self.invariant.0,
+      index_after_remove realm name (secrets_seen r.users.entries) r.hashed c.self.invariant.1
+          c.userhash-hash.result (string_bytes c.in-Some.name) hash kept
           (secrets_seen c.take_user.new.users.entries) c.remove.new.self
-          (secrets_seen-removed r.users c.take_user.new.users name c.take_user.ensures.updates) c.remove.ensures,
+          (secrets_seen-removed r.users c.take_user.new.users name c.take_user.ensures.updates)
+          c.remove.ensures,
     )
 
 pub returns-in-Some : goal.returns-in-Some
 returns-in-Some g c =
     let r = c.self.inside in
-    ap (λ m. record { realm = string_bytes r.realm; algorithms = r.supported; secrets = m }) (secrets_seen-removed r.users c.take_user.new.users c.args.name.now c.take_user.ensures.updates)
-    ∙ ap (λ (s : Registered). record s { secrets = map.remove s.secrets c.args.name.now }) c.self.view_is
+    ap (λ m. record { realm = string_bytes r.realm; algorithms = r.supported; secrets = m })
+    (secrets_seen-removed r.users c.take_user.new.users c.args.name.now c.take_user.ensures.updates)
+    ∙ ap (λ (s : Registered). record s { secrets = map.remove s.secrets c.args.name.now })
+    c.self.view_is
 
 pub returns-in_default : goal.returns-in_default
 returns-in_default g c =
     let r = c.self.inside in
-    ap (λ m. record { realm = string_bytes r.realm; algorithms = r.supported; secrets = m }) (secrets_seen-removed r.users c.take_user.new.users c.args.name.now c.take_user.ensures.updates)
-    ∙ ap (λ (s : Registered). record s { secrets = map.remove s.secrets c.args.name.now }) c.self.view_is
+    ap (λ m. record { realm = string_bytes r.realm; algorithms = r.supported; secrets = m })
+    (secrets_seen-removed r.users c.take_user.new.users c.args.name.now c.take_user.ensures.updates)
+    ∙ ap (λ (s : Registered). record s { secrets = map.remove s.secrets c.args.name.now })
+    c.self.view_is

@@ -12,5 +12,6 @@ returns-in-OfMessage c =
     let types = unknown_types c.in-OfMessage.known.now c.in-OfMessage.message.now in
     let same : types ≡ c.args.self.now = sym (ap types_at c.in-OfMessage.is) ∙ c.self.view_is in
     sym (option_map_id c.nth.result)
-    ∙ (nth_from_yields_List c.nth.result _ c.args.i c.nth.ensures.ran (YieldsList-from_first (λ m. m) (λ left. left) types c.unknown_types.ensures.types)
+    ∙ (nth_from_yields_List c.nth.result _ c.args.i c.nth.ensures.ran
+    (YieldsList-from_first (λ m. m) (λ left. left) types c.unknown_types.ensures.types)
     ∙ ap (λ all. slice_get all c.args.i) same)

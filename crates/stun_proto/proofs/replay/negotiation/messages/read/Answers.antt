@@ -2,8 +2,11 @@ use Rattle.std.proofs.Common.{◌≡◌, ◌∙◌, ap, subst, Ok, Err, List, �
 use Rattle.std.specs.Prelude.{IsErr}
 use Rattle.stun_auth.specs.ClientStep.{ClientAnswer, ForReason, IsResend, client_step}
 use Rattle.stun_auth.specs.Reading.{reading_of}
-use Rattle.stun_auth.specs.declared.client.answer.LongTermClientAuthErrorReason.{LongTermClientAuthErrorReason}
-use Rattle.stun_proto.proofs.meetings.Heard.{either_client, off_told, off_untold, on_told, on_untold, told, untold}
+use Rattle.stun_auth.specs.declared.client.answer.LongTermClientAuthErrorReason.{
+  LongTermClientAuthErrorReason,
+}
+use Rattle.stun_proto.proofs.meetings.Heard.{either_client, off_told, off_untold}
+use Rattle.stun_proto.proofs.meetings.Heard.{on_told, on_untold, told, untold}
 use Rattle.stun_proto.proofs.replay.negotiation.messages.read.Goals as goal
 
 pub message_in-response-requires : goal.message_in-response-requires
@@ -12,21 +15,29 @@ message_in-response-requires g c = c.requires
 pub returns-in-Ok-clause-answer : goal.returns-in-Ok-clause-answer
 returns-in-Ok-clause-answer g c =
     let k = c.args.client.now in
-    c.in-Ok.ensures.answer ∙ ap (λ m. (client_step k.settings k.state (reading_of m)).answer) c.message_in-response.ensures
+    c.in-Ok.ensures.answer
+    ∙ ap (λ m. (client_step k.settings k.state (reading_of m)).answer) c.message_in-response.ensures
 
 pub returns-in-Ok-clause-client : goal.returns-in-Ok-clause-client
 returns-in-Ok-clause-client g c =
     let k = c.args.client.now in
-    c.in-Ok.ensures.state ∙ ap (λ m. record k { state = (client_step k.settings k.state (reading_of m)).state }) c.message_in-response.ensures
+    c.in-Ok.ensures.state
+    ∙ ap (λ m. record k { state = (client_step k.settings k.state (reading_of m)).state })
+    c.message_in-response.ensures
 
 pub returns-in-Err-clause-answer : goal.returns-in-Err-clause-answer
 returns-in-Err-clause-answer g c =
     let k = c.args.client.now in
     let reason = c.in-Err.error in
-    let right : ClientAnswer = (client_step k.settings k.state (reading_of c.args.bytes.now)).answer in
-    let P : LongTermClientAuthErrorReason → Type 0 = λ r. ForReason r (c.client_refusal.result ≡ Ok (Err r)) (IsErr c.client_refusal.result) in
+    let right : ClientAnswer =
+    (client_step k.settings k.state (reading_of c.args.bytes.now)).answer in
+    let P : LongTermClientAuthErrorReason → Type 0 =
+    λ r. ForReason r (c.client_refusal.result ≡ Ok (Err r)) (IsErr c.client_refusal.result) in
     either_client reason
-    (λ given is. told c.client_refusal.result (Err reason) right given (is ∙ ap (λ m. (client_step k.settings k.state (reading_of m)).answer) c.message_in-response.ensures))
+    (λ given is.
+    told c.client_refusal.result (Err reason) right given
+    (is ∙ ap (λ m. (client_step k.settings k.state (reading_of m)).answer)
+    c.message_in-response.ensures))
     (λ none is. untold c.client_refusal.result right none)
     (subst P c.reason.ensures c.client_refusal.ensures) c.in-Err.ensures.answer
 
@@ -34,16 +45,21 @@ pub returns-in-Err-clause-client : goal.returns-in-Err-clause-client
 returns-in-Err-clause-client g c =
     let k = c.args.client.now in
     let reason = c.in-Err.error in
-    let P : LongTermClientAuthErrorReason → Type 0 = λ r. ForReason r (c.client_refusal.result ≡ Ok (Err r)) (IsErr c.client_refusal.result) in
+    let P : LongTermClientAuthErrorReason → Type 0 =
+    λ r. ForReason r (c.client_refusal.result ≡ Ok (Err r)) (IsErr c.client_refusal.result) in
     either_client reason
-    (λ given is. on_told c.client_refusal.result (Err reason) _ given (is ∙ ap (λ m. record k { state = (client_step k.settings k.state (reading_of m)).state }) c.message_in-response.ensures))
+    (λ given is.
+    on_told c.client_refusal.result (Err reason) _ given
+    (is ∙ ap (λ m. record k { state = (client_step k.settings k.state (reading_of m)).state })
+    c.message_in-response.ensures))
     (λ none is. on_untold c.client_refusal.result _ none)
     (subst P c.reason.ensures c.client_refusal.ensures) c.in-Err.ensures.state
 
 pub returns-in-Err-clause-err : goal.returns-in-Err-clause-err
 returns-in-Err-clause-err g c =
     let reason = c.in-Err.error in
-    let P : LongTermClientAuthErrorReason → Type 0 = λ r. ForReason r (c.client_refusal.result ≡ Ok (Err r)) (IsErr c.client_refusal.result) in
+    let P : LongTermClientAuthErrorReason → Type 0 =
+    λ r. ForReason r (c.client_refusal.result ≡ Ok (Err r)) (IsErr c.client_refusal.result) in
     either_client reason
     (λ given is. off_told c.client_refusal.result (Err reason) _ given)
     (λ none is. off_untold c.client_refusal.result _ is)
@@ -53,9 +69,12 @@ pub returns-in-Err-clause-memory : goal.returns-in-Err-clause-memory
 returns-in-Err-clause-memory g c =
     let k = c.args.client.now in
     let reason = c.in-Err.error in
-    let Resends : List ℕ → Type 0 = λ m. IsResend (client_step k.settings k.state (reading_of m)).answer in
-    let P : LongTermClientAuthErrorReason → Type 0 = λ r. ForReason r (c.client_refusal.result ≡ Ok (Err r)) (IsErr c.client_refusal.result) in
+    let Resends : List ℕ
+    → Type 0 = λ m. IsResend (client_step k.settings k.state (reading_of m)).answer in
+    let P : LongTermClientAuthErrorReason → Type 0 =
+    λ r. ForReason r (c.client_refusal.result ≡ Ok (Err r)) (IsErr c.client_refusal.result) in
     either_client reason
     (λ given is. off_told c.client_refusal.result (Err reason) _ given)
-    (λ none is. off_untold c.client_refusal.result _ (subst Resends c.message_in-response.ensures is))
+    (λ none is.
+    off_untold c.client_refusal.result _ (subst Resends c.message_in-response.ensures is))
     (subst P c.reason.ensures c.client_refusal.ensures) c.in-Err.ensures.answer

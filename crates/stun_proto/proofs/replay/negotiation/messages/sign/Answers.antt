@@ -2,7 +2,8 @@ use Rattle.std.proofs.Common.{◌≡◌, Bool, subst, OnOk}
 use Rattle.stun_auth.specs.ServerSigning.{after_signing}
 use Rattle.stun_auth.specs.Validation.{sight}
 use Rattle.stun_proto.specs.Negotiation.{responded}
-use Rattle.stun_proto.proofs.meetings.Typed.{AddingLaws, if_ok_map, response_signed, server_has_added}
+use Rattle.stun_proto.proofs.meetings.Typed.{AddingLaws, if_ok_map}
+use Rattle.stun_proto.proofs.meetings.Typed.{response_signed, server_has_added}
 use Rattle.stun_proto.proofs.replay.negotiation.messages.sign.Goals as goal
 
 laws : (g : _) (c : goal.After-sign_outgoing_message g) → AddingLaws
@@ -16,15 +17,21 @@ laws g c = record {
 pub returns-clause-answer : goal.returns-clause-answer
 unfolding responded
 returns-clause-answer g c =
-    response_signed (laws g c) (sight c.args.server.now c.args.to) c.args.writer.bytes _ c.sign_outgoing_message.result _ c.requires.response c.sign_outgoing_message.ensures.answer
+    response_signed (laws g c) (sight c.args.server.now c.args.to) c.args.writer.bytes _
+    c.sign_outgoing_message.result _ c.requires.response c.sign_outgoing_message.ensures.answer
 
 pub returns-clause-message : goal.returns-clause-message
 returns-clause-message g c =
     let s = sight c.args.server.now c.args.to in
     if_ok_map c.sign_outgoing_message.result (λ w has. has.1.is_message)
-    (server_has_added (laws g c) c.sign_outgoing_message.result _ s c.args.writer.bytes c.requires.open
-    (response_signed (laws g c) s c.args.writer.bytes _ c.sign_outgoing_message.result _ c.requires.response c.sign_outgoing_message.ensures.answer))
+    (server_has_added (laws g c) c.sign_outgoing_message.result _ s c.args.writer.bytes
+    c.requires.open
+    (response_signed (laws g c) s c.args.writer.bytes _ c.sign_outgoing_message.result _
+    c.requires.response c.sign_outgoing_message.ensures.answer))
 
 pub returns-clause-server : goal.returns-clause-server
 returns-clause-server g c =
-    subst (λ (b : Bool). OnOk c.sign_outgoing_message.result (c.sign_outgoing_message.new.self ≡ after_signing c.args.server.now c.args.to b)) c.requires.response c.sign_outgoing_message.ensures.signed
+    subst (λ (b : Bool).
+    OnOk c.sign_outgoing_message.result
+    (c.sign_outgoing_message.new.self ≡ after_signing c.args.server.now c.args.to b))
+    c.requires.response c.sign_outgoing_message.ensures.signed

@@ -10,9 +10,13 @@ use Rattle.stun_proto.specs.code.Signed.{signed_page}
 use Rattle.stun_proto.proofs.meetings.Typed.{success_responds}
 use Rattle.stun_proto.proofs.replay.negotiation.messages.success.Goals as goal
 
-bytes_are : (g : _) (c : goal.After-sign g) → c.in_ok-writer.writer.bytes ≡ success (transaction_id_field c.args.request.now)
+bytes_are : (g : _) (c : goal.After-sign g)
+    → c.in_ok-writer.writer.bytes ≡ success (transaction_id_field c.args.request.now)
 unfolding success
-bytes_are g c = c.in_ok-writer.ensures.bytes ∙ ap (λ n. spelled (type_number Class.Success n) (transaction_id_field c.args.request.now) []) c.requires
+bytes_are g c =
+    c.in_ok-writer.ensures.bytes
+    ∙ ap (λ n. spelled (type_number Class.Success n) (transaction_id_field c.args.request.now) [])
+    c.requires
 
 pub sign-requires-clause-open : goal.sign-requires-clause-open
 sign-requires-clause-open g c = c.in_ok-writer.ensures.open
@@ -21,11 +25,16 @@ pub sign-requires-clause-response : goal.sign-requires-clause-response
 unfolding success
 sign-requires-clause-response g c =
     success_responds (transaction_id_field c.args.request.now) c.in_ok-writer.writer.bytes
-    (c.in_ok-writer.ensures.bytes ∙ ap (λ n. spelled (type_number Class.Success n) (transaction_id_field c.args.request.now) []) c.requires)
+    (c.in_ok-writer.ensures.bytes
+    ∙ ap (λ n. spelled (type_number Class.Success n) (transaction_id_field c.args.request.now) [])
+    c.requires)
 
 pub returns-clause-answer : goal.returns-clause-answer
 returns-clause-answer g c =
-    subst (λ b. UnlessMemory c.sign.result (signed_page c.sign.result ≡ responded b (sight c.args.server.now c.args.to)) (Unit {0})) (bytes_are g c) c.sign.ensures.answer
+    subst (λ b.
+    UnlessMemory c.sign.result
+    (signed_page c.sign.result ≡ responded b (sight c.args.server.now c.args.to)) (Unit {0}))
+    (bytes_are g c) c.sign.ensures.answer
 
 pub returns-clause-message : goal.returns-clause-message
 returns-clause-message g c = c.sign.ensures.message

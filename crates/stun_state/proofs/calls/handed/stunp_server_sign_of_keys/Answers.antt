@@ -3,13 +3,16 @@ use Rattle.std.proofs.Common.{rules, ◌≡◌, Some, to_z, of_z, w64}
 use Rattle.stun_state.specs.Handed.{signed_of, user_of_keys}
 use Rattle.stun_state.specs.Numbers.{length_answer}
 use Rattle.stun_state.proofs.Exports.{left_buffer, some_is}
-use Rattle.stun_state.proofs.calls.server.stunp_server_sign_of_keys.Goals as goal
+use Rattle.stun_state.proofs.calls.handed.stunp_server_sign_of_keys.Goals as goal
 
 pub returns-clause-written : goal.returns-clause-written
 returns-clause-written c =
     let before = c.deref_mut.result.now in
     let kept : c.args.handle.now.server ≡ Some before = search rules in
-    let told : to_z w64 (of_z w64 c.length-answer.result) ≡ length_answer c.sign-signed.result = search rules in
+    let told : to_z w64 (of_z w64 c.length-answer.result) ≡ length_answer c.sign-signed.result =
+    search rules in
     let user = user_of_keys c.args.name.now c.args.sha1.now c.args.sha256.now in
     some_is _ before _ kept
-    (left_buffer c.sign-signed.result (signed_of before.server c.args.buffer.now c.args.length c.args.to.now user) _ c.args.buffer.now c.sign-signed.new.buffer told c.sign-signed.ensures.answer c.sign-signed.ensures.written)
+    (left_buffer c.sign-signed.result
+    (signed_of before.server c.args.buffer.now c.args.length c.args.to.now user) _ c.args.buffer.now
+    c.sign-signed.new.buffer told c.sign-signed.ensures.answer c.sign-signed.ensures.written)

@@ -1,0 +1,200 @@
+//! The calls of a server whose users are looked up elsewhere: who asks, and then the verdict and the
+//! answer with that user handed in.
+
+ghost use Rattle.std.specs.Prelude.{◌≡◌, length, Some, None, IfNone, IfSome};
+ghost use Rattle.stun_state.specs.Addresses.{socket_address};
+ghost use Rattle.stun_state.specs.Answers.{after_address, at_address};
+ghost use Rattle.stun_state.specs.Handed.{kept_after_signing_of, kept_after_validating_of};
+ghost use Rattle.stun_state.specs.Handed.{named_by, naming_answer, naming_length};
+ghost use Rattle.stun_state.specs.Handed.{naming_written, signed_of, user_of_keys};
+ghost use Rattle.stun_state.specs.Handed.{user_of_password, validation_number_of};
+ghost use Rattle.stun_state.specs.Codes.{code_of};
+ghost use Rattle.stun_state.specs.Numbers.{IsOrOutOfMemory, OrOutOfMemory};
+ghost use Rattle.stun_state.specs.Numbers.{left_by, length_answer, number_answer};
+ghost use Rattle.stun_state.specs.Signing.{buffer_after, length_of};
+
+use crate::address::Address;
+use crate::codes::Refusal;
+use crate::handed::Given;
+use crate::handle::server::ServerHandle;
+use crate::{answers, handed};
+use std::alloc::Global;
+
+/// By whose key a message that came from an address is judged.
+#[unsafe(no_mangle)]
+pub extern "C" fn stunp_server_named_user(
+    alloc: Global,
+    handle: &mut ServerHandle,
+    message: &[u8],
+    from: &Address,
+    name: &mut [u8],
+    name_length: &mut usize,
+) -> i64
+    ensures empty { IfNone handle.old.server ((result ≡ code_of Refusal.EmptyHandle)
+        × (handle.new.server ≡ None)
+        × (name.new ≡ name.old) × (name_length.new ≡ name_length.old)) }
+    ensures answer { IfSome handle.old.server (λ kept. result ≡ number_answer
+        (at_address (socket_address from.now)
+        (naming_answer kept.server message.now (length name.old)))) }
+    ensures name { IfSome handle.old.server (λ kept. name.new
+        ≡ after_address (socket_address from.now) name.old
+        (λ from. naming_written name.old (named_by kept.server message.now from))) }
+
+    // Also where the buffer has no room for it.
+    ensures name_length { IfSome handle.old.server (λ kept. name_length.new
+        ≡ after_address (socket_address from.now) name_length.old
+        (λ from. naming_length (named_by kept.server message.now from) name_length.old)) }
+    ensures same { handle.new.server ≡ handle.old.server }
+{
+    let Some(kept) = handle.take(alloc) else {
+        return Refusal::EmptyHandle.code();
+    };
+    let named = handed::named_user(&kept.server, message, from, name, name_length);
+    let answer = answers::number(named);
+    handle.put(alloc, kept);
+    answer
+}
+
+/// Who signed a message that came from an address, where the server has just the user of a name and
+/// a password.
+#[unsafe(no_mangle)]
+pub extern "C" fn stunp_server_validate_of(
+    alloc: Global,
+    handle: &mut ServerHandle,
+    message: &[u8],
+    from: &Address,
+    now: u64,
+    words: &[u32; 16],
+    name: &[u8],
+    password: &[u8],
+) -> i64
+    ensures empty { IfNone handle.old.server ((result ≡ code_of Refusal.EmptyHandle)
+        × (handle.new.server ≡ None)) }
+    ensures answer { IfSome handle.old.server (λ kept. OrOutOfMemory result
+        handle.old.server handle.new.server
+        (validation_number_of kept message.now from.now now words.now
+        (user_of_password name.now password.now))
+        (Some (record kept {
+          server = kept_after_validating_of kept message.now from.now now words.now
+              (user_of_password name.now password.now);
+        }))) }
+{
+    let Some(mut kept) = handle.take(alloc) else {
+        return Refusal::EmptyHandle.code();
+    };
+    let given = Given::Password(password);
+    let verdict = handed::validate(alloc, &mut kept, message, from, now, words, name, given);
+    let answer = answers::algorithm(verdict);
+    handle.put(alloc, kept);
+    answer
+}
+
+/// Signs the message at the front of a buffer, which goes to an address, where the server has just
+/// the user of a name and a password.
+#[unsafe(no_mangle)]
+pub extern "C" fn stunp_server_sign_of(
+    alloc: Global,
+    handle: &mut ServerHandle,
+    buffer: &mut [u8],
+    length: usize,
+    to: &Address,
+    name: &[u8],
+    password: &[u8],
+) -> i64
+    ensures empty { IfNone handle.old.server ((result ≡ code_of Refusal.EmptyHandle)
+        × (handle.new.server ≡ None)
+        × (buffer.new ≡ buffer.old)) }
+    ensures answer { IfSome handle.old.server (λ kept. IsOrOutOfMemory result (length_answer
+        (length_of (signed_of kept.server buffer.old length to.now
+        (user_of_password name.now password.now))))) }
+    ensures written { IfSome handle.old.server (λ kept. buffer.new ≡ left_by result buffer.old
+        (buffer_after (signed_of kept.server buffer.old length to.now
+        (user_of_password name.now password.now)) buffer.old)) }
+    ensures state { IfSome handle.old.server (λ kept. handle.new.server ≡ Some (record kept {
+      server = left_by result kept.server
+          (kept_after_signing_of kept.server buffer.old length to.now
+          (user_of_password name.now password.now));
+    })) }
+{
+    let Some(mut kept) = handle.take(alloc) else {
+        return Refusal::EmptyHandle.code();
+    };
+    let given = Given::Password(password);
+    let signed = handed::sign(alloc, &mut kept.server, buffer, length, to, name, given);
+    let answer = answers::length(signed);
+    handle.put(alloc, kept);
+    answer
+}
+
+/// Who signed a message that came from an address, where the server has just the user of a name and
+/// stored keys.
+#[unsafe(no_mangle)]
+pub extern "C" fn stunp_server_validate_of_keys(
+    alloc: Global,
+    handle: &mut ServerHandle,
+    message: &[u8],
+    from: &Address,
+    now: u64,
+    words: &[u32; 16],
+    name: &[u8],
+    sha1: &[u8],
+    sha256: &[u8],
+) -> i64
+    ensures empty { IfNone handle.old.server ((result ≡ code_of Refusal.EmptyHandle)
+        × (handle.new.server ≡ None)) }
+    ensures answer { IfSome handle.old.server (λ kept. OrOutOfMemory result
+        handle.old.server handle.new.server
+        (validation_number_of kept message.now from.now now words.now
+        (user_of_keys name.now sha1.now sha256.now))
+        (Some (record kept {
+          server = kept_after_validating_of kept message.now from.now now words.now
+              (user_of_keys name.now sha1.now sha256.now);
+        }))) }
+{
+    let Some(mut kept) = handle.take(alloc) else {
+        return Refusal::EmptyHandle.code();
+    };
+    let given = Given::Keys(sha1, sha256);
+    let verdict = handed::validate(alloc, &mut kept, message, from, now, words, name, given);
+    let answer = answers::algorithm(verdict);
+    handle.put(alloc, kept);
+    answer
+}
+
+/// Signs the message at the front of a buffer, which goes to an address, where the server has just
+/// the user of a name and stored keys.
+#[unsafe(no_mangle)]
+pub extern "C" fn stunp_server_sign_of_keys(
+    alloc: Global,
+    handle: &mut ServerHandle,
+    buffer: &mut [u8],
+    length: usize,
+    to: &Address,
+    name: &[u8],
+    sha1: &[u8],
+    sha256: &[u8],
+) -> i64
+    ensures empty { IfNone handle.old.server ((result ≡ code_of Refusal.EmptyHandle)
+        × (handle.new.server ≡ None)
+        × (buffer.new ≡ buffer.old)) }
+    ensures answer { IfSome handle.old.server (λ kept. IsOrOutOfMemory result (length_answer
+        (length_of (signed_of kept.server buffer.old length to.now
+        (user_of_keys name.now sha1.now sha256.now))))) }
+    ensures written { IfSome handle.old.server (λ kept. buffer.new ≡ left_by result buffer.old
+        (buffer_after (signed_of kept.server buffer.old length to.now
+        (user_of_keys name.now sha1.now sha256.now)) buffer.old)) }
+    ensures state { IfSome handle.old.server (λ kept. handle.new.server ≡ Some (record kept {
+      server = left_by result kept.server
+          (kept_after_signing_of kept.server buffer.old length to.now
+          (user_of_keys name.now sha1.now sha256.now));
+    })) }
+{
+    let Some(mut kept) = handle.take(alloc) else {
+        return Refusal::EmptyHandle.code();
+    };
+    let given = Given::Keys(sha1, sha256);
+    let signed = handed::sign(alloc, &mut kept.server, buffer, length, to, name, given);
+    let answer = answers::length(signed);
+    handle.put(alloc, kept);
+    answer
+}

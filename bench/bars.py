@@ -56,7 +56,7 @@ def value(program, name):
 def works():
     """Of bench.c: a title, the bar on the ratio and that on instructions, 0 where there is none."""
     row = r'\{"\w+", "([^"]+)", "\w+", \w+, \w+, \w+, ([0-9.]+), ([0-9]+)\},'
-    found = re.findall(row, (HERE / "bench.c").read_text())
+    found = re.findall(row.replace(", ", r",\s+"), (HERE / "bench.c").read_text())
     return [(title, float(ratio), int(most)) for title, ratio, most in found]
 
 

@@ -4,11 +4,11 @@ with 10 to 10,000 users.
 
     bench/agent.py [--quick]
 
-Builds crates/bench_agent by `rt run`, which proves what has changed since, and counts by valgrind:
-a row makes its call 10 and 50 times at the same size, and the difference of the two runs, through
-40, is one call. Allocations are those of malloc and realloc, counted in the same way. It needs
+Builds crates/bench_agent by `rt run`, which proves what has changed since, and counts by valgrind.
+A row makes its call 10 and 50 times at the same size. The difference of the two runs, through 40,
+is one call. Allocations are those of malloc and realloc, counted in the same way. It needs
 valgrind; --quick leaves out the greatest size. The last lines time whole rounds of retransmissions,
-each of so many requests due at a moment of its own, and tell the memory that a request takes.
+each of so many requests due at a moment of its own. They tell the memory that a request takes.
 """
 
 import os

@@ -1,7 +1,7 @@
-/* How the calls on messages grow with the number of attributes: microseconds of processor at
- * messages of so many attributes of 4 bytes, the least of several runs, as rows of a table. The
- * last column is the power of the number that the time grows by, from 1,000 attributes to 16,376.
- * hostile.sh builds this without a sanitizer. */
+/* How the calls on messages grow with the number of attributes. Each row of the table has
+ * microseconds of processor, the least of several runs, at messages of so many attributes of 4
+ * bytes. The last column is the power of the number that the time grows by, from 1,000 attributes
+ * to 16,376. hostile.sh builds this without a sanitizer. */
 #include "stunp.h"
 #include <math.h>
 #include <stdio.h>

@@ -1,10 +1,11 @@
-/* Runs the library on what a hostile peer may send, each message flush against memory that may not
- * be touched, at its end and then at its front; a read outside it ends the program. hostile.sh
+/* Runs the library on what a hostile peer may send. Each message is flush against memory that may
+ * not be touched, at its end and then at its front. A read outside it ends the program. hostile.sh
  * builds this with an address sanitizer.
  *
  * The messages and verdicts are those of crates/transcripts/data/message.digests.txt and
- * message.hidden.txt (hostile.h); then come mutations of the request of RFC 5769, section 2.1, of
- * which none with a changed covered byte may verify; then buffers of every length to write to. */
+ * message.hidden.txt (hostile.h). Then come mutations of the request of RFC 5769, section 2.1, of
+ * which none with a changed covered byte may verify. Buffers of every length to write to come
+ * last. */
 #include "hostile.h"
 
 enum { MUTATIONS = 200000 };

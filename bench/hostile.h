@@ -1,5 +1,5 @@
-/* What a hostile peer may send, for programs that try it: messages with their verdicts, mutations
- * of a message, and pages between two that may not be touched. */
+/* What a hostile peer may send, for programs that try it. It has messages with their verdicts,
+ * mutations of a message, and pages between two that may not be touched. */
 #ifndef STUN_HOSTILE_H
 #define STUN_HOSTILE_H
 

@@ -1,9 +1,9 @@
 /* Loads a STUN server on 127.0.0.1 from many ports:
  * load PORT COUNT SOCKETS WINDOW MIX [NAME PASSWORD]
  *
- * Sends COUNT datagrams from SOCKETS ports, of the kinds of MIX in turn: u an unsigned Binding
- * request, s one that answers the challenge that each port drew before the clock starts, g 20 to 99
- * random bytes, which nobody answers. At most WINDOW requests are unanswered at a time; or, where
+ * Sends COUNT datagrams from SOCKETS ports, of the kinds of MIX in turn. u is an unsigned Binding
+ * request; s answers the challenge that each port drew before the clock starts; g is 20 to 99
+ * random bytes, which nobody answers. At most WINDOW requests are unanswered at a time. Where
  * WINDOW is a number and `/s`, so many datagrams are sent a second, answered or not. An answer that
  * does not come within 300 ms after all others is lost.
  *

@@ -4,12 +4,12 @@ Markdown table.
 
     load.py [COUNT]         datagrams a row, 100000 unless given
 
-Each row starts a server, opens 1,000 ports that send the kinds of datagrams in turn (load.c), and
-tells how many requests a second were answered, the processor time of the server for each datagram,
-the resident bytes of all its processes before and after, how many requests were not answered, and
-how many datagrams the kernel dropped at the server's sockets. Then four times as many addresses as
-COUNT flood a server, 60,000 a second (flood.c), while new clients ask. It ends only what it
-started.
+Each row starts a server and opens 1,000 ports that send the kinds of datagrams in turn (load.c). It
+tells how many requests a second were answered, and the processor time of the server for each
+datagram. It tells the resident bytes of all its processes before and after. Last come how many
+requests were not answered, and how many datagrams the kernel dropped at the server's sockets. Then
+four times as many addresses as COUNT flood a server, 60,000 a second (flood.c), while new clients
+ask. It ends only what it started.
 
     load.py --flood [COUNT] [PROGRAM]    the flood alone, of udp_server or of a program with the
                                          same words

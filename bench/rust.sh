@@ -1,8 +1,9 @@
 #!/bin/sh
-# Times the exported crate beside OpenSSL's bare digest calls (its calls for C, by bench.c) and
-# beside plain code over the same crates of digests (rust/examples/bench.rs), with and without the
-# processor's SHA instructions where it has them; and tells how long a program is that verifies one
-# message. It wants `make rust` before, cargo, a C compiler and OpenSSL's headers (libssl-dev).
+# Times the exported crate beside OpenSSL's bare digest calls (its calls for C, by bench.c). It is
+# timed beside plain code over the same crates of digests, too (rust/examples/bench.rs). Both are
+# done with and without the processor's SHA instructions, where it has them. Then it tells how long
+# a program is that verifies one message. It wants `make rust` before, cargo, a C compiler and
+# OpenSSL's headers (libssl-dev).
 set -eu
 cd "$(dirname "$0")"
 CC=${CC:-cc}

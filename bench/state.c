@@ -3,9 +3,9 @@
  * were to do, and how many allocations they asked for.
  *
  * `state pauses SIZE AT_ONCE` prints how long a server of so many records stands still where it
- * forgets, in microseconds of processor: by one call, and by the longest of the calls that look at
- * so many at once; where all records are kept, and where all are forgotten. Each is the least of
- * several rounds. */
+ * forgets, in microseconds of processor. Two numbers are of one call, and of the longest of the
+ * calls that look at so many at once. They are told where all records are kept, and where all are
+ * forgotten. Each is the least of several rounds. */
 #define _DEFAULT_SOURCE
 #include "stunp_state.h"
 #include <stdbool.h>

@@ -4,15 +4,15 @@
     bench/state.py [--size N] [--exported]
 
 A row makes its call 10 and 50 times, once in crates/bench_agent and once in bench/state.c, which
-does the same over the archives, and the difference of the two runs, through 40, is one call:
+does the same over the archives. The difference of the two runs, through 40, is one call:
 instructions by callgrind. Both figures hold some 20 to 50 instructions of their loops. A call
 through C parses its message; where the library's call is handed a parsed one, the cost of
 stunp_parse is added to it. N is the number of outstanding requests, or of users and addresses: 1000
 unless said. A signing is counted through C alone, with its allocations. Last come the pauses of a
-server of 100,000 records that forgets: microseconds of processor, by one call and by the longest of
-calls that look at 256 records. It needs a C compiler and valgrind; the first run proves what has
-changed. With --exported it takes the archive of the exported crate (tools/rust_c.sh), proves
-nothing, and leaves out what is beside the library.
+server of 100,000 records that forgets. They are microseconds of processor, by one call and by the
+longest of calls that look at 256 records. It needs a C compiler and valgrind; the first run proves
+what has changed. With --exported it takes the archive of the exported crate (tools/rust_c.sh),
+proves nothing, and leaves out what is beside the library.
 """
 
 import argparse

@@ -1,5 +1,5 @@
 #!/bin/sh
-# Builds the archives and the examples against them, and compares what they print; and installs the
+# Builds the archives and the examples against them, and compares what they print. It installs the
 # archives into a scratch folder and builds over that (tests/install.sh). What the archives answer
 # tests/check.sh tests. Where STUN_C and STUN_STATE name other archives, as libstunp.a and
 # libstunp-program.a of tools/rust_c.sh, nothing is proved. Without a C compiler and make it checks

@@ -21,13 +21,13 @@ with
 In words, input and output `{0*100}` stands for 100 zeros, and `{request NONCE=n REALM=r USERNAME=u
 MI=u:r:p}` for the hexadecimal digits of that message. In words and input \t \r \n \f \v \0 \s \\
 stand for a tab, a carriage return, a line feed, a form feed, a vertical tab, a zero, a blank and a
-\, and \xff for that byte.
+\. \xff stands for that byte.
 
 A message is a class, `request`, `indication`, `success` or `error`, and attributes TYPE=VALUE in
-order. TYPE is a name of RFC 8489, or `0x` and four digits; VALUE is a text, `a*764` for 764
-letters, nothing, or `0x` and digits, and of `ERROR-CODE` a code and a phrase, of
-`PASSWORD-ALGORITHM` and `PASSWORD-ALGORITHMS` the algorithms `MD5` and `SHA256`, of `USERHASH`
-`user:realm`. `MI` and `MI256` are MESSAGE-INTEGRITY and MESSAGE-INTEGRITY-SHA256: a digest under a
+order. TYPE is a name of RFC 8489, or `0x` and four digits. VALUE is a text, `a*764` for 764
+letters, nothing, or `0x` and digits. Of `ERROR-CODE` it is a code and a phrase, of `USERHASH`
+`user:realm`. Of `PASSWORD-ALGORITHM` and `PASSWORD-ALGORITHMS` it is the algorithms `MD5` and
+`SHA256`. `MI` and `MI256` are MESSAGE-INTEGRITY and MESSAGE-INTEGRITY-SHA256: a digest under a
 password, `user:realm:password` or `key:HEX`, over what stands before it. ID is the number of the
 transaction, 1 where it is left out.
 
@@ -51,7 +51,7 @@ transaction, 1 where it is left out.
 
 Where there are several, each is a run. The last five load `strain.c` before the C library, and need
 a C compiler. A run that ends for want of memory has the status and the errors that `on_failure`
-names, or no errors, and has printed whole lines from the first on.
+names, or no errors. It has printed whole lines from the first on.
 """
 
 import concurrent.futures

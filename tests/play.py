@@ -4,12 +4,12 @@ C, by the program tests/c/play.c.
 
 Messages and their digests are spelled here (spelling.py), so they come from outside the library.
 Each answer is compared with the one that is written. Then each allocation of each line is refused,
-as crates/transcripts/src/refusing.rt does: the call says so; where it is made again all goes on as
-written, and where it is not, as in a play without its line; each play gives back all blocks.
+as crates/transcripts/src/refusing.rt does, and the call says so. Where it is made again all goes on
+as written, and where it is not, as in a play without its line. Each play gives back all blocks.
 
-What the archives lack is left out, and counted: a call that only tells something alone, one that
-changes something with the rest of its paragraph. The last lines are these counts. The status is 1
-where an answer is wrong."""
+What the archives lack is left out, and counted. A call that only tells something is left out alone,
+one that changes something with the rest of its paragraph. The last lines are these counts. The
+status is 1 where an answer is wrong."""
 
 import collections
 import sys

@@ -16,7 +16,7 @@ FEATURES = {"auto": 0, "required": 1, "disabled": 2}
 TRANSPORTS = {"udp": 0, "tcp": 1}
 
 # Refusals of stunp.h in the words of transcripts. STUNP_CLOSED comes before all other refusals of a
-# call that writes, and also where nothing would be written: there the transcripts have
+# call that writes, and also where nothing would be written. There the transcripts have
 # MessageIntegrityExists, or another reason, or no refusal. Which type is in the way or missing C
 # does not say. Two numbers are one word where the library tells TooLarge of a text and of a
 # message.

@@ -2,11 +2,11 @@
 """Compares include/stunp.h and include/stunp_state.h with the exports of stun_c and stun_state and
 with what examples/rust declares.
 
-Functions by name, result, and the types of parameters in their order, those of a closed family by
-its enum; the structs but the handles by their fields; refusals by number. Not the handles' fields,
-nor the numbers of other answers. Of the archives that are built it looks whether they have writable
-data or thread-locals: they must not. Run at the top of the repository. Prints each difference, then
-a count; the status is 1 where one is.
+Functions are compared by name, result, and the types of parameters in their order, those of a
+closed family by its enum. The structs but the handles are compared by their fields, refusals by
+number. The handles' fields and the numbers of other answers are not compared. Of the archives that
+are built it looks whether they have writable data or thread-locals: they must not. Run at the top
+of the repository. Prints each difference, then a count; the status is 1 where one is.
 """
 import re
 import shutil

@@ -2,7 +2,7 @@
 """Checks the definitions that docs/DEFINITIONS.md prints against the files that they come from,
 with file and line.
 
-A block begins with a line `<!-- definition CRATE FILE NAME -->` or `<!-- file PATH -->` and ends
+A block begins with a line `<!-- definition CRATE FILE NAME -->` or `<!-- file PATH -->`. It ends
 with the next line of three backticks after its first. With the word `write` the blocks are written
 anew.
 

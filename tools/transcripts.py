@@ -10,10 +10,10 @@
     tools/transcripts.py --rust FOLDER    the command of README.md after `make rust`, and its lines
                                           of Rust, with the exported crate of that folder
 
-A transcript is an indented block: a line `$ COMMAND`, further lines of a here-document up to its
-end word, and then what the command prints, up to the next `$` or the end of the block. Commands run
-in a folder that has `request.bin`, the request of RFC 5769, section 2.1. A transcript that uses a
-program which is not there is told as left out.
+A transcript is an indented block. It is a line `$ COMMAND`, further lines of a here-document up to
+its end word, and then what the command prints. That ends at the next `$` or the end of the block.
+Commands run in a folder that has `request.bin`, the request of RFC 5769, section 2.1. A transcript
+that uses a program which is not there is told as left out.
 """
 
 import os

@@ -5,9 +5,9 @@
                         installed, and gcc
 
 A file has a line with its programs and their versions, and then messages, each once for its sender,
-type and types of attributes: a line `from PROGRAM`, with the words of `stun_inspect verify` where
-the message is signed, and its bytes in hexadecimal. Nonces, ids, ports and passwords are others in
-each run.
+type and types of attributes. A message is a line `from PROGRAM`, with the words of `stun_inspect
+verify` where it is signed, and its bytes in hexadecimal. Nonces, ids, ports and passwords are
+others in each run.
 """
 import os
 import pathlib

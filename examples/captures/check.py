@@ -5,12 +5,13 @@ what is worked out here.
     examples/captures/check.py [PROGRAM]
 
 Without a PROGRAM it takes crates/stun_inspect/out/stun_inspect. Each message is decoded raw, in
-hexadecimal, in base64 and as a packet of IPv4, as xxd, hexdump, od, tcpdump, Wireshark and tshark
-dump it, and out of captures that packets.py makes; it is cut and changed; and where its credentials
-are known its integrity is verified, under them and under others. All messages of a file are told
-one a line, dump by dump, and packet by packet, and captures that are cut or damaged anywhere are
-told so. What must be printed is worked out from RFC 8489, 8656 and 8445 by Python's hashlib, hmac
-and zlib, and never taken from the program. It takes some seconds. The last line counts the runs.
+hexadecimal and in base64. It is decoded as a packet of IPv4, as xxd, hexdump, od, tcpdump,
+Wireshark and tshark dump it, and out of captures that packets.py makes. It is cut and changed.
+Where its credentials are known its integrity is verified, under them and under others. All messages
+of a file are told one a line, dump by dump, and packet by packet. Captures that are cut or damaged
+anywhere are told so. What must be printed is worked out from RFC 8489, 8656 and 8445 by Python's
+hashlib, hmac and zlib, and never taken from the program. It takes some seconds. The last line
+counts the runs.
 """
 import base64
 import hashlib

@@ -1,7 +1,7 @@
 #!/usr/bin/env python3
-"""Runs the built stun_inspect on the transcripts of this folder, and compares its names with those
-of `registry` and its word on FINGERPRINTs with Python's zlib. It also reads an input of exactly the
-most bytes, and one of a byte more.
+"""Runs the built stun_inspect on the transcripts of this folder. It compares its names with those
+of `registry`, and its word on FINGERPRINTs with Python's zlib. It also reads an input of exactly
+the most bytes, and one of a byte more.
 
     examples/inspect/check.py [PROGRAM ..]
 

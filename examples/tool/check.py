@@ -1,6 +1,6 @@
 #!/usr/bin/env python3
 """Runs the built program on the transcripts of this folder: every command, script line, word,
-refusal and exit status; input and output that are closed or fail; each allocation refused in turn,
+refusal and exit status. Input and output are closed or fail. Each allocation is refused in turn,
 and so each with all after it.
 
     examples/tool/check.py [PROGRAM ..]

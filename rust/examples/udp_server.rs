@@ -6,13 +6,12 @@
 //!
 //! A file, or standard input where it is `-`, has a line `NAME PASSWORD` for each user. Port 0 is
 //! any free one. The first line of output is `port N`. It runs until it is ended by a signal. Each
-//! worker is a thread with a server of its own, and an address is always dealt to the same one:
-//! what they answer is what one server would. Each keeps a nonce for so many addresses, 131072
-//! unless said.
+//! worker is a thread with a server of its own, and an address is always dealt to the same one. So
+//! they answer what one server would. Each keeps a nonce for so many addresses, 131072 unless said.
 //!
 //! It has no `unsafe` and calls the system by the standard library alone, so three things are
 //! missing that examples/c/udp_server.c has. The socket's own buffer is as large as the machine
-//! makes it (`net.core.rmem_default`): a datagram waits in it until it is dealt to a worker, and
+//! makes it (`net.core.rmem_default`). A datagram waits in it until it is dealt to a worker, and
 //! then in 4 MiB of this program's. A terminal that goes (SIGHUP) ends it, unless it was started by
 //! `nohup` or as a service. On a machine of several addresses an answer may leave by another than
 //! was asked.
@@ -191,7 +190,7 @@ impl Server {
     }
 
     /// What a datagram draws: a code and an answer; or why it is dropped. The request is judged,
-    /// the server says who asked, each answer but a 400 is signed, and nobody is kept: a Binding
+    /// the server says who asked, and each answer but a 400 is signed. Nobody is kept: a Binding
     /// request begins no session.
     fn answer(
         &mut self,

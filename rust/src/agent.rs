@@ -191,11 +191,11 @@ impl StunAgent {
         granted(self.0.handle_stun_message(&message.0, from))
     }
 
-    /// Takes a message from an address, and tells whether it was taken: false where it is a
-    /// response to nothing that was asked of this very address, and is to be dropped. A request or
-    /// an indication is taken.
+    /// Takes a message from an address, and tells whether it was taken. The answer is false where
+    /// the message is a response to nothing that was asked of this very address. Such a message is
+    /// to be dropped. A request or an indication is taken.
     ///
-    /// Ask the authenticator before: the agent checks no digest, and whoever can send from the
+    /// Ask the authenticator before, since the agent checks no digest. Whoever can send from the
     /// address that was asked else ends a request by a forged response. No call forgets an address
     /// that was noted: bound from how many you hand in messages.
     #[must_use = "a message that is not taken is to be dropped"]

@@ -132,8 +132,8 @@ impl ShortTermAuth {
 
 /// Answers a server's challenges, signs requests and checks responses (section 9.2).
 ///
-/// The first request goes out unsigned; a 401 brings realm and nonce, from which the key is made;
-/// the request is signed and sent again; a success that is signed under the key confirms it. From
+/// The first request goes out unsigned. A 401 brings realm and nonce, from which the key is made.
+/// The request is signed and sent again. A success that is signed under the key confirms it. From
 /// then on 401s are not taken up any more.
 pub struct LongTermClientAuth {
     proved: proved::LongTermClientAuth,
@@ -180,8 +180,8 @@ impl LongTermClientAuth {
         self.proved.add_supported_integrity(algorithm);
     }
 
-    /// Supports one algorithm alone, which does not keep a client of HMAC-SHA256 from signing with
-    /// HMAC-SHA1 where a forged challenge says so: `signing_algorithm` tells, before a message is
+    /// Supports one algorithm alone. That does not keep a client of HMAC-SHA256 from signing with
+    /// HMAC-SHA1 where a forged challenge says so. `signing_algorithm` tells, before a message is
     /// signed, and a loop can give up. It is a challenge without a list of algorithms, whose
     /// nonce's bits ask for none.
     pub fn set_supported_integrity(&mut self, algorithm: IntegrityAlgorithm) {
@@ -347,7 +347,7 @@ impl LongTermServerAuth {
 
     /// Forgets each address without a client whose nonce's end is before `now`. It walks all
     /// addresses, so call it now and then. A client that comes late draws a 438 where nonces are
-    /// kept for as long again as they last: call it with `now` less that time.
+    /// kept for as long again as they last. For that, call it with `now` less that time.
     pub fn forget_expired(&mut self, now: Instant) {
         self.proved.forget_expired(now);
     }
@@ -355,7 +355,7 @@ impl LongTermServerAuth {
     /// Forgets what `forget_expired` does, at no more than `most` addresses, so that a server of
     /// many has no long pause. It looks at those that have a place, in the order of `SocketAddr`,
     /// from `from` on, or from the first where that is `None`. It answers where the next call is to
-    /// go on, and `None` at the end, so that the answer of each call is the `from` of the next.
+    /// go on, and `None` at the end. So the answer of each call is the `from` of the next.
     pub fn forget_expired_within(
         &mut self,
         now: Instant,

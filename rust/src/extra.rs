@@ -122,9 +122,9 @@ pub fn answer_unknown<W: MessageWrite>(
     unknown::answer_unknown(&request.0, known, writer)
 }
 
-/// Whether a response ends its transaction as failed, whatever else it says: it has a visible
-/// attribute that must be understood and whose type is not among these, or it is an error response
-/// without ERROR-CODE (RFC 8489, sections 6.3.3 and 6.3.4).
+/// Whether a response ends its transaction as failed, whatever else it says (RFC 8489, sections
+/// 6.3.3 and 6.3.4). It does where it has a visible attribute that must be understood and whose
+/// type is not among these. So does an error response without ERROR-CODE.
 pub fn ends_failed(response: &Message<'_>, known: &[AttributeType]) -> bool {
     unknown::ends_failed(&response.0, known)
 }

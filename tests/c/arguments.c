@@ -1,6 +1,6 @@
-/* The calls on messages, on what only C can pass: numbers and lengths that no call takes, rooms
- * that are too small, and the order of their refusals. What they answer to messages the transcripts
- * play (tests/play.py).
+/* The calls on messages, on what only C can pass. That is numbers and lengths that no call takes,
+ * rooms that are too small, and the order of their refusals. What they answer to messages the
+ * transcripts play (tests/play.py).
  *
  * Its samples are typed from RFC 5769 and RFC 8489, B.1, and the key is by Python's hashlib; none
  * comes from the library. */

@@ -1,6 +1,6 @@
 /* FINGERPRINT, types that are not known, streams of messages, addresses, numbers, texts and a
- * writer: what the calls answer to the samples of RFC 5769, to each of their bits changed, to
- * messages with many types, and to streams in any pieces.
+ * writer. The calls are made on the samples of RFC 5769, on each of their bits changed, on messages
+ * with many types, and on streams in any pieces.
  *
  * The samples are typed from RFC 5769; what is wanted is counted, spelled or summed here, and does
  * not come from the library. */

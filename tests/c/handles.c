@@ -1,6 +1,6 @@
-/* The calls with state, on what only C can pass: handles that are empty, full, moved or freed
- * twice, numbers, addresses and ids that no call takes, texts that are none, and exact rooms; each
- * refusal before those that come after it. What they answer to messages, and with each allocation
+/* The calls with state, on what only C can pass. Handles are empty, full, moved or freed twice.
+ * Numbers, addresses and ids are those that no call takes, texts are none, and rooms are exact.
+ * Each refusal comes before those after it. What they answer to messages, and with each allocation
  * refused, the transcripts play (tests/play.py). */
 #include "fixture.h"
 
@@ -160,8 +160,8 @@ static void agents(void) {
     want_no_blocks("agents");
 }
 
-/* The time-outs of a new agent are those that have a name: 500 ms, twice as long each time, 7
- * transmissions, and 8 s at the end. */
+/* The time-outs of a new agent are those that have a name. They are 500 ms, twice as long each
+ * time, 7 transmissions, and 8 s at the end. */
 static void defaults(bool are_named) {
     static const uint64_t due[] = {500, 1500, 3500, 7500, 15500, 31500, 39500};
     const stunp_timeouts timeouts = STUNP_DEFAULT_TIMEOUTS;

@@ -1,9 +1,9 @@
-/* What strangers may send, through each call that reads it: the messages of bench/hostile.h,
- * mutations of the request of RFC 5769, section 2.1, whose attributes are compared with a walk of
- * this file's own, and mutations of requests and answers that are rightly signed. Each is flush
- * against memory that may not be touched, at its end and then at its front. Nothing with a changed
- * covered byte may be validated. check.sh builds this with an address sanitizer where the compiler
- * has one. */
+/* What strangers may send, through each call that reads it. First come the messages of
+ * bench/hostile.h. Then come mutations of the request of RFC 5769, section 2.1, whose attributes
+ * are compared with a walk of this file's own. Last come mutations of requests and answers that are
+ * rightly signed. Each is flush against memory that may not be touched, at its end and then at its
+ * front. Nothing with a changed covered byte may be validated. check.sh builds this with an address
+ * sanitizer where the compiler has one. */
 #include "../../bench/hostile.h"
 #include "fixture.h"
 

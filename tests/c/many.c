@@ -1,5 +1,5 @@
 /* 100,000 addresses ask a server and are forgotten, and 100,000 requests are sent and end, each
- * twice: the second time takes no more memory than the first, and at the end no block is left. */
+ * twice. The second time takes no more memory than the first, and at the end no block is left. */
 #include "fixture.h"
 
 enum { MANY = 100000, ROUNDS = 2 };

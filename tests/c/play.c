@@ -2,17 +2,17 @@
  * tests/play.py plays transcripts by it.
  *
  * A line is the name of a call without `stun_`, with `-` for `_`, and its words in the order of its
- * arguments: a number; bytes as hexadecimal digits, or `-` for none; an address as its octets, `:`
- * and its port; of a buffer and of an output its room, of a buffer then the message. A handle has
- * no word, since there is one of each kind. The answer is that of the call, how many allocations it
- * asked for, and the outputs that it wrote, byte by byte.
+ * arguments. A word is a number, bytes as hexadecimal digits, or `-` for none. An address is its
+ * octets, `:` and its port. Of a buffer and of an output the word is its room, and of a buffer then
+ * the message. A handle has no word, since there is one of each kind. The answer is that of the
+ * call, how many allocations it asked for, and the outputs that it wrote, byte by byte.
  *
  *     reset      frees the handles, and answers how many blocks and bytes are held
  *     blocks     answers the same, and frees nothing
  *     refuse N   the n-th allocation from here on is refused; 0 for none
  *
- * What is passed stands in a block of its own length, what is written to in one of its own room, so
- * that an address sanitizer sees each byte outside. After each call this program looks itself that
+ * What is passed stands in a block of its own length, what is written to in one of its own room. So
+ * an address sanitizer sees each byte outside. After each call this program looks itself that
  * nothing was changed but what was written: nothing where the call refuses. A line that it cannot
  * read, or a byte that was changed, ends it. */
 #include "heap.h"

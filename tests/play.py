@@ -15,7 +15,8 @@ import collections
 import sys
 
 from spelling import begins_with_digit
-from stage import APART, TELLING, Child, Left, Stage, fits, name_of
+from stage import APART, TELLING, Child, Left, Stage
+from wording import fits, name_of
 
 MOST_ALLOCATIONS = 400
 WITHOUT, REFUSED, AGAIN = range(3)

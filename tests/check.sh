@@ -78,17 +78,17 @@ python3 play.py "$scratch/play" ../crates/transcripts/data/*.txt >"$scratch/play
 # linked with none.
 sed -n 's/^ \*     //p; /\*\/$/q' ../include/stunp.h >"$scratch/answer.h"
 sed -n 's/^ \*     //p; /\*\/$/q' ../include/stunp_state.h >"$scratch/ask.h"
-for name in arguments extra; do
+for name in arguments attributes extra; do
     "$cc" $c99 c/$name.c $messages -o "$scratch/$name"
     passes $name "$scratch/$name"
 done
 passes refused env LIBRARIES="$system" ./refused.sh
-for name in handles hostile many worked; do
+for name in agents handles hostile many users worked; do
     "$cc" $c99 -Wno-conversion -I"$scratch" c/$name.c $heap $archives -o "$scratch/$name"
     passes $name "$scratch/$name"
 done
 if [ -n "$has_plus" ]; then
-    for name in arguments extra; do
+    for name in arguments attributes extra; do
         "$plus" $plus17 -x c++ c/$name.c -x none $messages -o "$scratch/$name"
         passes $name "$scratch/$name"
     done

@@ -43,7 +43,7 @@ expect() {
 }
 strict='-std=c99 -O1 -g -Wall -Wextra -Wpedantic -Werror -Iinclude -Iexamples/c -D_DEFAULT_SOURCE'
 libraries='-lpthread -ldl -lm'
-for name in arguments extra; do
+for name in arguments attributes extra; do
     ${CC:-cc} $strict tests/c/$name.c "$out/libstunp.a" $libraries -o "$out/$name"
     ${CC:-cc} $strict tests/c/$name.c -L"$out" -lstunp "-Wl,-rpath,$out" -o "$out/$name-shared"
     expect "$name: passed" "$out/$name"
@@ -52,7 +52,7 @@ done
 expect "refused: passed" env STUN_C="$out/libstunp.a" STUN_STATE="$out/libstunp-program.a" \
     LIBRARIES="$libraries" tests/refused.sh
 # These look at the memory that is taken.
-for name in handles hostile many play; do
+for name in agents handles hostile many users play; do
     ${CC:-cc} $strict "tests/c/$name.c" examples/c/heap.c "$out/libstunp-program.a" $libraries \
         -o "$out/$name"
     [ $name = play ] || expect "$name: passed" "$out/$name"

@@ -26,7 +26,7 @@ AT_MOST = {
     "rt lines": 80,
     "sh lines": 0,
     "antt files": 1,
-    "c files": 3,
+    "c files": 2,
     "md files": 0,
     "py files": 0,
     "rs files": 0,

@@ -1,12 +1,14 @@
 #!/usr/bin/env python3
-"""Counts what each call of an agent costs with 100 to 100,000 requests outstanding, and of a server with 10 to 10,000 users.
+"""Counts what each call of an agent costs with 100 to 100,000 requests outstanding, and of a server
+with 10 to 10,000 users.
 
     bench/agent.py [--quick]
 
-Builds crates/bench_agent by `rt run`, which proves what has changed since, and counts by valgrind: a row makes its call 10 and
-50 times at the same size, and the difference of the two runs, through 40, is one call. Allocations are those of malloc and
-realloc, counted in the same way. It needs valgrind; --quick leaves out the greatest size. The last lines time whole rounds of retransmissions,
-each of so many requests due at a moment of its own, and tell the memory that a request takes.
+Builds crates/bench_agent by `rt run`, which proves what has changed since, and counts by valgrind.
+A row makes its call 10 and 50 times at the same size. The difference of the two runs, through 40,
+is one call. Allocations are those of malloc and realloc, counted in the same way. It needs
+valgrind; --quick leaves out the greatest size. The last lines time whole rounds of retransmissions,
+each of so many requests due at a moment of its own. They tell the memory that a request takes.
 """
 
 import os
@@ -21,6 +23,7 @@ HERE = os.path.dirname(os.path.abspath(__file__))
 CRATE = os.path.join(HERE, "..", "crates", "bench_agent")
 PROGRAM = os.path.join(CRATE, "out", "bench_agent")
 FEW, MANY = 10, 50
+ALLOCATES = re.compile(r"(malloc|realloc|calloc)(@.*|'2)?")
 
 AGENT_ROWS = [
     ("poll", "`poll`, nothing due"),
@@ -57,16 +60,18 @@ def counted(call, size, times):
     """The instructions and allocations of a run."""
     with tempfile.TemporaryDirectory() as room:
         out = f"{room}/counts"
-        words = ["valgrind", "--tool=callgrind", f"--callgrind-out-file={out}", "--compress-strings=no", PROGRAM, call, str(size), str(times)]
+        words = ["valgrind", "--tool=callgrind", f"--callgrind-out-file={out}",
+                 "--compress-strings=no", PROGRAM, call, str(size), str(times)]
         ran = subprocess.run(words, stdout=subprocess.PIPE, stderr=subprocess.PIPE, text=True)
         if ran.returncode or ran.stdout != f"{times}\n":
-            sys.exit(f"bench: {call} {size} {times}: status {ran.returncode}, {ran.stdout!r}\n{ran.stderr[-600:]}")
+            sys.exit(f"bench: {call} {size} {times}: status {ran.returncode}, "
+                     f"{ran.stdout!r}\n{ran.stderr[-600:]}")
         instructions, allocations, called = 0, 0, ""
         with open(out) as lines:
             for line in lines:
                 if line.startswith("cfn="):
                     called = line[4:].strip()
-                elif line.startswith("calls=") and re.fullmatch(r"(malloc|realloc|calloc)(@.*|'2)?", called):
+                elif line.startswith("calls=") and ALLOCATES.fullmatch(called):
                     allocations += int(line[6:].split()[0])
                 elif line.startswith(("summary:", "totals:")):
                     instructions = int(line.split()[1])
@@ -90,7 +95,8 @@ def table(title, rows, sizes, bars=None, **how):
     print(f"\n| {title}, instructions (allocations) | " + " | ".join(columns) + " |")
     print("|---|" + "---|" * len(columns))
     for call, name in rows:
-        cells = [shown(cost(call, size, **how)) for size in sizes] + ([f"{bars[call]:,}"] if bars else [])
+        cells = [shown(cost(call, size, **how)) for size in sizes]
+        cells += [f"{bars[call]:,}"] if bars else []
         print(f"| {name} | " + " | ".join(cells) + " |", flush=True)
 
 
@@ -103,7 +109,8 @@ def run(call, size, times):
 
 
 def main(words):
-    ran = subprocess.run(["rt", "run", "--", "poll", "1", "1"], cwd=CRATE, stdin=subprocess.DEVNULL, stdout=subprocess.PIPE, stderr=subprocess.STDOUT)
+    ran = subprocess.run(["rt", "run", "--", "poll", "1", "1"], cwd=CRATE, stdin=subprocess.DEVNULL,
+                         stdout=subprocess.PIPE, stderr=subprocess.STDOUT)
     if ran.returncode:
         sys.stdout.buffer.write(ran.stdout)
         sys.exit("bench: the program is not built")
@@ -114,8 +121,10 @@ def main(words):
     print()
     for size in (1000, 10000):
         seconds = run("transmits_one", size, size)[0] - run("transmits_one", size, 0)[0]
-        print(f"A round of {size:,} retransmissions, one due at a time: {seconds:.3f} s of processor")
-    for call, name in [("poll", "an outstanding request"), ("forgets_none", "an address without a client")]:
+        print(f"A round of {size:,} retransmissions, one due at a time: {seconds:.3f} s of "
+              "processor")
+    for call, name in [("poll", "an outstanding request"),
+                       ("forgets_none", "an address without a client")]:
         taken = (run(call, 110000, 0)[1] - run(call, 10000, 0)[1]) * 1024 / 100000
         print(f"Resident memory of {name}: {taken:.0f} bytes")
 

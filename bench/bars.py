@@ -1,9 +1,11 @@
 #!/usr/bin/env python3
-"""Compares README.md's tables with the programs that print them: the same rows, the same bars, and a word where a bar is missed.
+"""Compares README.md's tables with the programs that print them: the same rows, the same bars, and
+a word where a bar is missed.
 
     bench/bars.py
 
-It reads the sources of bench.c, state.py, agent.py and growth.c, and runs none of them. Status 1, and a line for each difference.
+It reads the sources of bench.c, state.py, agent.py and growth.c, and runs none of them. Status 1,
+and a line for each difference.
 """
 
 import ast
@@ -54,18 +56,25 @@ def value(program, name):
 def works():
     """Of bench.c: a title, the bar on the ratio and that on instructions, 0 where there is none."""
     row = r'\{"\w+", "([^"]+)", "\w+", \w+, \w+, \w+, ([0-9.]+), ([0-9]+)\},'
-    return [(title, float(ratio), int(most)) for title, ratio, most in re.findall(row, (HERE / "bench.c").read_text())]
+    found = re.findall(row.replace(", ", r",\s+"), (HERE / "bench.c").read_text())
+    return [(title, float(ratio), int(most)) for title, ratio, most in found]
 
 
 def same_rows(what, ours, theirs):
     if list(ours) != list(theirs):
-        yield f"{what}: rows {[one for one in ours if one not in theirs]} and {[one for one in theirs if one not in ours]}, or another order"
+        left = [one for one in ours if one not in theirs]
+        right = [one for one in theirs if one not in ours]
+        yield f"{what}: rows {left} and {right}, or another order"
 
 
 def told(what, row, measured, bar):
     """A bar that is missed is told."""
-    if measured is not None and bar and measured > bar and f"missed by {measured - bar:,.0f}" not in README:
-        yield f"{what}, {row}: {measured:,.0f} is above {bar:,.0f}, and the text does not say `missed by {measured - bar:,.0f}`"
+    if measured is None or not bar or measured <= bar:
+        return
+    missed = f"missed by {measured - bar:,.0f}"
+    if missed not in README:
+        yield (f"{what}, {row}: {measured:,.0f} is above {bar:,.0f}, "
+               f"and the text does not say `{missed}`")
 
 
 def of_bench():
@@ -90,8 +99,10 @@ def of_state():
         yield from told("state.py", title, number(cells[-2]), bar)
     if f"at most {bar} instructions" not in " ".join(README.split()):
         yield f"state.py: README.md's text does not say `at most {bar} instructions`"
-    yield from same_rows("state.py", [title for _, title in value("state.py", "ALONE")], table("Call, through C", "instructions"))
-    yield from same_rows("state.py", value("state.py", "PAUSES"), table(f"Longest pause at {value('state.py', 'RECORDS'):,} records"))
+    yield from same_rows("state.py", [title for _, title in value("state.py", "ALONE")],
+                         table("Call, through C", "instructions"))
+    yield from same_rows("state.py", value("state.py", "PAUSES"),
+                         table(f"Longest pause at {value('state.py', 'RECORDS'):,} records"))
 
 
 def of_agent():
@@ -101,7 +112,8 @@ def of_agent():
         cells = rows.get(title, [""])
         if number(cells[-1]) != bars[call]:
             yield f"agent.py, {title}: at most {bars[call]}, README.md has `{cells[-1]}`"
-        yield from told("agent.py", title, number(cells[-3]) if len(cells) > 2 else None, bars[call])
+        yield from told("agent.py", title, number(cells[-3]) if len(cells) > 2 else None,
+                        bars[call])
 
 
 def of_growth():
@@ -115,8 +127,11 @@ def main():
     differences = [one for part in (of_bench, of_state, of_agent, of_growth) for one in part()]
     for one in differences:
         print(f"bars: {one}", file=sys.stderr)
-    print(f"bars: {len(differences)} differences" if differences else "bars: README.md has the rows and the bars of the programs")
-    return 1 if differences else 0
+    if differences:
+        print(f"bars: {len(differences)} differences")
+        return 1
+    print("bars: README.md has the rows and the bars of the programs")
+    return 0
 
 
 if __name__ == "__main__":

@@ -1,7 +1,8 @@
-/* Measures each call of the library beside OpenSSL's low-level digest calls over the same covered bytes.
+/* Measures each call of the library beside OpenSSL's low-level digest calls over the same covered
+ * bytes.
  *
- * `bench COUNTS` prints the table: COUNTS has a line `NAME INSTRUCTIONS` for each call, as run.sh takes them.
- * `bench call NAME TIMES` makes one of the calls so often, for callgrind. */
+ * `bench COUNTS` prints the table: COUNTS has a line `NAME INSTRUCTIONS` for each call, as run.sh
+ * takes them. `bench call NAME TIMES` makes one of the calls so often, for callgrind. */
 #include "stunp.h"
 #include <openssl/evp.h>
 #include <openssl/hmac.h>
@@ -17,19 +18,22 @@ enum { ROUNDS = 11, CALLS = 10000 };
 
 /* The request of RFC 5769, section 2.1, and its password. */
 static const uint8_t short_term[108] =
-    "\x00\x01\x00\x58\x21\x12\xa4\x42\xb7\xe7\xa7\x01\xbc\x34\xd6\x86\xfa\x87\xdf\xae\x80\x22\x00\x10STUN test client"
-    "\x00\x24\x00\x04\x6e\x00\x01\xff\x80\x29\x00\x08\x93\x2f\xf9\xb1\x51\x26\x3b\x36\x00\x06\x00\x09" "evtj:h6vY   "
-    "\x00\x08\x00\x14\x9a\xea\xa7\x0c\xbf\xd8\xcb\x56\x78\x1e\xf2\xb5\xb2\xd3\xf2\x49\xc1\xb5\x71\xa2\x80\x28\x00\x04"
-    "\xe5\x7a\x3b\xcf";
+    "\x00\x01\x00\x58\x21\x12\xa4\x42\xb7\xe7\xa7\x01\xbc\x34\xd6\x86\xfa\x87\xdf\xae"
+    "\x80\x22\x00\x10STUN test client\x00\x24\x00\x04\x6e\x00\x01\xff\x80\x29\x00\x08\x93\x2f\xf9"
+    "\xb1\x51\x26\x3b\x36\x00\x06\x00\x09" "evtj:h6vY   \x00\x08\x00\x14\x9a\xea\xa7\x0c\xbf\xd8"
+    "\xcb\x56\x78\x1e\xf2\xb5\xb2\xd3\xf2\x49\xc1\xb5\x71\xa2\x80\x28\x00\x04\xe5\x7a"
+    "\x3b\xcf";
 static const char password[] = "VOkJxbRl1RmTxUk/WvJxBt";
 
 /* The request of section 2.4, whose key is made of these three texts. */
 static const uint8_t long_term[116] =
-    "\x00\x01\x00\x60\x21\x12\xa4\x42\x78\xad\x34\x33\xc6\xad\x72\xc0\x29\xda\x41\x2e\x00\x06\x00\x12\xe3\x83\x9e\xe3"
-    "\x83\x88\xe3\x83\xaa\xe3\x83\x83\xe3\x82\xaf\xe3\x82\xb9\x00\x00\x00\x15\x00\x1c" "f//499k954d6OL34oL9FSTvy64sA"
-    "\x00\x14\x00\x0b" "example.org" "\x00\x00\x08\x00\x14\xf6\x70\x24\x65\x6d\xd6\x4a\x3e\x02\xb8\xe0\x71\x2e\x85\xc9"
+    "\x00\x01\x00\x60\x21\x12\xa4\x42\x78\xad\x34\x33\xc6\xad\x72\xc0\x29\xda\x41\x2e"
+    "\x00\x06\x00\x12\xe3\x83\x9e\xe3\x83\x88\xe3\x83\xaa\xe3\x83\x83\xe3\x82\xaf\xe3"
+    "\x82\xb9\x00\x00\x00\x15\x00\x1c" "f//499k954d6OL34oL9FSTvy64sA\x00\x14\x00\x0b" "example.org"
+    "\x00\x00\x08\x00\x14\xf6\x70\x24\x65\x6d\xd6\x4a\x3e\x02\xb8\xe0\x71\x2e\x85\xc9"
     "\xa2\x8c\xa8\x96\x66";
-static const char username[] = "\xe3\x83\x9e\xe3\x83\x88\xe3\x83\xaa\xe3\x83\x83\xe3\x82\xaf\xe3\x82\xb9";
+static const char username[] =
+    "\xe3\x83\x9e\xe3\x83\x88\xe3\x83\xaa\xe3\x83\x83\xe3\x82\xaf\xe3\x82\xb9";
 static const char realm[] = "example.org";
 static const char user_password[] = "TheMatrIX";
 
@@ -38,7 +42,8 @@ static uint8_t sha256_request[120];
 static uint8_t long_term_key[16];
 static uint8_t out[STUNP_LONGEST_SIGNED];
 
-/* What a digest covers, behind a block for the key; and the block and the digest of the outer hash. */
+/* What a digest covers, behind a block for the key; and the block and the digest of the outer
+ * hash. */
 static struct covered {
     uint8_t inner[64 + 128];
     size_t inner_length;
@@ -98,18 +103,20 @@ static int64_t verify_sha256(void) {
 }
 
 static int64_t build(void) {
-    return stunp_build_signed(STUNP_SHA1, short_term + 8, STUNP_ID_LENGTH, bytes("evtj:h6vY"), 9, bytes(password),
-                             strlen(password), out, sizeof out);
+    return stunp_build_signed(STUNP_SHA1, short_term + 8, STUNP_ID_LENGTH, bytes("evtj:h6vY"), 9,
+                              bytes(password), strlen(password), out, sizeof out);
 }
 
 static int64_t md5_key(void) {
-    return stunp_long_term_key(STUNP_SHA1, bytes(username), strlen(username), bytes(realm), strlen(realm),
-                              bytes(user_password), strlen(user_password), out, sizeof out);
+    return stunp_long_term_key(STUNP_SHA1, bytes(username), strlen(username), bytes(realm),
+                               strlen(realm), bytes(user_password), strlen(user_password), out,
+                               sizeof out);
 }
 
 static int64_t sha256_key(void) {
-    return stunp_long_term_key(STUNP_SHA256, bytes(username), strlen(username), bytes(realm), strlen(realm),
-                              bytes(user_password), strlen(user_password), out, sizeof out);
+    return stunp_long_term_key(STUNP_SHA256, bytes(username), strlen(username), bytes(realm),
+                               strlen(realm), bytes(user_password), strlen(user_password), out,
+                               sizeof out);
 }
 
 static void digest_short(void) {
@@ -152,12 +159,17 @@ static const struct work {
     long instructions_bar;
 } works[] = {
     {"parse", "parse (RFC 5769 section 2.1)", "stunp_parse", parse, 0, NULL, 0, 200},
-    {"verify", "parse and verify (2.1), HMAC-SHA1", "stunp_verify", verify, STUNP_SHA1, digest_short, 1.6, 9400},
-    {"verify_long_term", "parse and verify (2.4), HMAC-SHA1", "stunp_verify", verify_long_term, STUNP_SHA1, digest_long, 0, 0},
-    {"verify_sha256", "parse and verify (2.1 signed anew), HMAC-SHA256", "stunp_verify", verify_sha256, STUNP_SHA256, digest_sha256, 1.55, 16750},
-    {"build", "build and sign, HMAC-SHA1", "stunp_build_signed", build, 60, digest_built, 1.6, 7450},
+    {"verify", "parse and verify (2.1), HMAC-SHA1", "stunp_verify", verify, STUNP_SHA1,
+     digest_short, 1.6, 9400},
+    {"verify_long_term", "parse and verify (2.4), HMAC-SHA1", "stunp_verify", verify_long_term,
+     STUNP_SHA1, digest_long, 0, 0},
+    {"verify_sha256", "parse and verify (2.1 signed anew), HMAC-SHA256", "stunp_verify",
+     verify_sha256, STUNP_SHA256, digest_sha256, 1.55, 16750},
+    {"build", "build and sign, HMAC-SHA1", "stunp_build_signed", build, 60, digest_built, 1.6,
+     7450},
     {"md5_key", "long-term key by MD5", "stunp_long_term_key", md5_key, 16, digest_md5, 0, 1150},
-    {"sha256_key", "long-term key by SHA-256", "stunp_long_term_key", sha256_key, 32, digest_key_sha256, 0, 0},
+    {"sha256_key", "long-term key by SHA-256", "stunp_long_term_key", sha256_key, 32,
+     digest_key_sha256, 0, 0},
 };
 
 static void fail(const char *what) {
@@ -176,7 +188,8 @@ static void prepare(void) {
     memcpy(sha256_request, short_term, 76);
     sha256_request[3] = 76 + 36 - 20;
     memcpy(sha256_request + 76, "\x00\x1c\x00\x20", 4);
-    HMAC(EVP_sha256(), password, (int)strlen(password), sha256_request, 76, sha256_request + 80, NULL);
+    HMAC(EVP_sha256(), password, (int)strlen(password), sha256_request, 76, sha256_request + 80,
+         NULL);
     memcpy(sha256_request + 112, short_term + 100, 8);
     sha256_request[3] += 8;
 
@@ -208,7 +221,8 @@ static double median(double *of) {
     return of[ROUNDS / 2];
 }
 
-/* The medians, over paired rounds, of the nanoseconds of a call and of their ratio to the digest calls. */
+/* The medians, over paired rounds, of the nanoseconds of a call and of their ratio to the digest
+ * calls. */
 static void measure(const struct work *work, double *nanoseconds, double *ratio) {
     double ours[ROUNDS], ratios[ROUNDS] = {0};
     for (int round = -1; round < ROUNDS; round++) {
@@ -237,7 +251,8 @@ static long counted(const char *file, const char *name) {
 }
 
 static void print_table(const char *file) {
-    printf("| Call | ns | of OpenSSL's digests | at most | instructions | at most |\n|---|---|---|---|---|---|\n");
+    printf("| Call | ns | of OpenSSL's digests | at most | instructions | at most |\n"
+           "|---|---|---|---|---|---|\n");
     for (size_t i = 0; i < sizeof works / sizeof *works; i++) {
         const struct work *work = works + i;
         double nanoseconds, ratio;
@@ -256,7 +271,8 @@ static void print_table(const char *file) {
 
 int main(int count, char **words) {
     if (count == 2 && strcmp(words[1], "names") == 0) {
-        for (size_t i = 0; i < sizeof works / sizeof *works; i++) printf("%s %s\n", works[i].name, works[i].function);
+        for (size_t i = 0; i < sizeof works / sizeof *works; i++)
+            printf("%s %s\n", works[i].name, works[i].function);
         return 0;
     }
     prepare();

@@ -1,9 +1,11 @@
-# For the scripts of this folder, which are in it: the archive, proved and built, and how they run a command.
+# For the scripts of this folder, which are in it: the archive, proved and built, and how they run a
+# command.
 CC=${CC:-cc}
 archive=../crates/stun_c/out/libstun_c.a
 mkdir -p out
 
-# tried NAME COMMAND..: runs it and says how long it took; where it fails, prints it with its output and ends.
+# tried NAME COMMAND..: runs it and says how long it took; where it fails, prints it with its output
+# and ends.
 tried() {
     name=$1 began=$(date +%s)
     shift

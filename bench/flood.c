@@ -1,6 +1,8 @@
-/* Floods a STUN server on 127.0.0.1 with unsigned requests, each from another address: flood PORT ADDRESSES RATE
+/* Floods a STUN server on 127.0.0.1 with unsigned requests, each from another address:
+ * flood PORT ADDRESSES RATE
  *
- * They come from 127.16.0.0 on, from one port, RATE a second; what is answered is not read. Prints how many were sent, and the seconds. */
+ * They come from 127.16.0.0 on, from one port, RATE a second; what is answered is not read. Prints
+ * how many were sent, and the seconds. */
 #define _GNU_SOURCE
 #include <arpa/inet.h>
 #include <netinet/in.h>
@@ -33,7 +35,8 @@ static ssize_t send_from(int fd, uint32_t address, const struct sockaddr_in *ser
     struct iovec data = {request, sizeof request};
     struct msghdr message = {(void *)server, sizeof *server, &data, 1, control, sizeof control, 0};
     struct cmsghdr *one = CMSG_FIRSTHDR(&message);
-    one->cmsg_level = IPPROTO_IP, one->cmsg_type = IP_PKTINFO, one->cmsg_len = CMSG_LEN(sizeof from);
+    one->cmsg_level = IPPROTO_IP, one->cmsg_type = IP_PKTINFO,
+        one->cmsg_len = CMSG_LEN(sizeof from);
     memcpy(CMSG_DATA(one), &from, sizeof from);
     memcpy(request + 8, &address, sizeof address);
     return sendmsg(fd, &message, 0);
@@ -44,7 +47,8 @@ int main(int count, char **words) {
         fprintf(stderr, "usage: flood PORT ADDRESSES RATE\n");
         return 2;
     }
-    struct sockaddr_in server = {.sin_family = AF_INET, .sin_addr.s_addr = htonl(INADDR_LOOPBACK)}, any = {.sin_family = AF_INET};
+    struct sockaddr_in server = {.sin_family = AF_INET, .sin_addr.s_addr = htonl(INADDR_LOOPBACK)},
+        any = {.sin_family = AF_INET};
     uint32_t addresses = (uint32_t)strtoul(words[2], NULL, 10), sent = 0;
     double rate = atof(words[3]), begun = now();
     int fd = socket(AF_INET, SOCK_DGRAM, 0), least = 0;

@@ -1,6 +1,7 @@
-/* How the calls on messages grow with the number of attributes: microseconds of processor at messages of so many attributes of 4
- * bytes, the least of several runs, as rows of a table. The last column is the power of the number that the time grows by, from
- * 1,000 attributes to 16,376. hostile.sh builds this without a sanitizer. */
+/* How the calls on messages grow with the number of attributes. Each row of the table has
+ * microseconds of processor, the least of several runs, at messages of so many attributes of 4
+ * bytes. The last column is the power of the number that the time grows by, from 1,000 attributes
+ * to 16,376. hostile.sh builds this without a sanitizer. */
 #include "stunp.h"
 #include <math.h>
 #include <stdio.h>
@@ -20,25 +21,34 @@ static void want(const char *what, int64_t answer, int64_t wanted) {
     exit(1);
 }
 
-/* A request of so many attributes, each of another type, and so many bytes that its length field says. */
+/* A request of so many attributes, each of another type, and so many bytes that its length field
+ * says. */
 static void spell(size_t attributes) {
     static const uint8_t id[STUNP_ID_LENGTH] = {1};
     count = attributes;
     length = STUNP_HEADER_LENGTH + 4 * count;
-    want("stunp_begin", stunp_begin(STUNP_REQUEST, STUNP_BINDING, id, sizeof id, message, sizeof message), STUNP_HEADER_LENGTH);
+    want("stunp_begin", stunp_begin(STUNP_REQUEST, STUNP_BINDING, id, sizeof id, message,
+                                    sizeof message), STUNP_HEADER_LENGTH);
     message[2] = (uint8_t)((4 * count) >> 8);
     message[3] = (uint8_t)(4 * count);
     for (size_t i = 0; i < count; i++) {
         uint8_t *at = message + STUNP_HEADER_LENGTH + 4 * i;
-        at[0] = (uint8_t)((FIRST_TYPE + i) >> 8), at[1] = (uint8_t)(FIRST_TYPE + i), at[2] = at[3] = 0;
+        at[0] = (uint8_t)((FIRST_TYPE + i) >> 8), at[1] = (uint8_t)(FIRST_TYPE + i),
+            at[2] = at[3] = 0;
     }
 }
 
 static void parses(void) { want("stunp_parse", stunp_parse(message, length), 0); }
-static void verifies(void) { want("stunp_verify", stunp_verify(message, length, key, sizeof key), STUNP_NO_INTEGRITY); }
+static void verifies(void) {
+    want("stunp_verify", stunp_verify(message, length, key, sizeof key), STUNP_NO_INTEGRITY);
+}
 static void tells_class(void) { want("stunp_class", stunp_class(message, length), STUNP_REQUEST); }
-static void tells_method(void) { want("stunp_method", stunp_method(message, length), STUNP_BINDING); }
-static void tells_error(void) { want("stunp_error_code", stunp_error_code(message, length), STUNP_MISSING_ATTRIBUTE); }
+static void tells_method(void) {
+    want("stunp_method", stunp_method(message, length), STUNP_BINDING);
+}
+static void tells_error(void) {
+    want("stunp_error_code", stunp_error_code(message, length), STUNP_MISSING_ATTRIBUTE);
+}
 
 static void tells_id(void) {
     uint8_t id[STUNP_ID_LENGTH];
@@ -53,12 +63,15 @@ static void reads_header(void) {
 static void tells_address(void) {
     uint8_t octets[16];
     uint16_t port;
-    want("stunp_xor_mapped_address", stunp_xor_mapped_address(message, length, octets, sizeof octets, &port), STUNP_MISSING_ATTRIBUTE);
+    want("stunp_xor_mapped_address",
+         stunp_xor_mapped_address(message, length, octets, sizeof octets, &port),
+         STUNP_MISSING_ATTRIBUTE);
 }
 
 static void finds(void) {
     size_t value_length;
-    want("stunp_find", stunp_find(message, length, (uint32_t)(FIRST_TYPE + count - 1), &value_length), (int64_t)length - 4);
+    want("stunp_find", stunp_find(message, length, (uint32_t)(FIRST_TYPE + count - 1),
+                                  &value_length), (int64_t)length - 4);
 }
 
 static void walks(void) {
@@ -72,19 +85,23 @@ static void walks(void) {
 static void goes_to_the_next(void) {
     uint16_t type;
     size_t value_length, met = 0;
-    for (int64_t at = 0; (at = stunp_next(message, length, (size_t)at, &type, &value_length)) > 0;) met++;
+    for (int64_t at = 0; (at = stunp_next(message, length, (size_t)at, &type, &value_length)) > 0;)
+        met++;
     want("a walk by stunp_next", (int64_t)met, (int64_t)count);
 }
 
 static void builds(void) {
-    int64_t at = stunp_begin(STUNP_REQUEST, STUNP_BINDING, message + 8, STUNP_ID_LENGTH, other, sizeof other);
-    for (size_t i = 0; i < count; i++) at = stunp_add(other, sizeof other, (size_t)at, (uint32_t)(FIRST_TYPE + i), key, 0);
+    int64_t at = stunp_begin(STUNP_REQUEST, STUNP_BINDING, message + 8, STUNP_ID_LENGTH, other,
+                             sizeof other);
+    for (size_t i = 0; i < count; i++)
+        at = stunp_add(other, sizeof other, (size_t)at, (uint32_t)(FIRST_TYPE + i), key, 0);
     want("building", at, (int64_t)length);
 }
 
 static void signs(void) {
     for (size_t i = 0; i < length; i++) other[i] = message[i];
-    want("stunp_sign", stunp_sign(other, length + 24, length, STUNP_SHA1, key, sizeof key), (int64_t)length + 24);
+    want("stunp_sign", stunp_sign(other, length + 24, length, STUNP_SHA1, key, sizeof key),
+         (int64_t)length + 24);
 }
 
 static double now(void) {
@@ -93,7 +110,8 @@ static double now(void) {
     return (double)time.tv_sec * 1e6 + (double)time.tv_nsec / 1e3;
 }
 
-/* Microseconds of a call: the least of some runs, each of so many calls that it takes a millisecond, or of one that takes longer. */
+/* Microseconds of a call: the least of some runs, each of so many calls that it takes a
+ * millisecond, or of one that takes longer. */
 static double time_of(void (*call)(void)) {
     double least = 0, all = now();
     long calls = 1;

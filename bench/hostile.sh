@@ -1,7 +1,8 @@
 #!/bin/sh
-# Runs a library on what a hostile peer may send, with an address sanitizer round the driver, and then tells how its calls on
-# messages grow with the number of attributes: the archive, which it proves and builds, or with the word `exported` the
-# library of the exported crate, which is not proved (`make rust` and `make rust-c` build it).
+# Runs a library on what a hostile peer may send, with an address sanitizer round the driver. Then
+# it tells how the calls on messages grow with the number of attributes. The library is the archive,
+# which it proves and builds. With the word `exported` it is that of the exported crate, which is
+# not proved (`make rust` and `make rust-c` build it).
 set -eu
 cd "$(dirname "$0")"
 if [ "${1-}" = exported ]; then
@@ -16,9 +17,10 @@ else
     . ./common.sh
     system='' told='the archive, proved'
 fi
-tried 'the driver' "$CC" -O1 -g -Wall -Wextra -Werror -fsanitize=address,undefined -fno-sanitize-recover=all \
-    -I../include hostile.c "$archive" $system -o out/hostile
+tried 'the driver' "$CC" -O1 -g -Wall -Wextra -Werror -fsanitize=address,undefined \
+    -fno-sanitize-recover=all -I../include hostile.c "$archive" $system -o out/hostile
 out/hostile
-tried 'the growth' "$CC" -O2 -std=c99 -D_DEFAULT_SOURCE -Wall -Wextra -Werror -I../include growth.c "$archive" $system -lm -o out/growth
+tried 'the growth' "$CC" -O2 -std=c99 -D_DEFAULT_SOURCE -Wall -Wextra -Werror -I../include \
+    growth.c "$archive" $system -lm -o out/growth
 echo "microseconds, by $told"
 out/growth

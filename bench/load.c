@@ -1,11 +1,14 @@
-/* Loads a STUN server on 127.0.0.1 from many ports: load PORT COUNT SOCKETS WINDOW MIX [NAME PASSWORD]
+/* Loads a STUN server on 127.0.0.1 from many ports:
+ * load PORT COUNT SOCKETS WINDOW MIX [NAME PASSWORD]
  *
- * Sends COUNT datagrams from SOCKETS ports, of the kinds of MIX in turn: u an unsigned Binding request, s one that answers the
- * challenge that each port drew before the clock starts, g 20 to 99 random bytes, which nobody answers. At most WINDOW requests
- * are unanswered at a time; or, where WINDOW is a number and `/s`, so many datagrams are sent a second, answered or not. An answer
- * that does not come within 300 ms after all others is lost.
+ * Sends COUNT datagrams from SOCKETS ports, of the kinds of MIX in turn. u is an unsigned Binding
+ * request; s answers the challenge that each port drew before the clock starts; g is 20 to 99
+ * random bytes, which nobody answers. At most WINDOW requests are unanswered at a time. Where
+ * WINDOW is a number and `/s`, so many datagrams are sent a second, answered or not. An answer that
+ * does not come within 300 ms after all others is lost.
  *
- * Prints one line: how many were sent, how many drew a success, a 401, another error or nothing, and the seconds.
+ * Prints one line: how many were sent, how many drew a success, a 401, another error or nothing,
+ * and the seconds.
  * Build: cc -O2 -I../include load.c ../crates/stun_c/out/libstun_c.a */
 #define _GNU_SOURCE
 #include "stunp.h"
@@ -24,7 +27,12 @@
 enum { MOST_SOCKETS = 20000, KINDS = 3 };
 
 struct datagram { uint8_t bytes[512]; size_t length; };
-static struct sender { int fd; size_t turn; int is_waiting; struct datagram unsigned_one, signed_one, garbage; } *senders;
+static struct sender {
+    int fd;
+    size_t turn;
+    int is_waiting;
+    struct datagram unsigned_one, signed_one, garbage;
+} *senders;
 static struct { unsigned long sent, requests, successes, challenges, errors, lost; } counts;
 static const char *mix, *name, *password;
 
@@ -39,7 +47,8 @@ static void fail(const char *what) {
     exit(1);
 }
 
-static size_t value_of(const uint8_t *message, size_t length, uint16_t wanted, const uint8_t **value) {
+static size_t value_of(const uint8_t *message, size_t length, uint16_t wanted,
+                       const uint8_t **value) {
     uint16_t type;
     size_t value_length;
     for (int64_t at = 0; (at = stunp_next(message, length, (size_t)at, &type, &value_length)) > 0;)
@@ -60,15 +69,18 @@ static void sign(struct datagram *out, const uint8_t *challenge, size_t length) 
     size_t offer_length = value_of(challenge, length, STUNP_PASSWORD_ALGORITHMS, &offer);
     if (realm == NULL || nonce == NULL) fail("load: no challenge");
     if (getrandom(id, sizeof id, 0) != sizeof id) fail("getrandom");
-    stunp_long_term_key(STUNP_SHA1, (const uint8_t *)name, strlen(name), realm, realm_length, (const uint8_t *)password,
-                       strlen(password), key, sizeof key);
+    stunp_long_term_key(STUNP_SHA1, (const uint8_t *)name, strlen(name), realm, realm_length,
+                        (const uint8_t *)password, strlen(password), key, sizeof key);
     int64_t at = stunp_begin(STUNP_REQUEST, STUNP_BINDING, id, sizeof id, out->bytes, room);
-    at = stunp_add(out->bytes, room, (size_t)at, STUNP_USERNAME, (const uint8_t *)name, strlen(name));
+    at = stunp_add(out->bytes, room, (size_t)at, STUNP_USERNAME, (const uint8_t *)name,
+                   strlen(name));
     at = stunp_add(out->bytes, room, (size_t)at, STUNP_REALM, realm, realm_length);
     at = stunp_add(out->bytes, room, (size_t)at, STUNP_NONCE, nonce, nonce_length);
     if (offer != NULL) {
-        at = stunp_add(out->bytes, room, (size_t)at, STUNP_PASSWORD_ALGORITHMS, offer, offer_length);
-        at = stunp_add(out->bytes, room, (size_t)at, STUNP_PASSWORD_ALGORITHM, (const uint8_t *)"\0\1\0\0", 4);
+        at = stunp_add(out->bytes, room, (size_t)at, STUNP_PASSWORD_ALGORITHMS, offer,
+                       offer_length);
+        at = stunp_add(out->bytes, room, (size_t)at, STUNP_PASSWORD_ALGORITHM,
+                       (const uint8_t *)"\0\1\0\0", 4);
     }
     at = stunp_sign(out->bytes, room, (size_t)at, STUNP_SHA1, key, sizeof key);
     if (at < 0) fail("load: sign");
@@ -80,10 +92,12 @@ static void open_sender(struct sender *sender, const struct sockaddr_in *server,
     uint8_t id[STUNP_ID_LENGTH], answer[1024], random_bytes[128];
     struct timeval wait = {1, 0};
     sender->fd = socket(AF_INET, SOCK_DGRAM, 0);
-    if (sender->fd < 0 || connect(sender->fd, (const struct sockaddr *)server, sizeof *server) < 0) fail("load: socket");
-    if (getrandom(id, sizeof id, 0) < 0 || getrandom(random_bytes, sizeof random_bytes, 0) < 0) fail("getrandom");
-    sender->unsigned_one.length =
-        (size_t)stunp_begin(STUNP_REQUEST, STUNP_BINDING, id, sizeof id, sender->unsigned_one.bytes, 512);
+    if (sender->fd < 0 || connect(sender->fd, (const struct sockaddr *)server, sizeof *server) < 0)
+        fail("load: socket");
+    if (getrandom(id, sizeof id, 0) < 0 || getrandom(random_bytes, sizeof random_bytes, 0) < 0)
+        fail("getrandom");
+    sender->unsigned_one.length = (size_t)stunp_begin(STUNP_REQUEST, STUNP_BINDING, id, sizeof id,
+                                                      sender->unsigned_one.bytes, 512);
     sender->garbage.length = 20 + random_bytes[127] % 80;
     memcpy(sender->garbage.bytes, random_bytes, sender->garbage.length);
     sender->garbage.bytes[0] |= 0x80; /* no message of STUN */
@@ -101,11 +115,13 @@ static void open_sender(struct sender *sender, const struct sockaddr_in *server,
     epoll_ctl(epoll, EPOLL_CTL_ADD, sender->fd, &event);
 }
 
-/* Sends the next datagrams of a port, up to one that is to be answered. Answers whether there was one. */
+/* Sends the next datagrams of a port, up to one that is to be answered. Answers whether there was
+ * one. */
 static int send_next(struct sender *sender, unsigned long count) {
     while (counts.sent < count) {
         char kind = mix[sender->turn++ % strlen(mix)];
-        const struct datagram *one = kind == 'u' ? &sender->unsigned_one : kind == 's' ? &sender->signed_one : &sender->garbage;
+        const struct datagram *one = kind == 'u' ? &sender->unsigned_one
+            : kind == 's' ? &sender->signed_one : &sender->garbage;
         counts.sent++;
         send(sender->fd, one->bytes, one->length, 0);
         if (kind == 'g') continue;
@@ -122,14 +138,15 @@ static void count_answer(const uint8_t *answer, size_t length) {
     else counts.errors++;
 }
 
-/* Sends so many datagrams a second, and reads what comes. Where this program had to wait for longer than 10 ms it does not send all
- * that it is behind with at once. */
+/* Sends so many datagrams a second, and reads what comes. Where this program had to wait for longer
+ * than 10 ms it does not send all that it is behind with at once. */
 static void run_at(int epoll, unsigned long count, size_t number, double rate) {
     struct epoll_event events[64];
     uint8_t answer[2048];
     unsigned long answered = 0;
     double begun = now(), last = begun;
-    for (size_t next = 0; counts.sent < count || (answered < counts.requests && now() - last < 0.3);) {
+    for (size_t next = 0;
+         counts.sent < count || (answered < counts.requests && now() - last < 0.3);) {
         double late = now() - begun - (double)counts.sent / rate - 0.01;
         if (late > 0) begun += late;
         while (counts.sent < count && (double)counts.sent < (now() - begun) * rate) {
@@ -155,7 +172,8 @@ static void run(int epoll, unsigned long count, size_t number, size_t window) {
     size_t waiting = 0, next = 0;
     for (;;) {
         while (waiting < window && counts.sent < count) {
-            for (size_t tries = 0; senders[next].is_waiting && tries < number; tries++) next = (next + 1) % number;
+            for (size_t tries = 0; senders[next].is_waiting && tries < number; tries++)
+                next = (next + 1) % number;
             if (senders[next].is_waiting) break;
             waiting += (size_t)send_next(&senders[next], count);
             next = (next + 1) % number;
@@ -191,7 +209,8 @@ int main(int words_count, char **words) {
     mix = words[5];
     name = words_count == 8 ? words[6] : "";
     password = words_count == 8 ? words[7] : "";
-    if (number == 0 || number > MOST_SOCKETS || strspn(mix, "usg") != strlen(mix) || *mix == 0) return 2;
+    if (number == 0 || number > MOST_SOCKETS || strspn(mix, "usg") != strlen(mix) || *mix == 0)
+        return 2;
     setrlimit(RLIMIT_NOFILE, &files);
     senders = calloc(number, sizeof *senders);
     int epoll = epoll_create1(0);
@@ -202,7 +221,8 @@ int main(int words_count, char **words) {
     double start = now();
     if (strstr(words[4], "/s") != NULL) run_at(epoll, count, number, (double)window);
     else run(epoll, count, number, window);
-    printf("sent %lu requests %lu successes %lu challenges %lu errors %lu lost %lu seconds %.3f\n", counts.sent, counts.requests,
-           counts.successes, counts.challenges, counts.errors, counts.lost, now() - start);
+    printf("sent %lu requests %lu successes %lu challenges %lu errors %lu lost %lu seconds %.3f\n",
+           counts.sent, counts.requests, counts.successes, counts.challenges, counts.errors,
+           counts.lost, now() - start);
     return 0;
 }

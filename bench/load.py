@@ -1,14 +1,18 @@
 #!/usr/bin/env python3
-"""Loads udp_server, and coturn's turnserver where it is installed, over loopback, and prints a Markdown table.
+"""Loads udp_server, and coturn's turnserver where it is installed, over loopback, and prints a
+Markdown table.
 
     load.py [COUNT]         datagrams a row, 100000 unless given
 
-Each row starts a server, opens 1,000 ports that send the kinds of datagrams in turn (load.c), and tells how many requests a
-second were answered, the processor time of the server for each datagram, the resident bytes of all its processes before and
-after, how many requests were not answered, and how many datagrams the kernel dropped at the server's sockets. Then four times as
-many addresses as COUNT flood a server, 60,000 a second (flood.c), while new clients ask. It ends only what it started.
+Each row starts a server and opens 1,000 ports that send the kinds of datagrams in turn (load.c). It
+tells how many requests a second were answered, and the processor time of the server for each
+datagram. It tells the resident bytes of all its processes before and after. Last come how many
+requests were not answered, and how many datagrams the kernel dropped at the server's sockets. Then
+four times as many addresses as COUNT flood a server, 60,000 a second (flood.c), while new clients
+ask. It ends only what it started.
 
-    load.py --flood [COUNT] [PROGRAM]    the flood alone, of udp_server or of a program with the same words
+    load.py --flood [COUNT] [PROGRAM]    the flood alone, of udp_server or of a program with the
+                                         same words
 """
 import os
 import pathlib
@@ -45,7 +49,8 @@ def resident(pid):
 
 
 def processor_seconds(pid):
-    fields = [pathlib.Path(f"/proc/{one}/stat").read_text().rsplit(")", 1)[1].split() for one in processes(pid)]
+    fields = [pathlib.Path(f"/proc/{one}/stat").read_text().rsplit(")", 1)[1].split()
+              for one in processes(pid)]
     return sum(int(one[11]) + int(one[12]) for one in fields) / os.sysconf("SC_CLK_TCK")
 
 
@@ -64,9 +69,11 @@ def row(load, what, server, count, mix, window, loaders=1):
     """Loads a running server by so many programs at once."""
     pid, port = server.process.pid, server.port
     share = window if loaders == 1 else window // loaders
-    words = [load, port, count // loaders, 1000 // loaders, share, mix, *((NAME, PASSWORD) if "s" in mix else ())]
+    words = [load, port, count // loaders, 1000 // loaders, share, mix,
+             *((NAME, PASSWORD) if "s" in mix else ())]
     memory, spent = resident(pid), processor_seconds(pid)
-    started = [subprocess.Popen([str(word) for word in words], stdout=subprocess.PIPE, text=True) for _ in range(loaders)]
+    started = [subprocess.Popen([str(word) for word in words], stdout=subprocess.PIPE, text=True)
+               for _ in range(loaders)]
     lines = [one.communicate(timeout=120)[0].split() for one in started]
     spent, lost = processor_seconds(pid) - spent, dropped(port)
     told = [dict(zip(line[::2], map(float, line[1::2]))) for line in lines]
@@ -74,8 +81,10 @@ def row(load, what, server, count, mix, window, loaders=1):
     answered = total["successes"] + total["challenges"] + total["errors"]
     seconds = max(one["seconds"] for one in told)
     kinds = ", ".join(KINDS[kind] for kind in mix)
-    print(f"| {what} | {kinds} | {window} | {answered / seconds:,.0f} | {1e6 * spent / total['sent']:.1f} | "
-          f"{memory:,} → {resident(pid):,} | {total['lost']:,.0f} of {total['requests']:,.0f} | {lost:,} |", flush=True)
+    print(f"| {what} | {kinds} | {window} | {answered / seconds:,.0f} | "
+          f"{1e6 * spent / total['sent']:.1f} | "
+          f"{memory:,} → {resident(pid):,} | {total['lost']:,.0f} of {total['requests']:,.0f} | "
+          f"{lost:,} |", flush=True)
 
 
 def patient(peer, request):
@@ -96,7 +105,8 @@ def is_served(peer):
 
 
 def flood(program, count):
-    """Clients that are new while addresses flood, and one that was validated before, which signs by one nonce throughout."""
+    """Clients that are new while addresses flood, and one that was validated before, which signs by
+    one nonce throughout."""
     with tempfile.TemporaryDirectory() as folder, check.Server(program, *check.USER) as server:
         flooder = pathlib.Path(folder) / "flood"
         subprocess.run(["cc", "-O2", HERE / "flood.c", "-o", flooder], check=True)
@@ -110,30 +120,41 @@ def flood(program, count):
             started = subprocess.Popen(words, stdout=subprocess.PIPE, text=True)
             while started.poll() is None:
                 begun = time.monotonic()
-                with check.harness.Peer(server.port, here=f"127.1.{asked // 200}.{asked % 200 + 1}") as new:
+                with check.harness.Peer(server.port,
+                                        here=f"127.1.{asked // 200}.{asked % 200 + 1}") as new:
                     times += [time.monotonic() - begun] if is_served(new) else []
                 asked, kept = asked + 1, kept + (signed() == 200)
         told = started.communicate()[0].split()
-        print(f"{count:,} addresses in {told[3]} s, {dropped(server.port):,} datagrams dropped by the kernel: {len(times)} of {asked} new clients "
-              f"served, after {1e3 * statistics.median(times):.1f} ms (median), {1e3 * max(times):.0f} ms (most); {kept} of {asked} times who was "
-              f"validated before kept its nonce; KiB {memory:,} → {resident(pid):,}; load average {os.getloadavg()[0]:.1f}", flush=True)
+        print(f"{count:,} addresses in {told[3]} s, "
+              f"{dropped(server.port):,} datagrams dropped by the kernel: "
+              f"{len(times)} of {asked} new clients served, "
+              f"after {1e3 * statistics.median(times):.1f} ms (median), "
+              f"{1e3 * max(times):.0f} ms (most); "
+              f"{kept} of {asked} times who was validated before kept its nonce; "
+              f"KiB {memory:,} → {resident(pid):,}; load average {os.getloadavg()[0]:.1f}",
+              flush=True)
 
 
 def main():
     if sys.argv[1:2] == ["--flood"]:
-        return flood(sys.argv[3] if len(sys.argv) > 3 else interop.SERVER, int(sys.argv[2]) if len(sys.argv) > 2 else 400000)
+        return flood(sys.argv[3] if len(sys.argv) > 3 else interop.SERVER,
+                     int(sys.argv[2]) if len(sys.argv) > 2 else 400000)
     count = int(sys.argv[1]) if len(sys.argv) > 1 else 100000
-    subprocess.run(["make", "-s", "-C", check.TOP / "examples/c", "udp", f"STATE={check.STATE}", f"LIBRARY={check.STATELESS}"], check=True)
-    print("| Server | Datagrams in turn | Unanswered at most, or sent a second | Answered a second | Processor µs a datagram | KiB before → after "
+    subprocess.run(["make", "-s", "-C", check.TOP / "examples/c", "udp", f"STATE={check.STATE}",
+                    f"LIBRARY={check.STATELESS}"], check=True)
+    print("| Server | Datagrams in turn | Unanswered at most, or sent a second "
+          "| Answered a second | Processor µs a datagram | KiB before → after "
           "| Lost | Dropped by the kernel |\n|---|---|---|---|---|---|---|---|")
     with tempfile.TemporaryDirectory() as folder:
         load = pathlib.Path(folder) / "load"
-        subprocess.run(["cc", "-O2", f"-I{check.TOP}/include", HERE / "load.c", check.STATELESS, "-o", load], check=True)
+        subprocess.run(["cc", "-O2", f"-I{check.TOP}/include", HERE / "load.c", check.STATELESS,
+                        "-o", load], check=True)
         rows = [("u", 64, 1), ("ug", 64, 1), ("usg", 64, 1), ("s", 64, 1), ("usg", 1000, 1)]
         for workers in sorted({1, CORES}):
             for mix, window, loaders in rows:
                 users = check.USER if "s" in mix else ()
-                what = "udp_server" + (" with users" if users else "") + f", {workers} worker{'s' * (workers > 1)}"
+                kind = "udp_server with users" if users else "udp_server"
+                what = f"{kind}, {workers} worker{'s' * (workers > 1)}"
                 with check.Server(interop.SERVER, *users, "--workers", str(workers)) as server:
                     row(load, what, server, count, mix, window, 1 if workers == 1 else 2)
         with check.Server(interop.SERVER, *check.USER) as server:
@@ -144,7 +165,9 @@ def main():
             secure = ("--lt-cred-mech", "--secure-stun", "-r", REALM, "-u", f"{NAME}:{PASSWORD}")
             for threads in ((), ("-m", "1")):
                 for mix, words in (("u", ("--stun-only",)), ("usg", secure), ("s", secure)):
-                    what = "turnserver " + " ".join(word for word in (*words[:2], *threads) if word[0] == "-" or word == "1")
+                    shown = (word for word in (*words[:2], *threads)
+                             if word[0] == "-" or word == "1")
+                    what = "turnserver " + " ".join(shown)
                     with interop.turnserver(*words, *threads) as server:
                         row(load, what, server, count, mix, 64)
     print(f"\n{CORES} cores, load average before the last row {os.getloadavg()[0]:.1f}\n")

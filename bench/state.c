@@ -1,9 +1,11 @@
-/* Makes a call through C many times: `state CALL SIZE TIMES`, with the names and the states of crates/bench_agent, so that
- * state.py can count both. Prints how many of the calls did what they were to do, and how many allocations they asked for.
+/* Makes a call through C many times: `state CALL SIZE TIMES`, with the names and the states of
+ * crates/bench_agent, so that state.py can count both. Prints how many of the calls did what they
+ * were to do, and how many allocations they asked for.
  *
- * `state pauses SIZE AT_ONCE` prints how long a server of so many records stands still where it forgets, in microseconds of
- * processor: by one call, and by the longest of the calls that look at so many at once; where all records are kept, and where all
- * are forgotten. Each is the least of several rounds. */
+ * `state pauses SIZE AT_ONCE` prints how long a server of so many records stands still where it
+ * forgets, in microseconds of processor. Two numbers are of one call, and of the longest of the
+ * calls that look at so many at once. They are told where all records are kept, and where all are
+ * forgotten. Each is the least of several rounds. */
 #define _DEFAULT_SOURCE
 #include "stunp_state.h"
 #include <stdbool.h>
@@ -17,13 +19,13 @@ enum { MOST_TIMES = 100, ID = STUNP_ID_LENGTH };
 /* The calls, each named once before the first is made. */
 enum call {
     POLL, POLL_TRANSMIT, TRANSMITS_ONE, ENDS_ONE, SENDS_LAST, RESPONDS, CANCELS, FINDS,
-    VALIDATES_SHA1, VALIDATES_SHA256, PARSES_SHA1, PARSES_SHA256, ANSWERS_SHA1, ANSWERS_SHA256, ASKS_SHA1, ASKS_SHA256,
-    VERIFIES, CALLS
+    VALIDATES_SHA1, VALIDATES_SHA256, PARSES_SHA1, PARSES_SHA256, ANSWERS_SHA1, ANSWERS_SHA256,
+    ASKS_SHA1, ASKS_SHA256, VERIFIES, CALLS
 };
 static const char *const names[CALLS] = {
-    "poll", "poll_transmit", "transmits_one", "ends_one", "sends_last", "responds", "cancels", "finds",
-    "validates_sha1", "validates_sha256", "parses_sha1", "parses_sha256", "answers_sha1", "answers_sha256", "asks_sha1",
-    "asks_sha256", "verifies",
+    "poll", "poll_transmit", "transmits_one", "ends_one", "sends_last", "responds", "cancels",
+    "finds", "validates_sha1", "validates_sha256", "parses_sha1", "parses_sha256", "answers_sha1",
+    "answers_sha256", "asks_sha1", "asks_sha256", "verifies",
 };
 
 static const uint64_t SECOND = 1000000000;
@@ -54,7 +56,8 @@ static struct message message_of(stunp_message_class class, uint32_t number) {
     struct message message = {{0}, STUNP_HEADER_LENGTH};
     uint8_t id[ID];
     write_id(number, id);
-    if (stunp_begin(class, STUNP_BINDING, id, ID, message.bytes, sizeof message.bytes) < 0) fail("no message");
+    if (stunp_begin(class, STUNP_BINDING, id, ID, message.bytes, sizeof message.bytes) < 0)
+        fail("no message");
     return message;
 }
 
@@ -91,7 +94,9 @@ static void prepare_agent(uint32_t size, uint32_t transmissions, stunp_message_c
     if (stunp_agent_new_with(&agent, STUNP_UDP, &local, &none, &timeouts) < 0) fail("no agent");
     for (uint32_t number = 0; number < size; number++) {
         struct message request = message_of(STUNP_REQUEST, number);
-        if (stunp_agent_send_request(&agent, request.bytes, request.length, &to, moment(number + 1)) < 0) fail("not sent");
+        uint64_t at = moment(number + 1);
+        if (stunp_agent_send_request(&agent, request.bytes, request.length, &to, at) < 0)
+            fail("not sent");
     }
     for (uint32_t i = 0; i < MOST_TIMES; i++) messages[i] = message_of(class, first + i);
 }
@@ -103,10 +108,17 @@ static bool agent_does(enum call call, uint32_t size, uint32_t turn) {
     uint64_t until;
     switch (call) {
     case POLL: return stunp_agent_poll(&agent, moment(size), &until, out, sizeof out) == 0;
-    case POLL_TRANSMIT: return stunp_agent_poll_transmit(&agent, moment(size), out, sizeof out, &to) == 0;
-    case TRANSMITS_ONE: return stunp_agent_poll_transmit(&agent, moment(turn + 1 + 500000), out, sizeof out, &to) > 0;
-    case ENDS_ONE: return stunp_agent_poll(&agent, moment(turn + 1 + 8000000), &until, out, sizeof out) == STUNP_TIMED_OUT;
-    case SENDS_LAST: return stunp_agent_send_request(&agent, message->bytes, message->length, &to, moment(size)) == 0;
+    case POLL_TRANSMIT:
+        return stunp_agent_poll_transmit(&agent, moment(size), out, sizeof out, &to) == 0;
+    case TRANSMITS_ONE:
+        return stunp_agent_poll_transmit(&agent, moment(turn + 1 + 500000), out, sizeof out, &to)
+            > 0;
+    case ENDS_ONE:
+        return stunp_agent_poll(&agent, moment(turn + 1 + 8000000), &until, out, sizeof out)
+            == STUNP_TIMED_OUT;
+    case SENDS_LAST:
+        return stunp_agent_send_request(&agent, message->bytes, message->length, &to, moment(size))
+            == 0;
     case RESPONDS: return stunp_agent_handle(&agent, message->bytes, message->length, &to, 0) == 1;
     case CANCELS: return stunp_agent_cancel(&agent, id, ID) == 1;
     default: return stunp_agent_is_outstanding(&agent, id, ID, &to) == 1;
@@ -122,7 +134,8 @@ static struct message signed_request;
 static void challenge(uint32_t number, struct message *error) {
     stunp_address from = address_of(number);
     struct message unsigned_request = message_of(STUNP_REQUEST, 1);
-    stunp_server_validate(&server, unsigned_request.bytes, unsigned_request.length, &from, 0, words);
+    stunp_server_validate(&server, unsigned_request.bytes, unsigned_request.length, &from, 0,
+                          words);
     *error = message_of(STUNP_ERROR, 1);
     stunp_writer writer = stunp_write_on(STUNP_HEADER_LENGTH, error->bytes, sizeof error->bytes);
     stunp_write_error(&writer, 401, "Unauthorized");
@@ -133,7 +146,8 @@ static void challenge(uint32_t number, struct message *error) {
 
 static bool is_validated(uint32_t number) {
     stunp_address from = address_of(number);
-    return stunp_server_validate(&server, signed_request.bytes, signed_request.length, &from, 0, words) > 0;
+    return stunp_server_validate(&server, signed_request.bytes, signed_request.length, &from, 0,
+                                 words) > 0;
 }
 
 static void prepare_server(uint32_t size, bool is_strong) {
@@ -150,7 +164,8 @@ static void prepare_server(uint32_t size, bool is_strong) {
     stunp_client_set_credentials(&client, "user0", 5, "pass", 4);
     struct message error;
     challenge(0, &error);
-    if (!stunp_is_resend(stunp_client_validate(&client, error.bytes, error.length))) fail("no request");
+    if (!stunp_is_resend(stunp_client_validate(&client, error.bytes, error.length)))
+        fail("no request");
     signed_request = message_of(STUNP_REQUEST, 2);
     stunp_writer writer = stunp_write_on(STUNP_HEADER_LENGTH, signed_request.bytes,
         sizeof signed_request.bytes);
@@ -167,12 +182,14 @@ static void prepare_server(uint32_t size, bool is_strong) {
 static bool answers(void) {
     struct message success = message_of(STUNP_SUCCESS, 2);
     stunp_address to = address_of(0);
-    return stunp_server_sign(&server, success.bytes, sizeof success.bytes, success.length, &to) > STUNP_HEADER_LENGTH;
+    return stunp_server_sign(&server, success.bytes, sizeof success.bytes, success.length, &to)
+        > STUNP_HEADER_LENGTH;
 }
 
 static bool asks(void) {
     struct message request = message_of(STUNP_REQUEST, 2);
-    return stunp_client_sign(&client, request.bytes, sizeof request.bytes, request.length) > STUNP_HEADER_LENGTH;
+    return stunp_client_sign(&client, request.bytes, sizeof request.bytes, request.length)
+        > STUNP_HEADER_LENGTH;
 }
 
 /* ---- A message of 44 bytes under a key of four. */
@@ -199,18 +216,22 @@ static void ask_of_all(uint32_t size) {
     struct message request = message_of(STUNP_REQUEST, 1);
     for (uint32_t number = 0; number < size; number++) {
         stunp_address from = address_of(number);
-        if (stunp_server_validate(&server, request.bytes, request.length, &from, 0, words) != STUNP_UNAUTHORIZED) fail("no record");
+        if (stunp_server_validate(&server, request.bytes, request.length, &from, 0, words)
+            != STUNP_UNAUTHORIZED)
+            fail("no record");
     }
 }
 
-/* The longest pause until all records were looked at once: by so many at once, or by one call where it is 0. */
+/* The longest pause until all records were looked at once: by so many at once, or by one call where
+ * it is 0. */
 static double longest_pause(uint64_t now, size_t at_once) {
     stunp_address next = {{0}, 0, 0};
     double longest = 0;
     int64_t more = 1;
     while (more == 1) {
         double begun = microseconds();
-        more = at_once == 0 ? stunp_server_forget_expired(&server, now) : stunp_server_forget_expired_within(&server, now, &next, at_once);
+        more = at_once == 0 ? stunp_server_forget_expired(&server, now)
+            : stunp_server_forget_expired_within(&server, now, &next, at_once);
         double took = microseconds() - begun;
         if (took > longest) longest = took;
     }
@@ -232,7 +253,8 @@ static void print_pauses(uint32_t size, size_t at_once) {
     stunp_server_new(&server, "realm", 5);
     const uint64_t moments[] = {0, FOREVER}; /* all are kept, all are forgotten */
     for (int i = 0; i < 2; i++)
-        printf("%.0f %.0f\n", least_pause(size, moments[i], 0), least_pause(size, moments[i], at_once));
+        printf("%.0f %.0f\n", least_pause(size, moments[i], 0),
+               least_pause(size, moments[i], at_once));
     stunp_server_free(&server);
 }
 
@@ -245,15 +267,19 @@ static enum call named(const char *name) {
 
 static void prepare(enum call call, uint32_t size) {
     switch (call) {
-    case VALIDATES_SHA1: case PARSES_SHA1: case ANSWERS_SHA1: case ASKS_SHA1: prepare_server(size, false); break;
-    case VALIDATES_SHA256: case PARSES_SHA256: case ANSWERS_SHA256: case ASKS_SHA256: prepare_server(size, true); break;
+    case VALIDATES_SHA1: case PARSES_SHA1: case ANSWERS_SHA1: case ASKS_SHA1:
+        prepare_server(size, false); break;
+    case VALIDATES_SHA256: case PARSES_SHA256: case ANSWERS_SHA256: case ASKS_SHA256:
+        prepare_server(size, true); break;
     case VERIFIES:
         signed_request = message_of(STUNP_REQUEST, 2);
         signed_request.length = (size_t)stunp_sign(signed_request.bytes, 512, 20, STUNP_SHA1,
             "pass", 4);
         break;
     default:
-        prepare_agent(size, call == ENDS_ONE ? 1 : 7, call == RESPONDS ? STUNP_SUCCESS : STUNP_REQUEST, call == SENDS_LAST ? size : 0);
+        prepare_agent(size, call == ENDS_ONE ? 1 : 7,
+                      call == RESPONDS ? STUNP_SUCCESS : STUNP_REQUEST,
+                      call == SENDS_LAST ? size : 0);
     }
 }
 
@@ -270,7 +296,8 @@ static bool is_done(enum call call, uint32_t size, uint32_t turn) {
 
 int main(int count, char **arguments) {
     if (count != 4) fail("usage: state CALL SIZE TIMES | state pauses SIZE AT_ONCE");
-    uint32_t size = (uint32_t)strtoul(arguments[2], NULL, 10), times = (uint32_t)strtoul(arguments[3], NULL, 10), done = 0;
+    uint32_t size = (uint32_t)strtoul(arguments[2], NULL, 10);
+    uint32_t times = (uint32_t)strtoul(arguments[3], NULL, 10), done = 0;
     if (strcmp(arguments[1], "pauses") == 0) {
         print_pauses(size, times);
         return 0;

@@ -3,13 +3,16 @@
 
     bench/state.py [--size N] [--exported]
 
-A row makes its call 10 and 50 times, once in crates/bench_agent and once in bench/state.c, which does the same over the archives, and
-the difference of the two runs, through 40, is one call: instructions by callgrind. Both figures hold some 20 to 50 instructions of
-their loops. A call through C parses its message; where the library's call is handed a parsed one, the cost of stunp_parse is added to
-it. N is the number of outstanding requests, or of users and addresses: 1000 unless said. A signing is counted through C alone, with
-its allocations. Last come the pauses of a server of 100,000 records that forgets: microseconds of processor, by one call and by the
-longest of calls that look at 256 records. It needs a C compiler and valgrind; the first run proves what has changed. With --exported it
-takes the archive of the exported crate (tools/rust_c.sh), proves nothing, and leaves out what is beside the library.
+A row makes its call 10 and 50 times, once in crates/bench_agent and once in bench/state.c, which
+does the same over the archives. The difference of the two runs, through 40, is one call:
+instructions by callgrind. Both figures hold some 20 to 50 instructions of their loops. A call
+through C parses its message; where the library's call is handed a parsed one, the cost of
+stunp_parse is added to it. N is the number of outstanding requests, or of users and addresses: 1000
+unless said. A signing is counted through C alone, with its allocations. Last come the pauses of a
+server of 100,000 records that forgets. They are microseconds of processor, by one call and by the
+longest of calls that look at 256 records. It needs a C compiler and valgrind; the first run proves
+what has changed. With --exported it takes the archive of the exported crate (tools/rust_c.sh),
+proves nothing, and leaves out what is beside the library.
 """
 
 import argparse
@@ -24,7 +27,8 @@ TOP = os.path.dirname(HERE)
 LIBRARY = os.path.join(TOP, "crates", "bench_agent", "out", "bench_agent")
 FEW, MANY, BAR = 10, 50, 150
 
-# malloc keeps no block in its fast bins: else all of them are gathered in whichever call next asks for a large one.
+# malloc keeps no block in its fast bins: else all of them are gathered in whichever call next asks
+# for a large one.
 ENVIRONMENT = dict(os.environ, GLIBC_TUNABLES="glibc.malloc.mxfast=0")
 
 # The row of both programs, its title, and the row of what the library's call leaves to its caller.
@@ -61,7 +65,8 @@ PAUSES = ["all records are kept", "all records are forgotten"]
 def done(words, **how):
     """Runs a command; where it fails, prints it with its output and ends."""
     began = time.monotonic()
-    ran = subprocess.run(words, stdin=subprocess.DEVNULL, stdout=subprocess.PIPE, stderr=subprocess.STDOUT, text=True, **how)
+    ran = subprocess.run(words, stdin=subprocess.DEVNULL, stdout=subprocess.PIPE,
+                         stderr=subprocess.STDOUT, text=True, **how)
     if ran.returncode:
         sys.stdout.write(ran.stdout)
         sys.exit(f"bench: status {ran.returncode}: {' '.join(words)}")
@@ -70,16 +75,19 @@ def done(words, **how):
 
 def instructions(program, call, size, times):
     with tempfile.TemporaryDirectory() as room:
-        words = ["valgrind", "--tool=callgrind", f"--callgrind-out-file={room}/counts", program, call, str(size), str(times)]
+        words = ["valgrind", "--tool=callgrind", f"--callgrind-out-file={room}/counts", program,
+                 call, str(size), str(times)]
         printed, _ = done(words, env=ENVIRONMENT)
         if f"{times}\n" not in printed.splitlines(keepends=True):
             sys.exit(f"bench: not each call did its work: {' '.join(words)}\n{printed}")
         with open(f"{room}/counts") as lines:
-            return next(int(line.split()[1]) for line in lines if line.startswith(("summary:", "totals:")))
+            return next(int(line.split()[1]) for line in lines
+                        if line.startswith(("summary:", "totals:")))
 
 
 def cost(program, call, size):
-    return (instructions(program, call, size, MANY) - instructions(program, call, size, FEW)) / (MANY - FEW)
+    return (instructions(program, call, size, MANY)
+            - instructions(program, call, size, FEW)) / (MANY - FEW)
 
 
 def allocations(program, call, size):
@@ -94,38 +102,48 @@ def archives():
         _, seconds = done(["rt", "lib"], cwd=folder)
         print(f"rt lib in crates/{name}: {seconds:.0f} s", file=sys.stderr)
         yield os.path.join(folder, "out", f"lib{name}.a")
-    _, seconds = done(["rt", "run", "--", "poll", "1", "1"], cwd=os.path.dirname(os.path.dirname(LIBRARY)))
+    _, seconds = done(["rt", "run", "--", "poll", "1", "1"],
+                      cwd=os.path.dirname(os.path.dirname(LIBRARY)))
     print(f"rt run in crates/bench_agent: {seconds:.0f} s", file=sys.stderr)
 
 
 def build(room, is_exported):
     """The program over the archives."""
-    over = [os.path.join(TOP, "target", "c", "libstunp-program.a")] if is_exported else list(archives())
+    if is_exported:
+        over = [os.path.join(TOP, "target", "c", "libstunp-program.a")]
+    else:
+        over = list(archives())
     source = os.path.join(HERE, "state.c")
     program = os.path.join(room, "state")
     compiler = os.environ.get("CC", "cc")
-    done([compiler, "-std=c99", "-O2", "-Wall", "-Wextra", "-Werror", "-I" + os.path.join(TOP, "include"), source] + over + ["-o", program])
+    flags = ["-std=c99", "-O2", "-Wall", "-Wextra", "-Werror", "-I" + os.path.join(TOP, "include")]
+    done([compiler, *flags, source, *over, "-o", program])
     return program
 
 
 def beside_the_library(program, size):
-    print(f"| Call, of {size:,} | the library | through C | more | at most |\n|---|---|---|---|---|")
+    print(f"| Call, of {size:,} | the library | through C | more | at most |")
+    print("|---|---|---|---|---|")
     for call, title, parsing in ROWS:
-        library = cost(LIBRARY, WRAPPED.get(call, call), size) + (cost(program, parsing, size) if parsing else 0)
+        library = cost(LIBRARY, WRAPPED.get(call, call), size)
+        library += cost(program, parsing, size) if parsing else 0
         through = cost(program, call, size)
-        print(f"| {title} | {library:,.0f} | {through:,.0f} | {through - library:,.0f} | {BAR} |", flush=True)
+        print(f"| {title} | {library:,.0f} | {through:,.0f} | {through - library:,.0f} | {BAR} |",
+              flush=True)
     print()
 
 
 def alone(program, size):
     print("| Call, through C | instructions | allocations |\n|---|---|---|")
     for call, title in ALONE:
-        print(f"| {title} | {cost(program, call, size):,.0f} | {allocations(program, call, size):g} |", flush=True)
+        print(f"| {title} | {cost(program, call, size):,.0f} | "
+              f"{allocations(program, call, size):g} |", flush=True)
 
 
 def pauses(program):
     printed, _ = done([program, "pauses", str(RECORDS), str(AT_ONCE)], env=ENVIRONMENT)
-    print(f"\n| Longest pause at {RECORDS:,} records, µs | `forget_expired` | `forget_expired_within`, {AT_ONCE} at once |\n|---|---|---|")
+    print(f"\n| Longest pause at {RECORDS:,} records, µs | `forget_expired` | "
+          f"`forget_expired_within`, {AT_ONCE} at once |\n|---|---|---|")
     for title, line in zip(PAUSES, printed.splitlines()):
         print(f"| {title} | " + " | ".join(f"{int(time):,}" for time in line.split()) + " |")
 

@@ -1,8 +1,9 @@
 #!/bin/sh
-# Builds the archives and the examples against them, and compares what they print; and installs the archives into a scratch folder
-# and builds over that (tests/install.sh). What the archives answer tests/check.sh tests.
-# Where STUN_C and STUN_STATE name other archives, as libstunp.a and libstunp-program.a of tools/rust_c.sh, nothing is proved. Without a C
-# compiler and make it checks nothing. The last line says what was checked.
+# Builds the archives and the examples against them, and compares what they print. It installs the
+# archives into a scratch folder and builds over that (tests/install.sh). What the archives answer
+# tests/check.sh tests. Where STUN_C and STUN_STATE name other archives, as libstunp.a and
+# libstunp-program.a of tools/rust_c.sh, nothing is proved. Without a C compiler and make it checks
+# nothing. The last line says what was checked.
 set -eu
 cd "$(dirname "$0")"
 python3 ../bench/bars.py >/dev/null # the tables of bench/README.md have the bars of the programs
@@ -19,7 +20,8 @@ if [ -z "${STUN_C-}" ] || [ -z "${STUN_STATE-}" ]; then
             exit 1
         fi
     done
-    STUN_C=$PWD/../crates/stun_c/out/libstun_c.a STUN_STATE=$PWD/../crates/stun_state/out/libstun_state.a
+    STUN_C=$PWD/../crates/stun_c/out/libstun_c.a
+    STUN_STATE=$PWD/../crates/stun_state/out/libstun_state.a
 fi
 export STUN_C STUN_STATE
 
@@ -40,7 +42,13 @@ make -s -C c CC="${CC:-cc}" LIBRARY="$STUN_C" STATE="$STUN_STATE"
 password='VOkJxbRl1RmTxUk/WvJxBt'
 
 # The request of RFC 5769, section 2.1, without white space.
-printf '\000\001\000\130\041\022\244\102\267\347\247\001\274\064\326\206\372\207\337\256\200\042\000\020STUN test client\000\044\000\004\156\000\001\377\200\051\000\010\223\057\371\261\121\046\073\066\000\006\000\011evtj:h6vY   \000\010\000\024\232\352\247\014\277\330\313\126\170\036\362\265\262\323\362\111\301\265\161\242\200\050\000\004\345\172\073\317' >"$scratch/sample"
+{
+    printf '\000\001\000\130\041\022\244\102\267\347\247\001\274\064\326\206\372\207\337\256'
+    printf '\200\042\000\020STUN test client\000\044\000\004\156\000\001\377'
+    printf '\200\051\000\010\223\057\371\261\121\046\073\066\000\006\000\011evtj:h6vY   '
+    printf '\000\010\000\024\232\352\247\014\277\330\313\126\170\036\362\265\262\323\362\111'
+    printf '\301\265\161\242\200\050\000\004\345\172\073\317'
+} >"$scratch/sample"
 expect 'valid MESSAGE-INTEGRITY' c/out/verify "$password" <"$scratch/sample"
 expect 'invalid' c/out/verify 'another password' <"$scratch/sample"
 expect 'not a message' c/out/verify "$password" </dev/null
@@ -54,17 +62,19 @@ checked='C'
 # The wrapper for C++17, under sanitizers where the compiler has them.
 if "${CXX:-c++}" --version >/dev/null 2>&1; then
     sanitized='-fsanitize=address,undefined -fno-sanitize-recover=all'
-    echo 'int main() {}' | "${CXX:-c++}" $sanitized -x c++ - -o "$scratch/empty" 2>/dev/null || sanitized=''
+    echo 'int main() {}' | "${CXX:-c++}" $sanitized -x c++ - -o "$scratch/empty" 2>/dev/null ||
+        sanitized=''
     "${CC:-cc}" -O1 -I../include -c c/heap.c -o "$scratch/heap.o"
-    "${CXX:-c++}" -std=c++17 -Wall -Wextra -Wpedantic -Werror $sanitized -I../include cpp/check.cpp "$scratch/heap.o" \
-        "$STUN_STATE" "$STUN_C" -o "$scratch/wrapped"
+    "${CXX:-c++}" -std=c++17 -Wall -Wextra -Wpedantic -Werror $sanitized -I../include \
+        cpp/check.cpp "$scratch/heap.o" "$STUN_STATE" "$STUN_C" -o "$scratch/wrapped"
     "$scratch/wrapped" >"$scratch/said"
     cmp "$scratch/said" cpp/check.txt
     checked='C, C++'
 fi
 
 # The example for Rust is of edition 2024.
-if echo 'fn main() {}' | rustc --edition 2024 --emit metadata -o "$scratch/probe" - >/dev/null 2>&1; then
+if echo 'fn main() {}' |
+    rustc --edition 2024 --emit metadata -o "$scratch/probe" - >/dev/null 2>&1; then
     mkdir "$scratch/libraries"
     cp "$STUN_C" "$scratch/libraries/libstun_c.a"
     rustc --edition 2024 -O rust/main.rs -L "$scratch/libraries" -o "$scratch/main"
@@ -79,9 +89,12 @@ if ! ../tests/install.sh >"$scratch/install" 2>&1; then
 fi
 checked="$checked; $(tail -n 1 "$scratch/install")"
 
-# The programs on UDP sockets against each other, and those of the exported crate where `make rust` built them, where a datagram can be
-# sent.
-loopback='import socket; s = socket.socket(socket.AF_INET, socket.SOCK_DGRAM); s.bind(("127.0.0.1", 0)); s.settimeout(5)
+# The programs on UDP sockets against each other, and those of the exported crate where `make rust`
+# built them, where a datagram can be sent.
+loopback='import socket
+s = socket.socket(socket.AF_INET, socket.SOCK_DGRAM)
+s.bind(("127.0.0.1", 0))
+s.settimeout(5)
 s.sendto(b"x", s.getsockname()); s.recv(1)'
 if python3 -c "$loopback" >/dev/null 2>&1; then
     set --
@@ -89,15 +102,21 @@ if python3 -c "$loopback" >/dev/null 2>&1; then
         built="../target/export/target/debug/examples/udp_$one"
         if [ -x "$built" ]; then set -- "$@" "--$one" "$built"; fi
     done
-    # Once more where a case failed: a machine that is very busy may hold a datagram for longer than a case waits.
-    if ! python3 udp/check.py "$@" >"$scratch/udp" 2>&1 && ! { cat "$scratch/udp" >&2 && python3 udp/check.py "$@" >"$scratch/udp" 2>&1; }; then
+    # Once more where a case failed: a machine that is very busy may hold a datagram for longer than
+    # a case waits.
+    udp() { python3 udp/check.py "$@" >"$scratch/udp" 2>&1; }
+    if ! udp "$@" && ! { cat "$scratch/udp" >&2 && udp "$@"; }; then
         cat "$scratch/udp" >&2
         exit 1
     fi
     checked="$checked; $(tail -n 1 "$scratch/udp")"
-    # Three servers behind one address, and a server with several networks, where network namespaces can be made; once more for
-    # the same reason.
-    twice() { python3 "$@" >"$scratch/twice" 2>&1 || { cat "$scratch/twice" >&2 && python3 "$@" >"$scratch/twice" 2>&1; } || { cat "$scratch/twice" >&2 && exit 1; }; }
+    # Three servers behind one address, and a server with several networks, where network namespaces
+    # can be made; once more for the same reason.
+    once() { python3 "$@" >"$scratch/twice" 2>&1; }
+    twice() {
+        once "$@" || { cat "$scratch/twice" >&2 && once "$@"; } ||
+            { cat "$scratch/twice" >&2 && exit 1; }
+    }
     twice udp/shards.py
     checked="$checked; $(tail -n 1 "$scratch/twice")"
     twice udp/ways.py "$@"

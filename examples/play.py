@@ -1,41 +1,57 @@
-r"""Plays transcripts of a built program: text files that say with which words it runs, what it reads, prints and ends with.
+r"""Plays transcripts of a built program: text files that say with which words it runs, what it
+reads, prints and ends with.
 
-A file is paragraphs, parted by empty lines. A paragraph is a run of the program. Its lines begin with
+A file is paragraphs, parted by empty lines. A paragraph is a run of the program. Its lines begin
+with
 
     #        a comment
-    $        the words after the program's name, parted by blanks; '' is an empty word. A paragraph without such a line has the
-             words of the one before it, and one with several is a run for each
+    $        the words after the program's name, parted by blanks; '' is an empty word. A paragraph
+             without such a line has the words of the one before it, and one with several is a run
+             for each
     <        a line of input; a \ at its end: no line feed comes after it
-    <|       an input that is one line without a line feed; a paragraph with several is a run for each
+    <|       an input that is one line without a line feed; a paragraph with several is a run for
+             each
     >        a line that is printed
     !        a line on the standard error
     =        the exit status, where it is not 0
-    where    what fails in this run, below; a paragraph of such lines alone says it of all that follow and have none
+    where    what fails in this run, below; a paragraph of such lines alone says it of all that
+             follow and have none
 
-`<*5 LINE` and `>*5 LINE` stand for the line five times, with the numbers 0 to 4 in place of its #. In words, input and output
-`{0*100}` stands for 100 zeros, and `{request NONCE=n REALM=r USERNAME=u MI=u:r:p}` for the hexadecimal digits of that message.
-In words and input \t \r \n \f \v \0 \s \\ stand for a tab, a carriage return, a line feed, a form feed, a vertical tab, a zero, a
-blank and a \, and \xff for that byte.
+`<*5 LINE` and `>*5 LINE` stand for the line five times, with the numbers 0 to 4 in place of its #.
+In words, input and output `{0*100}` stands for 100 zeros, and `{request NONCE=n REALM=r USERNAME=u
+MI=u:r:p}` for the hexadecimal digits of that message. In words and input \t \r \n \f \v \0 \s \\
+stand for a tab, a carriage return, a line feed, a form feed, a vertical tab, a zero, a blank and a
+\. \xff stands for that byte.
 
-A message is a class, `request`, `indication`, `success` or `error`, and attributes TYPE=VALUE in order. TYPE is a name of RFC 8489,
-or `0x` and four digits; VALUE is a text, `a*764` for 764 letters, nothing, or `0x` and digits, and of `ERROR-CODE` a code and a phrase,
-of `PASSWORD-ALGORITHM` and `PASSWORD-ALGORITHMS` the algorithms `MD5` and `SHA256`, of `USERHASH` `user:realm`. `MI` and `MI256` are
-MESSAGE-INTEGRITY and MESSAGE-INTEGRITY-SHA256: a digest under a password, `user:realm:password` or `key:HEX`, over what stands before
-it. ID is the number of the transaction, 1 where it is left out.
+A message is a class, `request`, `indication`, `success` or `error`, and attributes TYPE=VALUE in
+order. TYPE is a name of RFC 8489, or `0x` and four digits. VALUE is a text, `a*764` for 764
+letters, nothing, or `0x` and digits. Of `ERROR-CODE` it is a code and a phrase, of `USERHASH`
+`user:realm`. Of `PASSWORD-ALGORITHM` and `PASSWORD-ALGORITHMS` it is the algorithms `MD5` and
+`SHA256`. `MI` and `MI256` are MESSAGE-INTEGRITY and MESSAGE-INTEGRITY-SHA256: a digest under a
+password, `user:realm:password` or `key:HEX`, over what stands before it. ID is the number of the
+transaction, 1 where it is left out.
 
-    where stdout full | closed | broken       writes to /dev/full, to no descriptor, to a pipe that nobody reads
+    where stdout full | closed | broken       writes to /dev/full, to no descriptor, to a pipe that
+                                              nobody reads
     where stderr full | closed
     where stdin closed | folder | write-only | endless      endless: /dev/zero
-    where stdin unread                        a file whose first byte is still to be read when the program ends
-    where slow                                a read gives one byte, every second read is interrupted, and a write takes one byte
-    where reads fail after FIRST..LAST        reads are slow, and fail after each of these numbers of bytes
-    where reads endless | interrupted         each gives a digit 0, or is interrupted, and there are 1048576
-    where writes fail | stop | stall          a write takes one byte, up to each number of bytes that is less than all, and then fails,
-                                              takes nothing, or is interrupted without an end: that beginning is printed
+    where stdin unread                        a file whose first byte is still to be read when the
+                                              program ends
+    where slow                                a read gives one byte, every second read is
+                                              interrupted, and a write takes one byte
+    where reads fail after FIRST..LAST        reads are slow, and fail after each of these numbers
+                                              of bytes
+    where reads endless | interrupted         each gives a digit 0, or is interrupted, and there are
+                                              1048576
+    where writes fail | stop | stall          a write takes one byte, up to each number of bytes
+                                              that is less than all, and then fails, takes nothing,
+                                              or is interrupted without an end: that beginning is
+                                              printed
     where allocations refused [slow]          each in turn, and each with all after it
 
-Where there are several, each is a run. The last five load `strain.c` before the C library, and need a C compiler. A run that ends for
-want of memory has the status and the errors that `on_failure` names, or no errors, and has printed whole lines from the first on.
+Where there are several, each is a run. The last five load `strain.c` before the C library, and need
+a C compiler. A run that ends for want of memory has the status and the errors that `on_failure`
+names, or no errors. It has printed whole lines from the first on.
 """
 
 import concurrent.futures
@@ -54,8 +70,9 @@ MOST_READS = 1048576
 
 CLASSES = {"request": 0x0001, "indication": 0x0011, "success": 0x0101, "error": 0x0111}
 TYPES = {
-    "USERNAME": 0x0006, "MI": 0x0008, "ERROR-CODE": 0x0009, "REALM": 0x0014, "NONCE": 0x0015, "MI256": 0x001C, "PASSWORD-ALGORITHM": 0x001D,
-    "USERHASH": 0x001E, "SOFTWARE": 0x8022, "PASSWORD-ALGORITHMS": 0x8002, "FINGERPRINT": 0x8028,
+    "USERNAME": 0x0006, "MI": 0x0008, "ERROR-CODE": 0x0009, "REALM": 0x0014, "NONCE": 0x0015,
+    "MI256": 0x001C, "PASSWORD-ALGORITHM": 0x001D, "USERHASH": 0x001E, "SOFTWARE": 0x8022,
+    "PASSWORD-ALGORITHMS": 0x8002, "FINGERPRINT": 0x8028,
 }
 ALGORITHMS = {"MD5": bytes.fromhex("00010000"), "SHA256": bytes.fromhex("00020000"), "": b""}
 
@@ -74,7 +91,9 @@ def key_of(digest, secret):
     if secret.startswith("key:"):
         return bytes.fromhex(secret[4:])
     secret, is_long_term = secret.encode(), secret.count(":") == 2
-    return hashlib.new("md5" if digest == "sha1" else digest, secret).digest() if is_long_term else secret
+    if not is_long_term:
+        return secret
+    return hashlib.new("md5" if digest == "sha1" else digest, secret).digest()
 
 
 def value_of(name, text):
@@ -103,27 +122,35 @@ def message(text):
         digest = {"MI": "sha1", "MI256": "sha256"}.get(name)
         if digest and not value.startswith("0x"):
             size = hashlib.new(digest).digest_size
-            head = struct.pack(">HHI", CLASSES[kind], len(body) + 4 + size, 0x2112A442) + number.to_bytes(12, "big")
-            body += attribute(TYPES[name], hmac.new(key_of(digest, value), head + body, digest).digest())
+            head = struct.pack(">HHI", CLASSES[kind], len(body) + 4 + size,
+                               0x2112A442) + number.to_bytes(12, "big")
+            body += attribute(TYPES[name],
+                              hmac.new(key_of(digest, value), head + body, digest).digest())
         else:
-            body += attribute(TYPES[name] if name in TYPES else int(name, 16), value_of(name, value))
-    return struct.pack(">HHI", CLASSES[kind], len(body), 0x2112A442) + number.to_bytes(12, "big") + body
+            body += attribute(TYPES[name] if name in TYPES else int(name, 16),
+                              value_of(name, value))
+    return struct.pack(">HHI", CLASSES[kind], len(body),
+                       0x2112A442) + number.to_bytes(12, "big") + body
 
 
 # Files.
 
 def expanded(text):
     """A text with what its braces stand for."""
-    text = re.sub(r"\{((?:request|indication|success|error)(?: [^{}]*)?)\}", lambda found: message(found[1]).hex(), text)
+    text = re.sub(r"\{((?:request|indication|success|error)(?: [^{}]*)?)\}",
+                  lambda found: message(found[1]).hex(), text)
     return re.sub(r"\{([^{}]+)\*(\d+)\}", lambda found: found[1] * int(found[2]), text)
 
 
-ESCAPES = {"t": b"\t", "r": b"\r", "n": b"\n", "f": b"\f", "v": b"\v", "0": b"\0", "s": b" ", "\\": b"\\"}
+ESCAPES = {"t": b"\t", "r": b"\r", "n": b"\n", "f": b"\f", "v": b"\v", "0": b"\0", "s": b" ",
+           "\\": b"\\"}
 
 
 def unescaped(text):
     parts = re.split(r"\\(x[0-9a-f]{2}|.)", text)
-    return b"".join(part.encode() if place % 2 == 0 else bytes.fromhex(part[1:]) if part[0] == "x" else ESCAPES[part]
+    def escape(part):
+        return bytes.fromhex(part[1:]) if part[0] == "x" else ESCAPES[part]
+    return b"".join(escape(part) if place % 2 else part.encode()
                     for place, part in enumerate(parts))
 
 
@@ -152,9 +179,11 @@ class Paragraph:
         repeated = re.match(r"[<>]\*(\d+) ", line)
         lines = [text]
         if repeated:
-            lines = [line[repeated.end():].replace("#", str(number)) for number in range(int(repeated[1]))]
+            lines = [line[repeated.end():].replace("#", str(number))
+                     for number in range(int(repeated[1]))]
         if mark == "$":
-            self.words.append([unescaped("" if word == "''" else word) for word in expanded(text).split(" ")] if text else [])
+            self.words.append([unescaped("" if word == "''" else word)
+                               for word in expanded(text).split(" ")] if text else [])
         elif line.startswith("<|"):
             self.inputs.append(unescaped(expanded(line[3:])))
         elif mark == "<":
@@ -206,8 +235,10 @@ def runs_of(path):
 
 class Program:
     def __init__(self, path, on_failure):
-        """The program, and the status and the lines on the standard error with which it ends where memory is refused."""
-        self.path, self.on_failure, self.count, self.library = os.path.abspath(path), on_failure, 0, None
+        """The program, and the status and the lines on the standard error with which it ends where
+        memory is refused."""
+        self.path, self.on_failure = os.path.abspath(path), on_failure
+        self.count, self.library = 0, None
 
     def run(self, run, environment=None, shell=(), **how):
         self.count += 1
@@ -215,15 +246,18 @@ class Program:
             given.write(run.given)
             given.flush()
             given.seek(0)
-            how = {"stdin": given, "stdout": subprocess.PIPE, "stderr": subprocess.PIPE, "timeout": 120, **how}
+            how = {"stdin": given, "stdout": subprocess.PIPE, "stderr": subprocess.PIPE,
+                   "timeout": 120, **how}
             command = [*shell, self.path.encode(), *run.words]
             ran = subprocess.run(command, env={**os.environ, **(environment or {})}, **how)
         return ran.returncode, ran.stdout or b"", ran.stderr or b""
 
     def strained(self, run, **how):
-        """A run with reads, writes or allocations that `strain.c` makes otherwise; what it counted comes last."""
+        """A run with reads, writes or allocations that `strain.c` makes otherwise; what it counted
+        comes last."""
         with tempfile.NamedTemporaryFile() as told:
-            environment = {"LD_PRELOAD": self.library, "STRAIN_TOLD": told.name, **{f"STRAIN_{name}": str(value) for name, value in how.items()}}
+            environment = {"LD_PRELOAD": self.library, "STRAIN_TOLD": told.name,
+                           **{f"STRAIN_{name}": str(value) for name, value in how.items()}}
             status, printed, errors = self.run(run, environment)
             reads, allocations = map(int, told.read().split() or (0, 0))
         return (status, printed, errors), reads, allocations
@@ -231,7 +265,8 @@ class Program:
 
 def compare(what, wanted, ran):
     if wanted != ran:
-        raise Wrong(f"{what}\n  wanted status {wanted[0]}, {wanted[1][-2000:]!r} and {wanted[2][:600]!r}"
+        raise Wrong(f"{what}\n  wanted status {wanted[0]}, {wanted[1][-2000:]!r} and "
+                    f"{wanted[2][:600]!r}"
                     f"\n  got status {ran[0]}, {ran[1][-2000:]!r} and {ran[2][:600]!r}")
 
 
@@ -239,7 +274,8 @@ def with_streams(program, run, stream, state):
     """A run whose standard input, output or error is of this kind."""
     number = {"stdin": 0, "stdout": 1, "stderr": 2}[stream]
     if state == "closed":
-        return program.run(run, shell=["sh", "-c", 'exec "$0" "$@" ' + ("<&-", ">&-", "2>&-")[number]], **{stream: None})
+        closing = 'exec "$0" "$@" ' + ("<&-", ">&-", "2>&-")[number]
+        return program.run(run, shell=["sh", "-c", closing], **{stream: None})
     if state == "broken":
         reader, writer = os.pipe()
         os.close(reader)
@@ -251,7 +287,8 @@ def with_streams(program, run, stream, state):
         ran = program.run(run, **{stream: folder})
         os.close(folder)
         return ran
-    path, mode = {"full": ("/dev/full", "wb"), "write-only": (os.devnull, "wb"), "endless": ("/dev/zero", "rb")}[state]
+    path, mode = {"full": ("/dev/full", "wb"), "write-only": (os.devnull, "wb"),
+                  "endless": ("/dev/zero", "rb")}[state]
     with open(path, mode) as opened:
         return program.run(run, **{stream: opened})
 
@@ -273,11 +310,13 @@ def play_strained(program, what, run, wanted, words):
         return
     kind, state = words[0], words[1:2]
     if kind == "slow":
-        compare(what, wanted, program.strained(run, READS="slow", WRITES="fail", WRITE_LEFT=1 << 40)[0])
+        compare(what, wanted,
+                program.strained(run, READS="slow", WRITES="fail", WRITE_LEFT=1 << 40)[0])
     elif kind == "reads" and state == ["fail"]:
         first, last = map(int, words[3].split(".."))
         for left in range(first, last + 1):
-            compare(f"{what}: reads fail after {left} bytes", wanted, program.strained(run, READS="slow", READ_LEFT=left)[0])
+            compare(f"{what}: reads fail after {left} bytes", wanted,
+                    program.strained(run, READS="slow", READ_LEFT=left)[0])
     elif kind == "reads":
         ran, reads, _ = program.strained(run, READS=state[0])
         compare(what, wanted, ran)
@@ -286,14 +325,15 @@ def play_strained(program, what, run, wanted, words):
     elif kind == "writes":
         for left in range(len(run.printed)):
             beginning = (wanted[0], run.printed[:left], wanted[2])
-            compare(f"{what}: writes {state[0]} after {left} bytes", beginning, program.strained(run, WRITES=state[0], WRITE_LEFT=left)[0])
+            compare(f"{what}: writes {state[0]} after {left} bytes", beginning,
+                    program.strained(run, WRITES=state[0], WRITE_LEFT=left)[0])
     else:
         refuse(program, what, run, wanted, {"READS": "slow"} if words[2:] == ["slow"] else {})
 
 
 def refuse(program, what, run, wanted, how):
-    """Refuses each allocation in turn: a list that asks for more than it needs asks again for less, so one refusal need not end a run;
-    a refusal of all from one on does."""
+    """Refuses each allocation in turn: a list that asks for more than it needs asks again for less,
+    so one refusal need not end a run; a refusal of all from one on does."""
     def is_cut(first, last):
         ran = program.strained(run, REFUSED_FROM=first, REFUSED_TO=last, **how)[0]
         if ran == wanted:
@@ -301,8 +341,10 @@ def refuse(program, what, run, wanted, how):
         status, errors = program.on_failure
         # What was told of a capture before may be counted in a last line.
         told = re.sub(rb"(\A|\n)messages: [^\n]*\n\Z", rb"\1", ran[1])
-        if ran[0] != status or ran[2] not in (b"", errors) or not wanted[1].startswith(told) or ran[1][-1:] not in (b"", b"\n"):
-            compare(f"{what}: allocations {first} to {last} refused", (status, b"a beginning", errors), ran)
+        is_beginning = wanted[1].startswith(told) and ran[1][-1:] in (b"", b"\n")
+        if ran[0] != status or ran[2] not in (b"", errors) or not is_beginning:
+            compare(f"{what}: allocations {first} to {last} refused",
+                    (status, b"a beginning", errors), ran)
         return True
     ran, _, count = program.strained(run, **how)
     compare(what, wanted, ran)
@@ -326,7 +368,9 @@ def play_run(program, what, run):
     if not strains and not streams:
         compare(what, wanted, program.run(run))
     for stream, state in streams:
-        compare(f"{what}: where {stream} {state}", wanted, unread(program, run) if state == "unread" else with_streams(program, run, stream, state))
+        is_unread = state == "unread"
+        ran = unread(program, run) if is_unread else with_streams(program, run, stream, state)
+        compare(f"{what}: where {stream} {state}", wanted, ran)
 
 
 def strain_library(folder):
@@ -335,7 +379,8 @@ def strain_library(folder):
     if not shutil.which(compiler):
         return None
     library = os.path.join(folder, "strain.so")
-    command = [compiler, "-shared", "-fPIC", "-O1", "-Wall", "-Wextra", "-Werror", os.path.join(HERE, "strain.c"), "-o", library, "-ldl"]
+    command = [compiler, "-shared", "-fPIC", "-O1", "-Wall", "-Wextra", "-Werror",
+               os.path.join(HERE, "strain.c"), "-o", library, "-ldl"]
     subprocess.run(command, check=True)
     return library
 
@@ -346,16 +391,19 @@ def play(program, paths):
     with tempfile.TemporaryDirectory() as folder, concurrent.futures.ThreadPoolExecutor(4) as pool:
         program.library = strain_library(folder)
         if program.library is None:
-            print(f"{os.path.basename(program.path)}: no C compiler, so no read, write or allocation was made to fail by its number")
+            print(f"{os.path.basename(program.path)}: no C compiler, so no read, write or "
+                  "allocation was made to fail by its number")
         begun = []
         for path in paths:
             for number, run in runs_of(path):
-                what = f"{os.path.basename(path)}:{number}: {b' '.join(run.words)[:300].decode(errors='replace')}"
+                words = b" ".join(run.words)[:300].decode(errors="replace")
+                what = f"{os.path.basename(path)}:{number}: {words}"
                 begun.append((what, pool.submit(play_run, program, what, run)))
         for what, one in begun:
             try:
                 one.result()
             except (Wrong, OSError, subprocess.TimeoutExpired) as failure:
-                print(failure if str(failure).startswith(what) else f"{what}: {failure}", file=sys.stderr)
+                print(failure if str(failure).startswith(what) else f"{what}: {failure}",
+                      file=sys.stderr)
                 wrong += 1
     return wrong

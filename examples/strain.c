@@ -1,10 +1,14 @@
-/* Loaded before the C library (LD_PRELOAD), for glibc: reads and writes that give and take little, are interrupted or fail, and
- * allocations that are refused. What is done is in the environment:
- *   STRAIN_READS        slow: a read gives one byte, and every second is interrupted; after STRAIN_READ_LEFT bytes reads fail, where it
- *                       is given. endless: each gives a digit 0. interrupted: each is interrupted
- *   STRAIN_WRITES       a write takes one byte, up to STRAIN_WRITE_LEFT, and then fail, stop (takes nothing) or stall (is interrupted)
- *   STRAIN_REFUSED_FROM, STRAIN_REFUSED_TO    the numbers, from 1, of the first and the last allocation that is refused
- *   STRAIN_TOLD         a file in which the numbers of reads and of allocations are written at the end
+/* Loaded before the C library (LD_PRELOAD), for glibc: reads and writes that give and take little,
+ * are interrupted or fail, and allocations that are refused. What is done is in the environment:
+ *   STRAIN_READS        slow: a read gives one byte, and every second is interrupted; after
+ *                       STRAIN_READ_LEFT bytes reads fail, where it is given. endless: each gives a
+ *                       digit 0. interrupted: each is interrupted
+ *   STRAIN_WRITES       a write takes one byte, up to STRAIN_WRITE_LEFT, and then fail, stop (takes
+ *                       nothing) or stall (is interrupted)
+ *   STRAIN_REFUSED_FROM, STRAIN_REFUSED_TO
+ *                       the numbers, from 1, of the first and the last allocation that is refused
+ *   STRAIN_TOLD         a file in which the numbers of reads and of allocations are written at the
+ *                       end
  * Only the standard input is read so, and only the standard output written. */
 #define _GNU_SOURCE
 #include <dlfcn.h>
@@ -30,7 +34,9 @@ static long number(const char *name, long otherwise) {
 static int is_refused(void) {
     allocations++;
     if (!getenv("STRAIN_REFUSED_FROM")) return 0;
-    if (allocations < number("STRAIN_REFUSED_FROM", 0) || allocations > number("STRAIN_REFUSED_TO", 0)) return 0;
+    if (allocations < number("STRAIN_REFUSED_FROM", 0)
+        || allocations > number("STRAIN_REFUSED_TO", 0))
+        return 0;
     errno = ENOMEM;
     return 1;
 }

@@ -56,7 +56,8 @@ done
 # sanitizers COMPILER..: those that it has.
 sanitizers() {
     all='-fsanitize=address,undefined -fno-sanitize-recover=all'
-    echo 'int main(void) { return 0; }' | "$@" $all - -o "$scratch/empty" 2>/dev/null && echo "$all" || true
+    echo 'int main(void) { return 0; }' | "$@" $all - -o "$scratch/empty" 2>/dev/null &&
+        echo "$all" || true
 }
 
 # runs COMPILER..: whether what it builds runs.
@@ -69,23 +70,25 @@ c99="-std=c99 -D_DEFAULT_SOURCE -O1 -g $strict $(sanitizers "$cc" -x c)"
 
 # The transcripts, and each allocation refused.
 "$cc" $c99 c/play.c $heap $archives -o "$scratch/play"
-python3 play.py "$scratch/play" ../crates/transcripts/data/*.txt >"$scratch/played" || { cat "$scratch/played" >&2 && exit 1; }
+python3 play.py "$scratch/play" ../crates/transcripts/data/*.txt >"$scratch/played" ||
+    { cat "$scratch/played" >&2 && exit 1; }
 
-# What only C can pass, what strangers may send, many addresses, and the worked examples of both headers, without the comment
-# round them. No call of the archive without state wants memory: it is linked with none.
+# What only C can pass, what strangers may send, many addresses, and the worked examples of both
+# headers, without the comment round them. No call of the archive without state wants memory: it is
+# linked with none.
 sed -n 's/^ \*     //p; /\*\/$/q' ../include/stunp.h >"$scratch/answer.h"
 sed -n 's/^ \*     //p; /\*\/$/q' ../include/stunp_state.h >"$scratch/ask.h"
-for name in arguments extra; do
+for name in arguments attributes extra; do
     "$cc" $c99 c/$name.c $messages -o "$scratch/$name"
     passes $name "$scratch/$name"
 done
 passes refused env LIBRARIES="$system" ./refused.sh
-for name in handles hostile many worked; do
+for name in agents handles hostile many users worked; do
     "$cc" $c99 -Wno-conversion -I"$scratch" c/$name.c $heap $archives -o "$scratch/$name"
     passes $name "$scratch/$name"
 done
 if [ -n "$has_plus" ]; then
-    for name in arguments extra; do
+    for name in arguments attributes extra; do
         "$plus" $plus17 -x c++ c/$name.c -x none $messages -o "$scratch/$name"
         passes $name "$scratch/$name"
     done
@@ -95,7 +98,8 @@ fi
 
 # Handles that go from thread to thread, plain and under what finds races, where that is there.
 races=''
-threads="-std=c99 -D_DEFAULT_SOURCE -O1 -g $strict -Wno-conversion c/threads.c $heap $archives -pthread"
+threads="-std=c99 -D_DEFAULT_SOURCE -O1 -g $strict -Wno-conversion c/threads.c $heap $archives"
+threads="$threads -pthread"
 "$cc" $c99 -Wno-conversion c/threads.c $heap $archives -pthread -o "$scratch/threads"
 passes threads "$scratch/threads"
 if runs "$cc" -fsanitize=thread; then
@@ -129,7 +133,8 @@ neighbour libnice stun/stunagent.h LIBNICE $(flags nice)
 neighbour coturn turn/ns_turn_msg.h COTURN -lturnclient -lcrypto
 neighbour libre re.h LIBRE $(flags libre)
 
-# What strangers may send to each call: a few seconds of a fuzzer (fuzz/run.sh), or of mutations where there is none.
+# What strangers may send to each call: a few seconds of a fuzzer (fuzz/run.sh), or of mutations
+# where there is none.
 fuzz/run.sh 10 >"$scratch/fuzzed"
 
 # asks_for NAMES CRATE: its archive asks for nothing but these.

@@ -1,19 +1,22 @@
 #!/usr/bin/env python3
-"""play.py PLAY FILE ..: plays transcripts (docs/maintainers/TRANSCRIPTS.md) over the archives for C, by the program tests/c/play.c.
+"""play.py PLAY FILE ..: plays transcripts (docs/maintainers/TRANSCRIPTS.md) over the archives for
+C, by the program tests/c/play.c.
 
-Messages and their digests are spelled here (spelling.py), so they come from outside the library. Each answer is compared with
-the one that is written. Then each allocation of each line is refused, as crates/transcripts/src/refusing.rt does: the call says
-so; where it is made again all goes on as written, and where it is not, as in a play without its line; each play gives back all
-blocks.
+Messages and their digests are spelled here (spelling.py), so they come from outside the library.
+Each answer is compared with the one that is written. Then each allocation of each line is refused,
+as crates/transcripts/src/refusing.rt does, and the call says so. Where it is made again all goes on
+as written, and where it is not, as in a play without its line. Each play gives back all blocks.
 
-What the archives lack is left out, and counted: a call that only tells something alone, one that changes something with the rest
-of its paragraph. The last lines are these counts. The status is 1 where an answer is wrong."""
+What the archives lack is left out, and counted. A call that only tells something is left out alone,
+one that changes something with the rest of its paragraph. The last lines are these counts. The
+status is 1 where an answer is wrong."""
 
 import collections
 import sys
 
 from spelling import begins_with_digit
-from stage import APART, TELLING, Child, Left, Stage, fits, name_of
+from stage import APART, TELLING, Child, Left, Stage
+from wording import fits, name_of
 
 MOST_ALLOCATIONS = 400
 WITHOUT, REFUSED, AGAIN = range(3)
@@ -43,21 +46,26 @@ def called(call):
 
 
 def leaves_rest(left, call):
-    """Whether the rest of the paragraph is left out, too: the call changes what is played, or keeps a message."""
-    return str(left).split()[0] not in APART and str(left) not in TELLING or "=" in call.split()[1:3]
+    """Whether the rest of the paragraph is left out, too: the call changes what is played, or keeps
+    a message."""
+    is_change = str(left).split()[0] not in APART and str(left) not in TELLING
+    return is_change or "=" in call.split()[1:3]
 
 
 def told(answers):
-    return {at: str(answer) if isinstance(answer, Left) else answer.came for at, answer in answers.items()}
+    return {at: str(answer) if isinstance(answer, Left) else answer.came for at,
+            answer in answers.items()}
 
 
 class Transcript:
     def __init__(self, child, path):
         self.child, self.path = child, path
         with open(path, encoding="utf-8") as file:
-            self.paragraphs = [paragraph.split("\n") for paragraph in file.read().rstrip("\n").split("\n\n")]
+            self.paragraphs = [paragraph.split("\n")
+                               for paragraph in file.read().rstrip("\n").split("\n\n")]
         self.named = {lines[0][:-1]: lines for lines in self.paragraphs if lines[0].endswith(":")}
-        words = (line.split() for lines in self.paragraphs for line in lines if line.startswith("@"))
+        words = (line.split() for lines in self.paragraphs for line in lines
+                 if line.startswith("@"))
         self.meanings = {name: meaning for name, *meaning in words}
         self.is_right, self.refused = True, 0
         self.played, self.lacking, self.behind = (collections.Counter() for _ in range(3))
@@ -69,7 +77,8 @@ class Transcript:
     # ---- One play of a paragraph.
 
     def play(self, lines, cut=None):
-        """Plays a paragraph. Gives the answers by line, that of the call that was refused, and whether all blocks came back."""
+        """Plays a paragraph. Gives the answers by line, that of the call that was refused, and
+        whether all blocks came back."""
         stage, answers, refusal, cause = Stage(self.child, self.meanings), {}, None, None
         for at, line in enumerate(lines):
             if not is_played(line):
@@ -148,19 +157,24 @@ class Transcript:
             for came in {refusal.came, other.came} - {"OutOfMemory"}:
                 self.wrong(first + at, lines[at], f"{came}, at refused allocation {nth}")
             if not (is_clean and is_clean_too):
-                self.wrong(first + at, lines[at], f"blocks are left at the end, at refused allocation {nth}")
-            for turn, came, wanted in (("made again", told(again), whole), ("not made again", told(alone), without)):
+                self.wrong(first + at, lines[at],
+                           f"blocks are left at the end, at refused allocation {nth}")
+            for turn, came, wanted in (("made again", told(again), whole),
+                                       ("not made again", told(alone), without)):
                 for place in sorted(place for place in wanted if came.get(place) != wanted[place]):
                     self.wrong(first + place, lines[place],
-                               f"{came.get(place)}, where line {first + at} is {turn} after refused allocation {nth}")
+                               f"{came.get(place)}, where line {first + at} is {turn} after "
+                               f"refused allocation {nth}")
 
     def run(self):
         number = 1
         for lines in self.paragraphs:
             self.play_paragraph(number, lines)
             number += len(lines) + 1
-        print(f"{self.path.rpartition('/')[2]}: {'right' if self.is_right else 'wrong'}, {sum(self.played.values())} calls, "
-              f"{self.refused} refused allocations, {sum((self.lacking + self.behind).values())} left out")
+        print(f"{self.path.rpartition('/')[2]}: {'right' if self.is_right else 'wrong'}, "
+              f"{sum(self.played.values())} calls, "
+              f"{self.refused} refused allocations, "
+              f"{sum((self.lacking + self.behind).values())} left out")
 
 
 def main(words):
@@ -172,12 +186,15 @@ def main(words):
         transcript.run()
     child.process.stdin.close()
     is_right = all(transcript.is_right for transcript in transcripts) and child.process.wait() == 0
-    played, lacking, behind = (sum((getattr(one, name) for one in transcripts), collections.Counter())
+    played, lacking, behind = (sum((getattr(one, name) for one in transcripts),
+                                   collections.Counter())
                                for name in ("played", "lacking", "behind"))
     for title, counts in (("played", played), ("left out", lacking), ("left out behind", behind)):
         print(f"{title}: " + ", ".join(f"{name} {count}" for name, count in sorted(counts.items())))
-    print(f"transcripts: {'right' if is_right else 'wrong'}, {len(transcripts)} files, {sum(played.values())} calls, "
-          f"{sum(one.refused for one in transcripts)} refused allocations, {sum((lacking + behind).values())} left out")
+    print(f"transcripts: {'right' if is_right else 'wrong'}, {len(transcripts)} files, "
+          f"{sum(played.values())} calls, "
+          f"{sum(one.refused for one in transcripts)} refused allocations, "
+          f"{sum((lacking + behind).values())} left out")
     return 0 if is_right else 1
 
 

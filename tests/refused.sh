@@ -50,14 +50,21 @@ if [ -n "${STUN_C-}" ]; then
 fi
 
 # The same of stunp_state.h: a transport is no feature.
-printf '#include "stunp_state.h"\nint main(void) {\n    stunp_agent agent = {0};\n' >"$scratch/agent.c"
-printf '    stunp_address at = {{0}, 1, 4};\n    int64_t answer = stunp_agent_new(&agent, WHICH, &at);\n' >>"$scratch/agent.c"
-printf '    stunp_agent_free(&agent);\n    return answer == 0 ? 0 : 1;\n}\n' >>"$scratch/agent.c"
+cat >"$scratch/agent.c" <<'AGENT'
+#include "stunp_state.h"
+int main(void) {
+    stunp_agent agent = {0};
+    stunp_address at = {{0}, 1, 4};
+    int64_t answer = stunp_agent_new(&agent, WHICH, &at);
+    stunp_agent_free(&agent);
+    return answer == 0 ? 0 : 1;
+}
+AGENT
 "$cc" $strict -DWHICH=STUNP_TCP -fsyntax-only "$scratch/agent.c"
 wants enum-conversion "$cc" $strict -DWHICH=STUNP_REQUIRED -fsyntax-only "$scratch/agent.c"
 keeps() {
-    "$cc" $strict -DWHICH=STUNP_TCP "$@" "$scratch/agent.c" ../examples/c/heap.c "$STUN_STATE" "$STUN_C" \
-        ${LIBRARIES-} -o "$scratch/agent" && "$scratch/agent"
+    "$cc" $strict -DWHICH=STUNP_TCP "$@" "$scratch/agent.c" ../examples/c/heap.c \
+        "$STUN_STATE" "$STUN_C" ${LIBRARIES-} -o "$scratch/agent" && "$scratch/agent"
 }
 if [ -n "${STUN_C-}" ] && [ -n "${STUN_STATE-}" ]; then
     keeps

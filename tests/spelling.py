@@ -1,4 +1,5 @@
-"""Words of transcripts (docs/maintainers/TRANSCRIPTS.md), and the messages that they spell, byte by byte. Digests are Python's own."""
+"""Words of transcripts (docs/maintainers/TRANSCRIPTS.md), and the messages that they spell, byte by
+byte. Digests are Python's own."""
 
 import hashlib
 import hmac
@@ -8,9 +9,10 @@ import struct
 COOKIE = bytes.fromhex("2112a442")
 CLASSES = {"request": 0, "indication": 1, "success": 2, "error": 3}
 TYPES = {
-    "USERNAME": 0x0006, "MESSAGE-INTEGRITY": 0x0008, "ERROR-CODE": 0x0009, "REALM": 0x0014, "NONCE": 0x0015,
-    "MESSAGE-INTEGRITY-SHA256": 0x001C, "PASSWORD-ALGORITHM": 0x001D, "USERHASH": 0x001E, "XOR-MAPPED-ADDRESS": 0x0020,
-    "PASSWORD-ALGORITHMS": 0x8002, "SOFTWARE": 0x8022, "FINGERPRINT": 0x8028,
+    "USERNAME": 0x0006, "MESSAGE-INTEGRITY": 0x0008, "ERROR-CODE": 0x0009, "REALM": 0x0014,
+    "NONCE": 0x0015, "MESSAGE-INTEGRITY-SHA256": 0x001C, "PASSWORD-ALGORITHM": 0x001D,
+    "USERHASH": 0x001E, "XOR-MAPPED-ADDRESS": 0x0020, "PASSWORD-ALGORITHMS": 0x8002,
+    "SOFTWARE": 0x8022, "FINGERPRINT": 0x8028,
 }
 PHRASES = {"400": "Bad Request", "401": "Unauthorized", "438": "Stale Nonce"}
 ALGORITHMS = {"MD5": b"\0\1\0\0", "SHA256": b"\0\2\0\0"}
@@ -107,7 +109,8 @@ def id_of(word):
 
 def long_term_key(algorithm, user, realm, password):
     """The key of section 9.2.2 for 1 (MD5) or 2 (SHA-256)."""
-    return (hashlib.md5 if algorithm == 1 else hashlib.sha256)(b":".join((user, realm, password))).digest()
+    digest = hashlib.md5 if algorithm == 1 else hashlib.sha256
+    return digest(b":".join((user, realm, password))).digest()
 
 
 def key_of(word, algorithm):
@@ -144,11 +147,13 @@ def visible(message):
         if kind == TYPES["MESSAGE-INTEGRITY-SHA256"]:
             hidden = lambda kind: kind != TYPES["FINGERPRINT"]
         elif kind == TYPES["MESSAGE-INTEGRITY"]:
-            hidden = lambda kind: kind not in (TYPES["FINGERPRINT"], TYPES["MESSAGE-INTEGRITY-SHA256"])
+            hidden = lambda kind: kind not in (TYPES["FINGERPRINT"],
+                                               TYPES["MESSAGE-INTEGRITY-SHA256"])
 
 
 class Spelling:
-    """A message in the making: a Binding message of a class with id 1, or one that is there already."""
+    """A message in the making: a Binding message of a class with id 1, or one that is there
+    already."""
 
     def __init__(self, class_number=0, message=None):
         kind = 0x0001 | (class_number & 1) << 4 | (class_number & 2) << 7
@@ -188,20 +193,24 @@ class Spelling:
         elif name == "TYPE":
             self.kind = attribute_type(value)
         elif name == "MI":
-            digest = hmac.new(key_of(value, 1), self.header(24) + self.attributes, hashlib.sha1).digest()
+            digest = hmac.new(key_of(value, 1), self.header(24) + self.attributes,
+                              hashlib.sha1).digest()
             self.add(TYPES["MESSAGE-INTEGRITY"], digest)
         elif name == "MI256":
-            digest = hmac.new(key_of(value, 2), self.header(36) + self.attributes, hashlib.sha256).digest()
+            digest = hmac.new(key_of(value, 2), self.header(36) + self.attributes,
+                              hashlib.sha256).digest()
             self.add(TYPES["MESSAGE-INTEGRITY-SHA256"], digest)
         else:
-            self.add(attribute_type(name), unhex(value[2:]) if value.startswith("0x") else self.value_of(name, value))
+            self.add(attribute_type(name),
+                     unhex(value[2:]) if value.startswith("0x") else self.value_of(name, value))
 
     def value_of(self, name, value):
         if name in ("USERNAME", "REALM", "NONCE", "SOFTWARE"):
             return text(value)
         if name == "ERROR-CODE":
             code, colon, phrase = value.partition(":")
-            return struct.pack(">HBB", 0, *divmod(number(code), 100)) + text(phrase if colon else PHRASES.get(code, "-"))
+            phrase = text(phrase if colon else PHRASES.get(code, "-"))
+            return struct.pack(">HBB", 0, *divmod(number(code), 100)) + phrase
         if name == "PASSWORD-ALGORITHM" or name == "PASSWORD-ALGORITHMS":
             words = [] if value == "-" else value.split(",")
             if any(word not in ALGORITHMS for word in words):

@@ -1,12 +1,13 @@
-"""What a paragraph of a transcript is played on: the calls of the archives for C, and their answers in the words of transcripts."""
+"""What a paragraph of a transcript is played on: the calls of the archives for C, and their answers
+in the words of transcripts."""
 
 import struct
 import subprocess
 import sys
 
 from spelling import *
+from wording import *
 
-HOUR = 3600 * 10**9
 AMPLE = 4096
 USUAL_FROM, USUAL_PEER = address("10.0.0.1:12345"), address("10.0.0.2:3478")
 DEFAULT_TIMEOUTS = (500 * 10**6, FOREVER, 8 * 10**9, 7)
@@ -14,81 +15,31 @@ ALGORITHM_NUMBERS = {"sha1": 1, "sha256": 2}
 FEATURES = {"auto": 0, "required": 1, "disabled": 2}
 TRANSPORTS = {"udp": 0, "tcp": 1}
 
-# Refusals of stunp.h in the words of transcripts. STUNP_CLOSED comes before all other refusals of a call that writes, and also where
-# nothing would be written: there the transcripts have MessageIntegrityExists, or another reason, or no refusal. Which type is in
-# the way or missing C does not say. Two numbers are one word where the library tells TooLarge of a text and of a message.
-REFUSALS = {
-    -1: "Truncated", -2: "NotStun", -3: "TooLarge", -4: "MissingAttribute", -5: "InvalidAttributeData", -6: "IntegrityFailed",
-    -7: "NotAllowed", -8: "none", -9: "TooLarge", -10: "TooSmall", -11: "NotAllowed", -12: "Closed", -13: "AttributeExists",
-    -14: "TooLarge", -15: "MissingAttribute", -16: "InvalidAttributeData", -17: "OutOfMemory", -18: "empty handle",
-    -19: "full handle", -20: "AlreadyInProgress", -21: "ProtocolViolation", -22: "Unauthorized", -23: "BadRequest",
-    -24: "StaleNonce", -25: "UnsupportedFeature",
-}
-NO_MESSAGE = (-1, -2, -3)
-VERDICTS = {1: "Sha1", 2: "Sha256", 3: "resend", 4: "resend Sha1", 5: "resend Sha256"}
-
-# What the archives lack and what changes nothing that is played: objects apart from all others, and calls that only tell something.
+# What the archives lack and what changes nothing that is played: objects apart from all others, and
+# calls that only tell something.
 APART = ("drive", "nonce", "secret", "short-term")
 TELLING = (
-    "agent built", "agent counts", "agent next-awaited", "agent next-transmit", "agent rto", "agent sends-data",
-    "attribute algorithm", "attribute code", "attribute is-digest", "attribute lengths", "attribute makes", "attribute number",
-    "attribute reads", "attribute rewrites", "attribute takes", "attribute writes", "client hashes", "client size",
-    "client supported", "client user", "digest hmac", "digest same", "memory", "message attribute", "message digest-lengths",
-    "message header", "message ids", "message prefixes", "message tails", "server expiry", "server hashes",
-    "server realm", "server sizes", "server supported", "write room",
+    "agent built", "agent counts", "agent next-awaited", "agent next-transmit", "agent rto",
+    "agent sends-data", "attribute algorithm", "attribute code", "attribute is-digest",
+    "attribute lengths", "attribute makes", "attribute number", "attribute reads",
+    "attribute rewrites", "attribute takes", "attribute writes", "client hashes", "client size",
+    "client supported", "client user", "digest hmac", "digest same", "memory", "message attribute",
+    "message digest-lengths", "message header", "message ids", "message prefixes", "message tails",
+    "server expiry", "server hashes", "server realm", "server sizes", "server supported",
+    "write room",
 )
 # Objects whose calls may write a message that is kept.
 WRITERS = ("agent", "client", "meet", "serve", "server", "short-term", "write")
 # The calls of the archive that may allocate.
 ALLOCATING = (
-    "agent-handle", "agent-new", "agent-new-with", "agent-send-request", "agent-validated-peer", "client-new",
-    "client-set-credentials", "client-sign", "client-validate", "server-add-user", "server-new", "server-sign",
-    "server-validate",
+    "agent-handle", "agent-new", "agent-new-with", "agent-send-request", "agent-validated-peer",
+    "client-new", "client-set-credentials", "client-sign", "client-validate", "server-add-user",
+    "server-new", "server-sign", "server-validate",
 )
 
 
 class Left(Exception):
     """A call that the archives lack."""
-
-
-def wide(address):
-    """An address as play.c reads it."""
-    octets, port = address
-    return f"{octets.hex()}:{port}"
-
-
-def address_in(raw):
-    """The address in the bytes of a stunp_address."""
-    port, length = struct.unpack_from("=HH", raw, 16)
-    return raw[:length], port
-
-
-def native(raw):
-    return int.from_bytes(raw, sys.byteorder)
-
-
-def span_text(count):
-    return f"{count // 10**6}ms" if count % 10**6 == 0 else f"{count}ns"
-
-
-def moment_text(moment):
-    return "max" if moment == FOREVER else span_text(moment)
-
-
-def shown(value):
-    """A text as transcripts show it."""
-    letters = value.decode("utf-8", "replace")
-    if len(value) > 40 and value[0] < 128 and value == value[:1] * len(value):
-        return f"{letters[0]}*{len(value)}"
-    return letters or "-"
-
-
-def timeouts(initial, longest, last, transmissions):
-    return nanos(initial), nanos(longest), nanos(last), number(transmissions)
-
-
-def name_of(words):
-    return words[0] if words[:1] == ["memory"] else " ".join(words[:2])
 
 
 class Child:
@@ -137,7 +88,8 @@ class Stage:
     # ---- Lines.
 
     def answer(self, call, written):
-        """Makes the call of a line. Answers its name, and what the archives answer; both may be empty."""
+        """Makes the call of a line. Answers its name, and what the archives answer; both may be
+        empty."""
         words = self.pass_time(call)
         try:
             return self.make(words, written)
@@ -185,7 +137,8 @@ class Stage:
         return message(words, self.kept, self.meanings)
 
     def told(self, answer, names=None):
-        """The words of an answer. What is no message is not understood where a message is wanted."""
+        """The words of an answer. What is no message is not understood where a message is
+        wanted."""
         if answer[0] in NO_MESSAGE:
             raise Words("no message")
         return (names or {}).get(answer[0], "") if answer[0] >= 0 else REFUSALS[answer[0]]
@@ -194,7 +147,8 @@ class Stage:
         return self.told(self.ask(*words), names)
 
     def written_by(self, message, answer):
-        """The bytes of a message that a call wrote, or why it refuses, which is Closed where the walk of spelling.py sees that."""
+        """The bytes of a message that a call wrote, or why it refuses, which is Closed where the
+        walk of spelling.py sees that."""
         is_closed = any(kind in (0x0008, 0x001C, 0x8028) for kind, _, _ in visible(message))
         if answer[0] not in NO_MESSAGE and (answer[0] == -12) != is_closed:
             return "Closed otherwise"
@@ -235,7 +189,8 @@ class Stage:
         algorithm = 2 if any(kind == 0x001C for kind, _, _ in self.walk(message)) else 1
         key = key_of(word, algorithm)
         if ":" in word and not word.startswith("key:"):
-            key = self.ask("long-term-key", algorithm, *(part.encode() for part in word.split(":", 2)), 32)[1][0]
+            key = self.ask("long-term-key", algorithm,
+                           *(part.encode() for part in word.split(":", 2)), 32)[1][0]
         return self.asked_for("verify", message, key, names=VERDICTS)
 
     # ---- The server.
@@ -278,7 +233,8 @@ class Stage:
         return self.asked_for("server-set-nonce-expiry", nanos(word)) if word else self.left()
 
     def server_hears(self, *words):
-        return self.asked_for("server-validate", self.message(words), wide(self.origin), self.now, *self.draws, names=VERDICTS)
+        return self.asked_for("server-validate", self.message(words), wide(self.origin), self.now,
+                              *self.draws, names=VERDICTS)
 
     def server_signs(self, *words):
         message = self.message(words)
@@ -306,7 +262,8 @@ class Stage:
         return told
 
     def client_user(self, name=None, password=None):
-        return self.asked_for("client-set-credentials", text(name), text(password)) if name else self.left()
+        return self.asked_for("client-set-credentials", text(name),
+                              text(password)) if name else self.left()
 
     def client_support(self, word):
         return self.set_algorithms("client", word, self.algorithms["client"])
@@ -344,8 +301,8 @@ class Stage:
         if words[:1] == ("timeouts",):
             waits, words = timeouts(words[1], words[2], words[4], words[3]), words[5:]
         own = [TRANSPORTS[transport], wide(local)]
-        answer = (self.ask("agent-new-with", *own, wide(remote), *(waits or DEFAULT_TIMEOUTS)) if remote[0] or waits
-                  else self.ask("agent-new", *own))
+        answer = (self.ask("agent-new-with", *own, wide(remote), *(waits or DEFAULT_TIMEOUTS))
+                  if remote[0] or waits else self.ask("agent-new", *own))
         if answer[0] == 0:
             self.counts, self.is_untimed, self.asked = words == ("counts",), False, {}
         return self.told(answer)
@@ -374,10 +331,12 @@ class Stage:
 
     def agent_takes_timed(self, *words):
         origin, message = self.peer_and(words)
-        return self.asked_for("agent-handle", message, wide(origin), self.now, names={0: "false", 1: "true"})
+        return self.asked_for("agent-handle", message, wide(origin), self.now,
+                              names={0: "false", 1: "true"})
 
     def agent_takes(self, *words):
-        # C always tells the agent the time, so it measures a round trip where the transcript measures none.
+        # C always tells the agent the time, so it measures a round trip where the transcript
+        # measures none.
         told = self.agent_takes_timed(*words)
         self.is_untimed |= told == "true"
         return told
@@ -427,25 +386,30 @@ class Stage:
         if not self.counts or self.is_untimed:
             self.left()
         counts = struct.unpack("@N14Q", self.ask("agent-statistics")[1][0])[1:]
-        pairs = zip(("requests", "responses", "indications", "bytes"), (*counts[0:6:2], counts[8]), (*counts[1:6:2], counts[9]))
+        pairs = zip(("requests", "responses", "indications", "bytes"), (*counts[0:6:2], counts[8]),
+                    (*counts[1:6:2], counts[9]))
         parts = [f"{name}={sent}/{received}" for name, sent, received in pairs if sent or received]
-        parts += [f"{name}={count}" for name, count in zip(("timed-out", "cancelled"), counts[6:8]) if count]
+        parts += [f"{name}={count}" for name,
+                  count in zip(("timed-out", "cancelled"), counts[6:8]) if count]
         if any(counts[10:]):
-            parts.append(f"round-trips={counts[10]}/" + "/".join(span_text(count) for count in counts[11:]))
+            parts.append(f"round-trips={counts[10]}/"
+                         + "/".join(span_text(count) for count in counts[11:]))
         return " ".join(parts) or "nothing"
 
     # ---- Messages, attributes and digests.
 
     def message_reads(self, *words):
         message = self.message(words)
-        parsed, class_number, method = (self.ask(name, message)[0] for name in ("parse", "class", "method"))
+        parsed, class_number, method = (self.ask(name, message)[0]
+                                        for name in ("parse", "class", "method"))
         identity, outputs = self.ask("id", message, 12)
         if parsed < 0:
             return REFUSALS[parsed] if parsed == class_number == method == identity else "otherwise"
         return f"{type_text(class_number, method)} id 0x{outputs[0].hex()}, {len(message)} bytes"
 
     def message_type(self, class_name, method):
-        answer, outputs = self.ask("begin", CLASSES[class_name], 1 if method == "binding" else int(method, 16), bytes(12), 20)
+        answer, outputs = self.ask("begin", CLASSES[class_name],
+                                   1 if method == "binding" else int(method, 16), bytes(12), 20)
         if answer < 0:
             return {-7: "none"}[answer]
         class_number, method = (self.ask(name, outputs[0])[0] for name in ("class", "method"))
@@ -460,8 +424,8 @@ class Stage:
         return self.read_as(name, self.message(words))
 
     def read_as(self, name, message):
-        """What the first attribute of a type says. C has readers of ERROR-CODE and XOR-MAPPED-ADDRESS; of others it gives the value,
-        and looks at none."""
+        """What the first attribute of a type says. C has readers of ERROR-CODE and
+        XOR-MAPPED-ADDRESS; of others it gives the value, and looks at none."""
         kind = attribute_type(name)
         if name == "ERROR-CODE":
             answer = self.ask("error-code", message)
@@ -484,7 +448,8 @@ class Stage:
 
     def attribute_reads(self, name, *words):
         message = self.message(["request", *words])
-        return self.read_as(name, message) if message[20:22] == attribute_type(name).to_bytes(2, "big") else self.left()
+        is_first = message[20:22] == attribute_type(name).to_bytes(2, "big")
+        return self.read_as(name, message) if is_first else self.left()
 
     def made(self, name, value, words):
         """What the call answers that adds an attribute to a request."""
@@ -493,12 +458,14 @@ class Stage:
         bare = [20 + AMPLE, spelling.finish()]
         if name == "ERROR-CODE":
             code, colon, phrase = value.partition(":")
-            return self.ask("add-error", *bare, number(code), text(phrase if colon else PHRASES.get(code, "-")))
+            return self.ask("add-error", *bare, number(code),
+                            text(phrase if colon else PHRASES.get(code, "-")))
         if name == "XOR-MAPPED-ADDRESS":
             return self.ask("add-xor-mapped-address", *bare, *address(value))
         if name == "USERHASH":
             user, _, realm = value.partition(":")
-            return self.ask("add", *bare, TYPES[name], self.ask("userhash", user.encode(), realm.encode(), 32)[1][0])
+            return self.ask("add", *bare, TYPES[name],
+                            self.ask("userhash", user.encode(), realm.encode(), 32)[1][0])
         return self.ask("add", *bare, attribute_type(name), spelling.value_of(name, value))
 
     def attribute_makes(self, word, *words):
@@ -514,14 +481,16 @@ class Stage:
         return self.told(answer) or answer[1][0][20:].hex()
 
     def digest_key(self, algorithm, *words):
-        answer = self.ask("long-term-key", ALGORITHM_NUMBERS[algorithm], *(blob(word) for word in words), 32)
+        answer = self.ask("long-term-key", ALGORITHM_NUMBERS[algorithm],
+                          *(blob(word) for word in words), 32)
         return self.told(answer) or answer[1][0].hex()
 
     def digest_userhash(self, name, realm):
         answer = self.ask("userhash", text(name), text(realm), 32)
         return self.told(answer) or answer[1][0].hex()
 
-    # ---- Messages that are written step by step: `writer` is what is written, `room` that of a slice.
+    # ---- Messages that are written step by step: `writer` is what is written, `room` that of a
+    # slice.
 
     def write_begin(self, *words, room=None):
         method, identity, name = 1, id_of("1"), words[0]
@@ -562,7 +531,8 @@ class Stage:
         return "none" if self.writer is None else self.verdict(" ".join(words), self.writer)
 
     def write_bytes(self, length=None):
-        return "none" if self.writer is None else self.writer[: number(length) if length else None].hex()
+        end = number(length) if length else None
+        return "none" if self.writer is None else self.writer[:end].hex()
 
     def write_length(self):
         return str(len(self.writer))
@@ -582,34 +552,3 @@ class Stage:
     def write_username(self):
         value = self.value_in(self.writer, TYPES["USERNAME"])
         return "none" if value is None else value.decode()
-
-
-def type_text(class_number, method):
-    """The type of a message: its number, its class and its method (section 5)."""
-    bits = (method & 0xF) | (method & 0x70) << 1 | (method & 0xF80) << 2 | (class_number & 1) << 4 | (class_number & 2) << 7
-    return f"0x{bits:04x} {list(CLASSES)[class_number]}{' response' if class_number >= 2 else ''} 0x{method:03x}"
-
-
-def length_of(told):
-    """How many bytes were told, or why none were."""
-    try:
-        return str(len(unhex(told)))
-    except Words:
-        return told
-
-
-def fits(name, came, written, now):
-    """Whether an answer of the archives is the written one, as far as C says it."""
-    if came == written or came == "Closed":
-        return True
-    if came in ("AttributeExists", "MissingAttribute"):
-        return written.split()[0] == came
-    if name == "agent request":
-        return written.split(",")[0] == came
-    if name == "agent poll" and written.startswith("wait "):
-        # C polls again within an hour.
-        return came == f"wait {moment_text(min(nanos(written[5:]), now + HOUR))}"
-    if name == "agent counts":
-        return came == (" ".join(part for part in written.split() if not part.startswith("outstanding=")) or "nothing")
-    # `header,` says that the first twenty bytes are one, which C does not read alone.
-    return name == "message reads" and written == f"header, {came}"

@@ -1,12 +1,14 @@
 #!/usr/bin/env python3
-"""Prints how much a reader must believe: for each of the three sentences, the definitions of `specs/` that it is made of,
-transitively. Definitions of the standard library and of the toolchain's crates are not counted.
+"""Prints how much a reader must believe: for each of the three sentences, the definitions of
+`specs/` that it is made of, transitively. Definitions of the standard library and of the
+toolchain's crates are not counted.
 
 The records of the first and the third sentence take what a run is as an argument, and the clauses
 name it. `all three` counts the server's run. The agent's run is all that an agent does, counters
 too: only the field `driven` needs it, and the last line counts it as well.
 
-Run at the top of the repository. With a number after it (1 to 3) it also prints the definitions by file.
+Run at the top of the repository. With a number after it (1 to 3) it also prints the definitions by
+file.
 """
 
 import collections
@@ -21,7 +23,8 @@ SENTENCES = {
     3: ("the agent", ("IsDrivenByPlan",)),
 }
 # The first sentence holds of any reading of messages and of any run. The clause names these two.
-GIVEN = (("what a message says", ("Replies", "message_read")), ("the run, for isolation", ("Serving", "replies")))
+GIVEN = (("what a message says", ("Replies", "message_read")),
+         ("the run, for isolation", ("Serving", "replies")))
 # The third holds of any run, and its clause names this one.
 DRIVEN = ("Rattle.stun_proto.specs.Run", "IsDriven")
 
@@ -51,7 +54,8 @@ def main():
 
 def print_counts(name, definitions):
     files = {definition.path for definition in definitions}
-    lines = sum(len([line for line in definition.code if line.strip()]) for definition in definitions)
+    lines = sum(len([line for line in definition.code if line.strip()])
+                for definition in definitions)
     print("%-28s %3d files %4d definitions %4d lines" % (name, len(files), len(definitions), lines))
 
 

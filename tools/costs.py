@@ -1,11 +1,13 @@
 #!/usr/bin/env python3
-"""Tells what the proof of each function of a crate costs, in seconds of processor: the dearest first, then the whole.
+"""Tells what the proof of each function of a crate costs, in seconds of processor: the dearest
+first, then the whole.
 
     tools/costs.py CRATE [--test] [--least SECONDS]
 
-Run at the top of the repository. It calls `rt check --jobs 1`, with `--test` for the tests too. What an earlier check has proved costs
-nothing here: for a whole crate remove crates/CRATE/out/incremental before. Functions below the least cost (1 second, if nothing is
-said) are counted together. The status is that of the check. It reads /proc, so it wants Linux.
+Run at the top of the repository. It calls `rt check --jobs 1`, with `--test` for the tests too.
+What an earlier check has proved costs nothing here: for a whole crate remove
+crates/CRATE/out/incremental before. Functions below the least cost (1 second, if nothing is said)
+are counted together. The status is that of the check. It reads /proc, so it wants Linux.
 """
 
 import argparse
@@ -19,7 +21,8 @@ CHECKED = re.compile(r"checked (\S+), \d+ of \d+")
 
 
 def stat_of(process):
-    """The parent of a process and its ticks, those of its ended children with them; None once it is gone."""
+    """The parent of a process and its ticks, those of its ended children with them; None once it is
+    gone."""
     try:
         with open("/proc/%s/stat" % process) as file:
             fields = file.read().rsplit(")", 1)[1].split()
@@ -42,7 +45,8 @@ def seconds_of(root):
 
 
 def main():
-    words = argparse.ArgumentParser(description=__doc__, formatter_class=argparse.RawDescriptionHelpFormatter)
+    words = argparse.ArgumentParser(description=__doc__,
+                                    formatter_class=argparse.RawDescriptionHelpFormatter)
     words.add_argument("crate")
     words.add_argument("--test", action="store_true")
     words.add_argument("--least", type=float, default=1.0)

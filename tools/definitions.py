@@ -203,7 +203,8 @@ INNER = re.compile(r"\s+\w+\s*([{;])")
 
 
 class Source:
-    """A file of src/: the texts of its clauses, those of public calls, Models and the rest apart."""
+    """A file of src/: the texts of its clauses, those of public calls, Models and the rest
+    apart."""
 
     def __init__(self, path, public_types):
         with open(path) as opened:
@@ -234,7 +235,8 @@ class Source:
                 place = self.function(item, end, is_stated)
 
     def ghost(self, item, where, is_public):
-        """A ghost item: a clause of its type or trait, but for a Model's coding, view and invariant."""
+        """A ghost item: a clause of its type or trait, but for a Model's coding, view and
+        invariant."""
         ghost = GHOST.match(self.text, item.start(2))
         if not ghost:
             return self.text.find(";", item.end()) + 1 or len(self.text)

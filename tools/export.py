@@ -63,10 +63,11 @@ PATHS = {
 }
 # Names that a source has without an import.
 NAMES = {
-    "Box": "crate::kit::prelude::Box", "Vec": "crate::kit::prelude::Vec", "String": "crate::kit::prelude::String",
-    "TryClone": "crate::kit::prelude::TryClone", "try_clone": "crate::kit::prelude::TryClone",
-    "HostRuntime": "crate::host::HostRuntime", "AllocGlobal": "crate::host::AllocGlobal",
-    "collect_in": "crate::host::CollectIn", "to_string_in": "crate::host::ToStringIn",
+    "Box": "crate::kit::prelude::Box", "Vec": "crate::kit::prelude::Vec",
+    "String": "crate::kit::prelude::String", "TryClone": "crate::kit::prelude::TryClone",
+    "try_clone": "crate::kit::prelude::TryClone", "HostRuntime": "crate::host::HostRuntime",
+    "AllocGlobal": "crate::host::AllocGlobal", "collect_in": "crate::host::CollectIn",
+    "to_string_in": "crate::host::ToStringIn",
 }
 
 # --- What only a proof reads ---------------------------------------------------------------------

@@ -11,8 +11,8 @@ from pathlib import Path
 
 CRATES = ["stun_c", "stun_state"]
 PLACES = {crate: f"crate::calls::{crate}" for crate in CRATES}
-CALL = re.compile(r'((?:^///[^\n]*\n)+)^#\[unsafe\(no_mangle\)\]\npub extern "C" fn (\w+)\(([^)]*)\)(?: -> (\w+))?',
-                  re.M)
+CALL = re.compile(r'((?:^///[^\n]*\n)+)^#\[unsafe\(no_mangle\)\]\npub extern "C" fn '
+                  r'(\w+)\(([^)]*)\)(?: -> (\w+))?', re.M)
 SLICES = {"&[u8]": ("*const u8", "read"), "&mut [u8]": ("*mut u8", "written"),
           "&[u16]": ("*const u16", "read"), "&mut [u16]": ("*mut u16", "written")}
 
@@ -59,8 +59,10 @@ def write(out, exported, places, root):
             if name.parts[0] in ("laws.rs", "handle.rs", "handle"):
                 continue
             text = exported(path.read_text(), crate, {**places, **PLACES})
-            border += border_of(text, "::".join([crate, *name.with_suffix("").parts]).removesuffix("::lib"))
-            text = CALL.sub(lambda found: found.group(1) + f"pub fn {found.group(2)}({found.group(3)})"
+            module = "::".join([crate, *name.with_suffix("").parts]).removesuffix("::lib")
+            border += border_of(text, module)
+            text = CALL.sub(lambda found: found.group(1)
+                            + f"pub fn {found.group(2)}({found.group(3)})"
                             + (f" -> {found.group(4)}" if found.group(4) else ""), text)
             text = re.sub(r"^mod handle;\n", "use crate::handle;\n", text, flags=re.M)
             text = re.sub(r"^mod (\w+);\n", r"pub mod \1;\n", text, flags=re.M)
@@ -72,5 +74,5 @@ def write(out, exported, places, root):
     (calls / "border.rs").write_text(border)
     (calls / "mod.rs").write_text(
         "//! The calls for C, exported, and what C calls of them.\n"
-        "#![allow(clippy::complexity, clippy::style, unused_imports, unused_mut)]\n\npub mod border;\n"
-        + "".join(f"#[deny(unsafe_code)]\nmod {crate};\n" for crate in CRATES))
+        "#![allow(clippy::complexity, clippy::style, unused_imports, unused_mut)]\n\npub mod "
+        "border;\n" + "".join(f"#[deny(unsafe_code)]\nmod {crate};\n" for crate in CRATES))

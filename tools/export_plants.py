@@ -57,13 +57,15 @@ PLANTS = [
      "str::from_utf8(&block.0).is_ok()", "str::from_utf8(&block.0[..60]).is_ok()"),
     ("a ring that asks no allocator", KIT + "ring.rs",
      "if self.room.change(places, reserve).is_err() {",
-     "let mut reserve = reserve;\n            let _ = &self.room;\n            if reserve().is_err() {"),
+     "let mut reserve = reserve;\n            let _ = &self.room;\n            if "
+     "reserve().is_err() {"),
     ("room that is not given back when it grows", KIT + "alloc.rs",
      "        self.leave();\n        self.places = places;", "        self.places = places;"),
     ("room that is not given back at the end", KIT + "alloc.rs",
      "    fn drop(&mut self) {\n        self.leave();", "    fn drop(&mut self) {"),
     ("what the process refuses stays granted", KIT + "alloc.rs",
-     "            self.alloc.deallocate(after, align_of::<T>());\n            return", "            return"),
+     "            self.alloc.deallocate(after, align_of::<T>());\n            return",
+     "            return"),
     ("a map that loses the entries of a refused split", KIT + "map.rs",
      "        let mut next = self.new_row()?;\n        // A last",
      "        let Ok(mut next) = self.new_row() else {\n"

@@ -1,10 +1,11 @@
 #!/usr/bin/env python3
-"""Counts the definitions of `specs/` whose names say too little, and fails if there are more than before.
+"""Counts the definitions of `specs/` whose names say too little, and fails if there are more than
+before.
 
 - `doubled`: names that two files of `specs/` define, of one crate or of several. A name that a file
   passes on by `pub use` is not defined there.
-- `participles`: definitions whose whole name is a participle, as `kept`, which says what was done and
-  not what it was done to.
+- `participles`: definitions whose whole name is a participle, as `kept`, which says what was done
+  and not what it was done to.
 
 Run at the top of the repository. `--list` prints each, `--list doubled` those of a kind. `write`
 lowers the numbers below to what is counted, and raises none.
@@ -24,8 +25,9 @@ AT_MOST = {
 
 # Participles that do not end in -ed.
 IRREGULAR = set(
-    "begun bound brought built chosen cut done drawn fed found given gone heard held hidden kept known"
-    " lent left lost made meant met paid proven put read said seen sent shown spent split spoken taken"
+    "begun bound brought built chosen cut done drawn fed found given gone heard held hidden "
+    "kept known" " lent left lost made meant met paid proven put read said seen sent shown spent "
+                 "split spoken taken"
     " told unknown unwritten won written".split())
 # Words that end in -ed and are none, and `unauthorized`, which is the reason phrase of 401.
 NOUNS = set("feed need seed speed unauthorized".split())
@@ -45,7 +47,8 @@ def finds(repository):
             named[definition.name][definition.module] = definition
     for name, definitions in sorted(named.items()):
         if len(definitions) > 1:
-            yield "doubled", "%s, in %s" % (name, ", ".join(sorted(map(repr, definitions.values()))))
+            yield "doubled", "%s, in %s" % (name,
+                                            ", ".join(sorted(map(repr, definitions.values()))))
         if is_participle(name):
             for definition in definitions.values():
                 yield "participles", repr(definition)

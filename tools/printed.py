@@ -1,8 +1,10 @@
 #!/usr/bin/env python3
-"""Checks the definitions that docs/DEFINITIONS.md prints against the files that they come from, with file and line.
+"""Checks the definitions that docs/DEFINITIONS.md prints against the files that they come from,
+with file and line.
 
-A block begins with a line `<!-- definition CRATE FILE NAME -->` or `<!-- file PATH -->` and ends with the next line of three
-backticks after its first. With the word `write` the blocks are written anew.
+A block begins with a line `<!-- definition CRATE FILE NAME -->` or `<!-- file PATH -->`. It ends
+with the next line of three backticks after its first. With the word `write` the blocks are written
+anew.
 
 Run at the top of the repository.
 """
@@ -41,7 +43,8 @@ def main():
         with open(PAGE, "w") as opened:
             opened.write(fresh)
     elif fresh != page:
-        print("printed: %s does not print its definitions as they are: run tools/printed.py write" % PAGE)
+        print("printed: %s does not print its definitions as they are: run tools/printed.py write"
+              % PAGE)
         return 1
     print("printed: %d definitions as they are" % len(BLOCK.findall(page)))
     return 0

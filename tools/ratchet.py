@@ -1,8 +1,9 @@
-"""Numbers that a tool keeps in its own source, as `AT_MOST = {..}`: a count may fall and never rise.
+"""Numbers that a tool keeps in its own source, as `AT_MOST = {..}`: a count may fall and never
+rise.
 
-A tool hands in what it found, each find a kind and a line that tells it. With `--list` it prints the
-lines, of one kind where a kind follows. With `write` it lowers the numbers that are higher than the
-counts. It fails if a count is above its number.
+A tool hands in what it found, each find a kind and a line that tells it. With `--list` it prints
+the lines, of one kind where a kind follows. With `write` it lowers the numbers that are higher than
+the counts. It fails if a count is above its number.
 """
 
 import collections

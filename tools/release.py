@@ -1,11 +1,14 @@
 #!/usr/bin/env python3
 """Puts a release together from what is built, and looks at one.
 
-    tools/release.py OUT LOG         OUT/stunp-VERSION and OUT/stunp-VERSION.tar.gz, with the record of the gate's LOG
-    tools/release.py --verify OUT    the sums; what is written again from this repository is the same; it installs and runs
+    tools/release.py OUT LOG         OUT/stunp-VERSION and OUT/stunp-VERSION.tar.gz, with the record
+                                     of the gate's LOG
+    tools/release.py --verify OUT    the sums; what is written again from this repository is the
+                                     same; it installs and runs
 
-The archives, the programs and the exported crate must be there: `.ci/run` builds them, and what it prints is LOG. A release
-has neither the toolchain nor anything of it. Made twice from one commit and one build it is the same to the byte.
+The archives, the programs and the exported crate must be there: `.ci/run` builds them, and what it
+prints is LOG. A release has neither the toolchain nor anything of it. Made twice from one commit
+and one build it is the same to the byte.
 """
 
 import gzip
@@ -37,10 +40,13 @@ KEPT = (
     ("docs/maintainers/TRANSCRIPTS.md", "transcripts/README.md"),
     ("CHANGELOG.md", "CHANGELOG.md"),
     ("README.md", "README.md"),
+    ("SECURITY.md", "SECURITY.md"),
     ("VERSION", "VERSION"),
 )
-MAKEFILE = """# `make install PREFIX=/usr/local` installs headers, archives, programs, man pages, and files for pkg-config and CMake.
-PARTS = MESSAGES=../lib/libstunp.a STATE=../lib/libstunp_state.a EXAMPLES=../src PAGES='../man/stun_tool.1 ../man/stun_inspect.1' \\
+MAKEFILE = """# `make install PREFIX=/usr/local` installs headers, archives, programs, man pages,
+# and files for pkg-config and CMake.
+PARTS = MESSAGES=../lib/libstunp.a STATE=../lib/libstunp_state.a EXAMPLES=../src \\
+    PAGES='../man/stun_tool.1 ../man/stun_inspect.1' \\
     PROGRAMS='../bin/stun_tool ../bin/stun_inspect' OUT=../out
 install uninstall:
 \t@$(MAKE) --no-print-directory -C include $@ $(PARTS)
@@ -67,11 +73,11 @@ def record(log):
         crate = named.group(1) if named else crate
         if re.match(r"(logic=proved|axioms \w+:) ?", line) and crate:
             verdicts.append("%s: %s" % (crate, line))
+    passed = next(line for line in reversed(lines) if "passed" in line)
     return "\n".join(
         ["commit: " + run("git", "rev-parse", "HEAD", cwd=TOP).strip(),
-         "toolchain: " + run("rt", "--version").strip(),
-         "the gate: " + lines[-1] if "passed" in lines[-1] else "the gate: " + next(l for l in reversed(lines) if "passed" in l),
-         "", "What the build of each crate printed:", ""] + list(dict.fromkeys(verdicts))) + "\n"
+         "toolchain: " + run("rt", "--version").strip(), "the gate: " + passed, "",
+         "What the build of each crate printed:", "", *dict.fromkeys(verdicts)]) + "\n"
 
 
 def copy(source, target):
@@ -84,14 +90,16 @@ def copy(source, target):
 
 def crate(folder):
     exported = os.path.join(TOP, "target/export")
-    run("cargo", "package", "--quiet", "--offline", "--allow-dirty", "-p", "seatcrane-stun", cwd=exported)
+    run("cargo", "package", "--quiet", "--offline", "--allow-dirty", "-p", "seatcrane-stun",
+        cwd=exported)
     copy(os.path.join(exported, "target/package/seatcrane-stun-%s.crate" % version()),
          os.path.join(folder, "crate/seatcrane-stun-%s.crate" % version()))
 
 
 def written(folder):
     """All files of a folder, sorted, by their paths in it."""
-    return sorted(os.path.relpath(os.path.join(at, name), folder) for at, _, names in os.walk(folder) for name in names)
+    return sorted(os.path.relpath(os.path.join(at, name), folder)
+                  for at, _, names in os.walk(folder) for name in names)
 
 
 def sums(folder):
@@ -109,9 +117,11 @@ def pack(folder, archive):
         entry.mtime, entry.uid, entry.gid, entry.uname, entry.gname = 0, 0, 0, "", ""
         entry.mode = 0o755 if entry.isdir() or entry.mode & 0o100 else 0o644
         return entry
-    with open(archive, "wb") as raw, gzip.GzipFile("", "wb", 9, raw, mtime=0) as packed, tarfile.open(fileobj=packed, mode="w") as tar:
+    with open(archive, "wb") as raw, gzip.GzipFile("", "wb", 9, raw, mtime=0) as packed, \
+            tarfile.open(fileobj=packed, mode="w") as tar:
         for name in written(folder):
-            tar.add(os.path.join(folder, name), os.path.join(os.path.basename(folder), name), filter=plain)
+            tar.add(os.path.join(folder, name), os.path.join(os.path.basename(folder), name),
+                    filter=plain)
 
 
 def assemble(folder, log):
@@ -140,7 +150,8 @@ def verify(out):
         assemble(again, None)
         for name in written(folder):
             if name not in ("PROOF", "SHA256SUMS"):
-                with open(os.path.join(folder, name), "rb") as one, open(os.path.join(again, name), "rb") as other:
+                with open(os.path.join(folder, name),
+                          "rb") as one, open(os.path.join(again, name), "rb") as other:
                     if one.read() != other.read():
                         sys.exit("release: %s is another one when it is made again" % name)
         # From its own packed form, in a bare folder: installed, and a program built over it.
@@ -152,11 +163,13 @@ def verify(out):
         run("make", "install", "PREFIX=" + root, cwd=bare)
         program = os.path.join(scratch, "installed")
         source = os.path.join(TOP, "tests/c/installed.c")
-        flags = ["-I" + root + "/include", source, "-L" + root + "/lib", "-lstunp_state", "-lstunp", "-lstunp_heap"]
+        flags = ["-I" + root + "/include", source, "-L" + root + "/lib", "-lstunp_state", "-lstunp",
+                 "-lstunp_heap"]
         run(os.environ.get("CC", "cc"), "-std=c99", "-DLIBRARYS_MEMORY", *flags, "-o", program)
         if run(program).strip() != version():
             sys.exit("release: the installed archive tells another version")
-        if "usage" not in subprocess.run([root + "/bin/stun_tool"], capture_output=True, text=True).stderr.lower():
+        if "usage" not in subprocess.run([root + "/bin/stun_tool"], capture_output=True,
+                                         text=True).stderr.lower():
             sys.exit("release: the installed stun_tool does not run")
     print("release: the sums are right, made again it is the same, and what it installs runs")
 

@@ -1,7 +1,8 @@
 #!/bin/sh
 # Exports the library as plain Rust to target/export, and tries what comes out: warnings, pages,
-# tests, transcripts. It needs cargo and Python 3.9. Where the crates of Debian are installed, or can
-# be by root, it needs no network beside. With --can it tells by its status whether they are there.
+# tests, transcripts. It needs cargo and Python 3.9. Where the crates of Debian are installed, or
+# can be by root, it needs no network beside. With --can it tells by its status whether they are
+# there.
 set -eu
 cd "$(dirname "$0")/.."
 out=target/export
@@ -13,7 +14,8 @@ has_packages() {
 }
 
 if ! has_packages && command -v apt-get > /dev/null && [ "$(id -u)" = 0 ]; then
-    { apt-get update -qq && apt-get install -qq -y --no-install-recommends $packages; } > /dev/null ||
+    { apt-get update -qq &&
+        apt-get install -qq -y --no-install-recommends $packages; } > /dev/null ||
         echo "The crates of Debian cannot be installed: cargo fetches them." >&2
 fi
 if [ "${1:-}" = --can ]; then
@@ -25,7 +27,8 @@ python3 tools/export.py "$out"
 mkdir -p "$out/.cargo"
 if has_packages; then
     printf '%s\n' '[source.crates-io]' 'replace-with = "debian"' '[source.debian]' \
-        'directory = "/usr/share/cargo/registry"' '[net]' 'offline = true' > "$out/.cargo/config.toml"
+        'directory = "/usr/share/cargo/registry"' '[net]' 'offline = true' \
+        > "$out/.cargo/config.toml"
 else
     rm -f "$out/.cargo/config.toml"
 fi

@@ -1,6 +1,6 @@
 #!/bin/sh
-# Runs the tests of target/export as aarch64 programs under qemu, with what Debian has: its rustc and
-# the standard library for arm64, a linker and qemu-user. It installs them where root runs it.
+# Runs the tests of target/export as aarch64 programs under qemu, with what Debian has: its rustc
+# and the standard library for arm64, a linker and qemu-user. It installs them where root runs it.
 set -eu
 cd "$(dirname "$0")/.."
 packages="qemu-user gcc-aarch64-linux-gnu libc6-dev-arm64-cross rustc-web"
@@ -27,7 +27,8 @@ export RUSTC=/usr/bin/rustc CARGO_TARGET_DIR="$PWD/../aarch64/target"
 export CARGO_TARGET_${target}_LINKER=aarch64-linux-gnu-gcc
 export CARGO_TARGET_${target}_RUNNER="qemu-aarch64 -L /usr/aarch64-linux-gnu"
 export CARGO_TARGET_${target}_RUSTFLAGS="--sysroot $PWD/../aarch64/usr -D warnings"
-# Tests of pages would want a rustdoc of the same version. The calls for C are linked by a program alone.
+# Tests of pages would want a rustdoc of the same version. The calls for C are linked by a program
+# alone.
 cargo test --quiet --workspace --exclude seatcrane-stun-c --all-features --lib \
     --target aarch64-unknown-linux-gnu
 cargo build --quiet --package seatcrane-checks --target aarch64-unknown-linux-gnu

@@ -1,14 +1,16 @@
 #!/bin/sh
-# Builds the calls for C of the exported crate (target/export, by tools/rust.sh), and runs the tests of
-# tests/c and the transcripts over them. It needs cargo, a C compiler, ld, objcopy and nm. What it leaves in target/c:
-# libstunp.a and libstunp.so with malloc, and libstunp-program.a, whose memory comes from the program.
+# Builds the calls for C of the exported crate (target/export, by tools/rust.sh), and runs the tests
+# of tests/c and the transcripts over them. It needs cargo, a C compiler, ld, objcopy and nm. What
+# it leaves in target/c: libstunp.a and libstunp.so with malloc, and libstunp-program.a, whose
+# memory comes from the program.
 set -eu
 cd "$(dirname "$0")/.."
 out=$PWD/target/c
 mkdir -p "$out"
 (cd target/export
  cargo build --quiet --release -p seatcrane-stun-c
- cargo build --quiet --release -p seatcrane-stun-c --features program-memory --target-dir target/program)
+ cargo build --quiet --release -p seatcrane-stun-c --features program-memory \
+    --target-dir target/program)
 
 # only FROM TO: the archive again, in which no symbol is seen but stunp_ ones.
 only() {
@@ -24,7 +26,8 @@ cp target/export/target/release/libstunp.so "$out/libstunp.so.0"
 ln -sf libstunp.so.0 "$out/libstunp.so"
 
 # Each library has the calls that the headers declare, and shows no other symbol.
-sed -n 's/^[a-z0-9_]* \(stunp_[a-z0-9_]*\)(.*/\1/p' include/stunp.h include/stunp_state.h | sort > "$out/declared"
+sed -n 's/^[a-z0-9_]* \(stunp_[a-z0-9_]*\)(.*/\1/p' include/stunp.h include/stunp_state.h |
+    sort > "$out/declared"
 for seen in "-g $out/libstunp.a" "-g $out/libstunp-program.a" "-D $out/libstunp.so"; do
     nm --defined-only $seen 2>/dev/null | awk 'NF == 3 {print $3}' | sort > "$out/defined"
     cmp "$out/declared" "$out/defined"
@@ -35,23 +38,27 @@ expect() {
     wanted=$1
     shift
     printed=$("$@" || true)
-    [ "$printed" = "$wanted" ] || { echo "rust_c: $*: printed '$printed', not '$wanted'" >&2; exit 1; }
+    [ "$printed" = "$wanted" ] ||
+        { echo "rust_c: $*: printed '$printed', not '$wanted'" >&2; exit 1; }
 }
 strict='-std=c99 -O1 -g -Wall -Wextra -Wpedantic -Werror -Iinclude -Iexamples/c -D_DEFAULT_SOURCE'
 libraries='-lpthread -ldl -lm'
-for name in arguments extra; do
+for name in arguments attributes extra; do
     ${CC:-cc} $strict tests/c/$name.c "$out/libstunp.a" $libraries -o "$out/$name"
     ${CC:-cc} $strict tests/c/$name.c -L"$out" -lstunp "-Wl,-rpath,$out" -o "$out/$name-shared"
     expect "$name: passed" "$out/$name"
     expect "$name: passed" "$out/$name-shared"
 done
-expect "refused: passed" env STUN_C="$out/libstunp.a" STUN_STATE="$out/libstunp-program.a" LIBRARIES="$libraries" tests/refused.sh
+expect "refused: passed" env STUN_C="$out/libstunp.a" STUN_STATE="$out/libstunp-program.a" \
+    LIBRARIES="$libraries" tests/refused.sh
 # These look at the memory that is taken.
-for name in handles hostile many play; do
-    ${CC:-cc} $strict "tests/c/$name.c" examples/c/heap.c "$out/libstunp-program.a" $libraries -o "$out/$name"
+for name in agents handles hostile many users play; do
+    ${CC:-cc} $strict "tests/c/$name.c" examples/c/heap.c "$out/libstunp-program.a" $libraries \
+        -o "$out/$name"
     [ $name = play ] || expect "$name: passed" "$out/$name"
 done
-python3 tests/play.py "$out/play" crates/transcripts/data/*.txt > "$out/played" || { cat "$out/played" >&2; exit 1; }
+python3 tests/play.py "$out/play" crates/transcripts/data/*.txt > "$out/played" ||
+    { cat "$out/played" >&2; exit 1; }
 tail -n 1 "$out/played"
 # The same installed, in the place of the two archives.
 STUN_C="$out/libstunp.a" STUN_STATE="$out/libstunp-program.a" tests/install.sh

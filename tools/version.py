@@ -1,12 +1,14 @@
 #!/usr/bin/env python3
-"""Compares the version in the file VERSION with each place that tells one. Run at the top of the repository.
+"""Compares the version in the file VERSION with each place that tells one. Run at the top of the
+repository.
 
 Prints each place that tells another, then how many were compared."""
 
 import re
 import sys
 
-# A file, the text around the version, and whether it is the number of C (10000, 100 and 1 times its parts).
+# A file, the text around the version, and whether it is the number of C (10000, 100 and 1 times its
+# parts).
 PLACES = (
     ("rust/Cargo.toml", r'(?m)^version = "(.*)"', False),
     ("rust/capi/Cargo.toml", r'(?m)^version = "(.*)"', False),
@@ -16,7 +18,8 @@ PLACES = (
     ("CHANGELOG.md", r"(?m)^## (.*)", False),
     ("README.md", r"\| Version \| ([0-9.]+[0-9])", False),
     ("include/stunp.h", r"#define STUNP_VERSION (\d+)", True),
-    ("crates/stun_c/src/lib.rt", r"fn stunp_version\(\) -> i64\n[^{]*\{[^}]*\}\n\{\n    (\d+)\n", True),
+    ("crates/stun_c/src/lib.rt", r"fn stunp_version\(\) -> i64\n[^{]*\{[^}]*\}\n\{\n    (\d+)\n",
+     True),
     ("crates/stun_state/src/calls/release.rt", r"const VERSION: i64 = (\d+);", True),
 )
 

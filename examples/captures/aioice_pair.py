@@ -1,6 +1,7 @@
 #!/usr/bin/python3
-"""Two agents of aioice in one process, which check a pair of candidates on 127.0.0.1 by ICE. It prints
-`password UFRAG PASSWORD` for each, and ends with status 0 once both are connected. Debian's Python has Debian's aioice."""
+"""Two agents of aioice in one process, which check a pair of candidates on 127.0.0.1 by ICE. It
+prints `password UFRAG PASSWORD` for each, and ends with status 0 once both are connected. Debian's
+Python has Debian's aioice."""
 import asyncio
 
 from aioice import Candidate, Connection, ice

@@ -1,11 +1,13 @@
 #!/usr/bin/env python3
 """Makes the files of this folder anew: what other programs send each other over loopback.
 
-    capture.py          as root, where Debian's packages coturn, libnice-dev and python3-aioice are installed, and gcc
+    capture.py          as root, where Debian's packages coturn, libnice-dev and python3-aioice are
+                        installed, and gcc
 
-A file has a line with its programs and their versions, and then messages, each once for its sender, type and types of
-attributes: a line `from PROGRAM`, with the words of `stun_inspect verify` where the message is signed, and its bytes in
-hexadecimal. Nonces, ids, ports and passwords are others in each run.
+A file has a line with its programs and their versions, and then messages, each once for its sender,
+type and types of attributes. A message is a line `from PROGRAM`, with the words of `stun_inspect
+verify` where it is signed, and its bytes in hexadecimal. Nonces, ids, ports and passwords are
+others in each run.
 """
 import os
 import pathlib
@@ -40,7 +42,10 @@ class Sniffer(threading.Thread):
                 frame, (_, _, direction, *_) = self.socket.recvfrom(65536)
             except TimeoutError:
                 continue
-            if direction != socket.PACKET_OUTGOING and frame[12:14] == b"\x08\x00" and frame[23] == socket.IPPROTO_UDP:
+            is_ipv4 = frame[12:14] == b"\x08\x00"
+            if direction == socket.PACKET_OUTGOING or not is_ipv4:
+                continue
+            if frame[23] == socket.IPPROTO_UDP:
                 start = 14 + 4 * (frame[14] & 15)
                 source, target, length = struct.unpack_from(">HHH", frame, start)
                 self.seen.append((source, target, frame[start + 8:start + length]))
@@ -88,7 +93,8 @@ def write(name, title, lines):
 
 
 def version(package):
-    asked = subprocess.run(["dpkg-query", "-W", "-f", "${Version}", package], capture_output=True, text=True, check=True)
+    asked = subprocess.run(["dpkg-query", "-W", "-f", "${Version}", package], capture_output=True,
+                           text=True, check=True)
     return asked.stdout.split(":")[-1].rsplit("-", 1)[0]
 
 
@@ -99,14 +105,16 @@ def run(*words):
 def coturn():
     user, realm, password = LONG_TERM
     folder = tempfile.mkdtemp()
-    words = ["turnserver", "-n", "--listening-ip=127.0.0.1", "--relay-ip=127.0.0.1", "-p", str(SERVER_PORT),
-             "--no-tls", "--no-dtls", "--no-cli", "--log-file=stdout", f"--pidfile={folder}/pid", f"--userdb={folder}/db",
-             "--lt-cred-mech", "-r", realm, "-u", f"{user}:{password}", "--allow-loopback-peers"]
+    words = ["turnserver", "-n", "--listening-ip=127.0.0.1", "--relay-ip=127.0.0.1", "-p",
+             str(SERVER_PORT), "--no-tls", "--no-dtls", "--no-cli", "--log-file=stdout",
+             f"--pidfile={folder}/pid", f"--userdb={folder}/db", "--lt-cred-mech", "-r", realm,
+             "-u", f"{user}:{password}", "--allow-loopback-peers"]
     allocate = ["-u", user, "-w", password, "-n", "2", "-m", "1", "-y", "127.0.0.1"]
     lines, had = [], set()
     with subprocess.Popen(words, stdout=subprocess.DEVNULL, stderr=subprocess.DEVNULL) as server:
         time.sleep(2)
-        for client, others in (("turnutils_stunclient", ["127.0.0.1"]), ("turnutils_uclient", allocate),
+        for client, others in (("turnutils_stunclient", ["127.0.0.1"]),
+                               ("turnutils_uclient", allocate),
                                ("turnutils_uclient", ["-s", *allocate])):
             with Sniffer() as sniffer:
                 run(client, "-p", SERVER_PORT, *others)
@@ -122,7 +130,8 @@ def pair(name, number, *words):
     program = name.split(".")[0]
     with Sniffer() as sniffer:
         printed = run(*words).stdout
-    passwords = dict(line.split()[1:] for line in printed.splitlines() if line.startswith("password "))
+    passwords = dict(line.split()[1:] for line in printed.splitlines()
+                     if line.startswith("password "))
     asked = {}
 
     def words_of(message):
@@ -146,7 +155,8 @@ def main():
     pair("aioice.txt", version("python3-aioice"), HERE / "aioice_pair.py")
     with tempfile.TemporaryDirectory() as folder:
         flags = run("pkg-config", "--cflags", "--libs", "nice").stdout
-        subprocess.run(["gcc", HERE / "libnice_pair.c", "-o", f"{folder}/pair", *shlex.split(flags)], check=True)
+        subprocess.run(["gcc", HERE / "libnice_pair.c", "-o", f"{folder}/pair",
+                        *shlex.split(flags)], check=True)
         pair("libnice.txt", version("libnice-dev"), f"{folder}/pair")
 
 

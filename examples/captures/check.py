@@ -1,14 +1,17 @@
 #!/usr/bin/env python3
-"""Gives the messages of this folder to the built stun_inspect, and compares what it prints with what is worked out here.
+"""Gives the messages of this folder to the built stun_inspect, and compares what it prints with
+what is worked out here.
 
     examples/captures/check.py [PROGRAM]
 
-Without a PROGRAM it takes crates/stun_inspect/out/stun_inspect. Each message is decoded raw, in hexadecimal, in base64 and as a
-packet of IPv4, as xxd, hexdump, od, tcpdump, Wireshark and tshark dump it, and out of captures that packets.py makes; it is cut and
-changed; and where its credentials are known its integrity is verified, under them and under others. All messages of a file are told
-one a line, dump by dump, and packet by packet, and captures that are cut or damaged anywhere are told so.
-What must be printed is worked out from RFC 8489, 8656 and 8445 by Python's hashlib, hmac and zlib, and never taken from the
-program. It takes some seconds. The last line counts the runs.
+Without a PROGRAM it takes crates/stun_inspect/out/stun_inspect. Each message is decoded raw, in
+hexadecimal and in base64. It is decoded as a packet of IPv4, as xxd, hexdump, od, tcpdump,
+Wireshark and tshark dump it, and out of captures that packets.py makes. It is cut and changed.
+Where its credentials are known its integrity is verified, under them and under others. All messages
+of a file are told one a line, dump by dump, and packet by packet. Captures that are cut or damaged
+anywhere are told so. What must be printed is worked out from RFC 8489, 8656 and 8445 by Python's
+hashlib, hmac and zlib, and never taken from the program. It takes some seconds. The last line
+counts the runs.
 """
 import base64
 import hashlib
@@ -24,10 +27,12 @@ import zlib
 import packets
 
 HERE = pathlib.Path(__file__).resolve().parent
-CLASSES = {0x000: "request", 0x010: "indication", 0x100: "success response", 0x110: "error response"}
-METHODS = {0x001: "Binding", 0x003: "Allocate", 0x004: "Refresh", 0x006: "Send", 0x007: "Data", 0x008: "CreatePermission",
-           0x009: "ChannelBind"}
-ERRORS = {401: "Unauthenticated", 420: "Unknown Attribute", 437: "Allocation Mismatch", 438: "Stale Nonce", 487: "Role Conflict"}
+CLASSES = {0x000: "request", 0x010: "indication", 0x100: "success response",
+           0x110: "error response"}
+METHODS = {0x001: "Binding", 0x003: "Allocate", 0x004: "Refresh", 0x006: "Send", 0x007: "Data",
+           0x008: "CreatePermission", 0x009: "ChannelBind"}
+ERRORS = {401: "Unauthenticated", 420: "Unknown Attribute", 437: "Allocation Mismatch",
+          438: "Stale Nonce", 487: "Role Conflict"}
 INTEGRITY, INTEGRITY_SHA256, FINGERPRINT = 0x0008, 0x001C, 0x8028
 
 
@@ -35,22 +40,27 @@ INTEGRITY, INTEGRITY_SHA256, FINGERPRINT = 0x0008, 0x001C, 0x8028
 
 
 def text(value, _):
-    return '"' + "".join(c if " " <= c <= "~" and c not in '"\\' else "\\" + c if c in '"\\' else "\\u{%x}" % ord(c)
-                         for c in value.decode()) + '"'
+    def shown(c):
+        if c in '"\\':
+            return "\\" + c
+        return c if " " <= c <= "~" else "\\u{%x}" % ord(c)
+    return '"' + "".join(map(shown, value.decode())) + '"'
 
 
 def nonce(value, _):
     told = "no security bits"
     if value.startswith(b"obMatJos2") and len(value) >= 13:
         bits = base64.b64decode(value[9:13])
-        known = [name for bit, name in ((0x80, "password algorithms"), (0x40, "username anonymity")) if bits[0] & bit]
+        known = [name for bit, name in ((0x80, "password algorithms"), (0x40, "username anonymity"))
+                 if bits[0] & bit]
         told = f"security bits {bits.hex()}: {', '.join(known) or 'none that is known'}"
     return f"{text(value, _)}, {told}"
 
 
 def address(value, _):
     ip = ipaddress.ip_address(value[4:])
-    return f"[{ip}]:{value[2] * 256 + value[3]}" if ip.version == 6 else f"{ip}:{value[2] * 256 + value[3]}"
+    port = value[2] * 256 + value[3]
+    return f"[{ip}]:{port}" if ip.version == 6 else f"{ip}:{port}"
 
 
 def xor_address(value, message):
@@ -99,15 +109,18 @@ def digits(value, _):
 
 
 ATTRIBUTES = {
-    0x0001: ("MAPPED-ADDRESS", address), 0x0003: ("CHANGE-REQUEST", digits), 0x0006: ("USERNAME", text),
-    0x0008: ("MESSAGE-INTEGRITY", digits), 0x0009: ("ERROR-CODE", error), 0x000C: ("CHANNEL-NUMBER", channel),
-    0x000D: ("LIFETIME", lifetime), 0x0012: ("XOR-PEER-ADDRESS", xor_address), 0x0013: ("DATA", digits), 0x0014: ("REALM", text),
-    0x0015: ("NONCE", nonce), 0x0016: ("XOR-RELAYED-ADDRESS", xor_address), 0x0017: ("REQUESTED-ADDRESS-FAMILY", family),
-    0x0018: ("EVEN-PORT", even_port), 0x0019: ("REQUESTED-TRANSPORT", transport), 0x001A: ("DONT-FRAGMENT", flag),
-    0x0020: ("XOR-MAPPED-ADDRESS", xor_address), 0x0022: ("RESERVATION-TOKEN", digits), 0x0024: ("PRIORITY", number),
+    0x0001: ("MAPPED-ADDRESS", address), 0x0003: ("CHANGE-REQUEST", digits),
+    0x0006: ("USERNAME", text), 0x0008: ("MESSAGE-INTEGRITY", digits),
+    0x0009: ("ERROR-CODE", error), 0x000C: ("CHANNEL-NUMBER", channel),
+    0x000D: ("LIFETIME", lifetime), 0x0012: ("XOR-PEER-ADDRESS", xor_address),
+    0x0013: ("DATA", digits), 0x0014: ("REALM", text), 0x0015: ("NONCE", nonce),
+    0x0016: ("XOR-RELAYED-ADDRESS", xor_address), 0x0017: ("REQUESTED-ADDRESS-FAMILY", family),
+    0x0018: ("EVEN-PORT", even_port), 0x0019: ("REQUESTED-TRANSPORT", transport),
+    0x001A: ("DONT-FRAGMENT", flag), 0x0020: ("XOR-MAPPED-ADDRESS", xor_address),
+    0x0022: ("RESERVATION-TOKEN", digits), 0x0024: ("PRIORITY", number),
     0x0025: ("USE-CANDIDATE", flag), 0x8022: ("SOFTWARE", text), 0x8028: ("FINGERPRINT", digits),
-    0x8029: ("ICE-CONTROLLED", digits), 0x802A: ("ICE-CONTROLLING", digits), 0x802B: ("RESPONSE-ORIGIN", address),
-    0x802C: ("OTHER-ADDRESS", address),
+    0x8029: ("ICE-CONTROLLED", digits), 0x802A: ("ICE-CONTROLLING", digits),
+    0x802B: ("RESPONSE-ORIGIN", address), 0x802C: ("OTHER-ADDRESS", address),
 }
 
 
@@ -127,7 +140,8 @@ def decoded(message):
     kind = struct.unpack_from(">H", message)[0]
     method = kind & 0xF | kind >> 1 & 0x70 | kind >> 2 & 0xF80
     lines = [f"{name:28} {value}" for name, value in (
-        ("class", CLASSES[kind & 0x110]), ("method", f"{METHODS[method]} 0x{method:03x}"), ("id", message[8:20].hex()))]
+        ("class", CLASSES[kind & 0x110]), ("method", f"{METHODS[method]} 0x{method:03x}"),
+        ("id", message[8:20].hex()))]
     passed = set()
     for place, kind, value in attributes(message):
         name, told = ATTRIBUTES[kind]
@@ -136,7 +150,8 @@ def decoded(message):
                  else INTEGRITY if INTEGRITY in passed and kind != INTEGRITY_SHA256 else None)
         seen = f"hidden by {ATTRIBUTES[hider][0]}: " if hider else ""
         ending = f", {fingerprint(message, place, value)}" if kind == FINGERPRINT else ""
-        lines.append(f"{name:28} 0x{kind:04x} at {place:<5} {len(value):>5} bytes  {seen}{told(value, message)}{ending}")
+        lines.append(f"{name:28} 0x{kind:04x} at {place:<5} {len(value):>5} bytes  "
+                     f"{seen}{told(value, message)}{ending}")
         passed.add(kind)
     return lines
 
@@ -144,18 +159,21 @@ def decoded(message):
 def fingerprint(message, place, value):
     if len(value) != 4 or place + 8 != len(message):
         return "misplaced"
-    return "right" if value == struct.pack(">I", zlib.crc32(message[:place]) ^ 0x5354554E) else "wrong"
+    return "right" if value == struct.pack(">I",
+                                           zlib.crc32(message[:place]) ^ 0x5354554E) else "wrong"
 
 
 def verified(message, words):
-    """What `verify` prints under a password, or under a name, a realm and a password. Only HMAC-SHA1 is signed here."""
+    """What `verify` prints under a password, or under a name, a realm and a password. Only
+    HMAC-SHA1 is signed here."""
     key = words[0].encode() if len(words) == 1 else hashlib.md5(":".join(words).encode()).digest()
     lines = []
     for place, kind, value in attributes(message):
         if kind == INTEGRITY and not lines:
             covered = message[:2] + struct.pack(">H", place + 4) + message[4:place]
             is_right = hmac.new(key, covered, hashlib.sha1).digest() == value
-            lines.append("valid MESSAGE-INTEGRITY" if is_right else "invalid: the digest is another")
+            lines.append("valid MESSAGE-INTEGRITY" if is_right
+                         else "invalid: the digest is another")
     lines = lines or ["invalid: no integrity attribute is visible"]
     for _, kind, value in attributes(message):
         if kind == INTEGRITY:
@@ -185,22 +203,26 @@ class Runs:
         if (ran.returncode, ran.stdout, ran.stderr) != (status, printed, told):
             sys.exit(f"{what}: stun_inspect {' '.join(words)} on {given[:2000]!r}\n"
                      f"  wanted status {status} and {printed.decode()}{told.decode()}"
-                     f"  got status {ran.returncode} and {ran.stdout.decode()}{ran.stderr.decode()}")
+                     f"  got status {ran.returncode} and "
+                     f"{ran.stdout.decode()}{ran.stderr.decode()}")
 
 
 def packet(message):
     """A packet of IPv4 with UDP, without checksums."""
     udp = struct.pack(">HHHH", 3478, 34780, 8 + len(message), 0) + message
-    return struct.pack(">BBHHHBBH", 0x45, 0, 20 + len(udp), 1, 0, 64, 17, 0) + bytes([127, 0, 0, 1] * 2) + udp
+    return struct.pack(">BBHHHBBH", 0x45, 0, 20 + len(udp), 1, 0, 64, 17,
+                       0) + bytes([127, 0, 0, 1] * 2) + udp
 
 
 def dump(given, offset, groups, gap="  "):
-    """A dump with a column of characters after a gap: the front of a row with an offset, and the digits of so many bytes in a group."""
+    """A dump with a column of characters after a gap: the front of a row with an offset, and the
+    digits of so many bytes in a group."""
     rows = []
     for place in range(0, len(given), 16):
         row = given[place:place + 16]
         shown = " ".join(row[at:at + groups].hex() for at in range(0, 16, groups))
-        rows.append(f"{offset % place}{shown.rstrip():{32 + 16 // groups - 1}}{gap}{characters(row)}\n")
+        width = 32 + 16 // groups - 1
+        rows.append(f"{offset % place}{shown.rstrip():{width}}{gap}{characters(row)}\n")
     return "".join(rows).encode()
 
 
@@ -214,26 +236,30 @@ def rows_of(given):
 
 def hexdump(given):
     """As `hexdump -C -v` dumps it."""
-    rows = [f"{place:08x}  {row[:8].hex(' '):23}  {row[8:].hex(' '):23}  |{characters(row)}|\n" for place, row in rows_of(given)]
+    rows = [f"{place:08x}  {row[:8].hex(' '):23}  {row[8:].hex(' '):23}  |{characters(row)}|\n"
+            for place, row in rows_of(given)]
     return "".join([*rows, f"{len(given):08x}\n"]).encode()
 
 
 def od(given, has_characters=False):
     """As `od -A x -t x1 -v` dumps it, or `-t x1z` with characters."""
-    rows = [f"{place:06x} {row.hex(' '):47}  >{characters(row)}<\n" if has_characters else f"{place:06x} {row.hex(' ')}\n"
-            for place, row in rows_of(given)]
+    rows = [f"{place:06x} {row.hex(' '):47}  >{characters(row)}<\n" if has_characters
+            else f"{place:06x} {row.hex(' ')}\n" for place, row in rows_of(given)]
     return "".join([*rows, f"{len(given):06x}\n"]).encode()
 
 
 def layouts(message):
-    """What the program reads: the message as it is, as digits and letters, and as programs dump it or the packet that carries it."""
+    """What the program reads: the message as it is, as digits and letters, and as programs dump it
+    or the packet that carries it."""
     whole = packet(message)
     frame = bytes(12) + b"\x08\x00" + whole
     return [
-        message, message.hex().encode(), message.hex(" ").encode(), message.hex(":").upper().encode(), base64.encodebytes(message),
-        whole.hex().encode(), frame.hex().encode(),
-        dump(message, "%08x: ", 2), dump(message, "%08x: ", 1), dump(whole, "\t0x%04x:  ", 2), dump(frame, "%04x   ", 1, "   "), dump(frame, "%04x  ", 1, "   "),
-        b"12:34:56.789012 IP 127.0.0.1.3478 > 127.0.0.1.34780: UDP, length 28\n" + dump(whole, "\t0x%04x:  ", 2),
+        message, message.hex().encode(), message.hex(" ").encode(),
+        message.hex(":").upper().encode(), base64.encodebytes(message), whole.hex().encode(),
+        frame.hex().encode(), dump(message, "%08x: ", 2), dump(message, "%08x: ", 1),
+        dump(whole, "\t0x%04x:  ", 2), dump(frame, "%04x   ", 1, "   "),
+        dump(frame, "%04x  ", 1, "   "), b"12:34:56.789012 IP 127.0.0.1.3478 > 127.0.0.1.34780: "
+                                         b"UDP, length 28\n" + dump(whole, "\t0x%04x:  ", 2),
         dump(message, "%04x   ", 1, "   "), dump(message, "0x%04x: ", 2),
         hexdump(message), hexdump(frame), od(message), od(message, True), od(whole),
     ]
@@ -249,11 +275,13 @@ def try_message(runs, what, message, words):
     if words:
         runs.wants(what, ["verify", *words], message, 0, verified(message, words))
         runs.wants(what, ["verify", *words], changed, 1, verified(changed, words))
-        runs.wants(what, ["verify", *words[:-1], "-"], words[-1].encode() + b"\n" + message, 0, verified(message, words))
+        runs.wants(what, ["verify", *words[:-1], "-"], words[-1].encode() + b"\n" + message, 0,
+                   verified(message, words))
         for wrong in ([*words[:-1], "another"], ["another", "other", words[-1]]):
             runs.wants(what, ["verify", *wrong], message, 1, verified(message, wrong))
     else:
-        runs.wants(what, ["verify", "password"], message, 1, ["invalid: no integrity attribute is visible"])
+        runs.wants(what, ["verify", "password"], message, 1,
+                   ["invalid: no integrity attribute is visible"])
 
 
 # ---- Several messages
@@ -268,7 +296,8 @@ def several(messages, headings, ending, others):
 
 
 def try_texts(runs, what, messages):
-    """One message a line, with blank lines and with lines of something else, and dump after dump."""
+    """One message a line, with blank lines and with lines of something else, and dump after
+    dump."""
     def wants(given, starts, others):
         wanted = several(messages, [f"line {start}" for start in starts], "other", others)
         runs.wants(what, ["decode"], given, 0, wanted)
@@ -277,7 +306,8 @@ def try_texts(runs, what, messages):
     wants("".join(f"{message.hex()}\n" for message in messages).encode(), range(1, count + 1), 0)
     letters = [b"\n" + base64.b64encode(message) + b"\r\n" for message in messages]
     wants(b"\n8000" + b"".join(letters), range(3, 2 * count + 3, 2), 1)
-    for front, offset, groups, gap in ((b"12:34:56.789012 IP 127.0.0.1 > 127.0.0.1: UDP\n", "\t0x%04x:  ", 2, "  "),
+    for front, offset, groups, gap in ((b"12:34:56.789012 IP 127.0.0.1 > 127.0.0.1: UDP\n",
+                                        "\t0x%04x:  ", 2, "  "),
                                        (b"Frame 1:\n", "%04x  ", 1, "   ")):
         dumps = [front + dump(packet(message), offset, groups, gap) for message in messages]
         starts = [2 + sum(one.count(b"\n") for one in dumps[:number]) for number in range(count)]
@@ -312,11 +342,13 @@ def try_captures(runs, what, messages):
             frames = [frame(packet) for packet in carried]
             for order in "<>":
                 files = [packets.pcap(link, frames, order, nano) for nano in (False, True)]
-                files += [packets.pcapng(link, frames, order, *resolution) for resolution in RESOLUTIONS]
+                files += [packets.pcapng(link, frames, order, *resolution)
+                          for resolution in RESOLUTIONS]
                 for given in files:
                     runs.wants(f"{what}, {name}, IPv{version}", ["decode"], given, 0, wanted)
     path = pathlib.Path(runs.folder) / "capture.pcap"
-    path.write_bytes(packets.pcap(228, [packets.ipv4(packets.udp(message)) for message in messages]))
+    path.write_bytes(packets.pcap(228,
+                                  [packets.ipv4(packets.udp(message)) for message in messages]))
     runs.wants(f"{what}, from a file", ["decode", str(path)], b"", 0, of_capture(messages))
 
 
@@ -332,10 +364,11 @@ def try_headers(runs, what, message):
     for name, headers in packets.EXTENSIONS.items():
         given = packets.pcap(229, [packets.ipv6(datagram, headers=headers)])
         wants(name, given, 0, of_capture([message], 6))
-    without = [packets.ipv4(b"", 6), packets.ipv6(b"", 6), packets.ipv6(b"", 59), b"\x50" + bytes(40),
-               packets.ipv4(struct.pack(">HHHH", 1, 2, 7, 0))]
+    without = [packets.ipv4(b"", 6), packets.ipv6(b"", 6), packets.ipv6(b"", 59),
+               b"\x50" + bytes(40), packets.ipv4(struct.pack(">HHHH", 1, 2, 7, 0))]
     other = packets.ipv4(packets.udp(b"\x80" * 20))
-    frames = [bytes(12) + b"\x08\x06" + bytes(46), *map(ethernet, [*without, other, packets.ipv4(datagram)])]
+    frames = [bytes(12) + b"\x08\x06" + bytes(46),
+              *map(ethernet, [*without, other, packets.ipv4(datagram)])]
     wants("others", packets.pcap(1, frames), 0, of_capture([message], 4, 1, 6, first=8))
     fragments = [packets.ipv4(datagram, fragment=0x2000), packets.ipv4(datagram, fragment=0x00B9),
                  packets.ipv6(datagram, headers=[(44, b"\0\0\1" + bytes(4))])]
@@ -343,7 +376,8 @@ def try_headers(runs, what, message):
     cut = [packets.ipv4(datagram)[:length] for length in range(1, 28)]
     cut += [packets.ipv6(datagram)[:length] for length in range(1, 48)]
     wants("cut headers", packets.pcap(101, cut), 1, unread(len(cut), "with headers that are cut"))
-    wants("another link", packets.pcap(147, [b"", b"1"]), 1, unread(2, "of another link, of type 147"))
+    wants("another link", packets.pcap(147, [b"", b"1"]), 1,
+          unread(2, "of another link, of type 147"))
     heading, *_, ending = of_capture([message])
     for length in range(len(message) - 1, 19, -7):
         snapped, whole = packets.ipv4(datagram)[:28 + length], len(datagram) + 20
@@ -355,13 +389,15 @@ def try_headers(runs, what, message):
 
 
 def ends_anywhere(runs, what, messages, parts, fronts):
-    """A file of these parts, of which so many stand before the packets, that ends anywhere but between two."""
+    """A file of these parts, of which so many stand before the packets, that ends anywhere but
+    between two."""
     given = b"".join(parts)
     ends = [sum(map(len, parts[:count])) for count in range(fronts, len(parts) + 1)]
     for length in range(ends[0] + 1, len(given)):
         read = sum(end <= length for end in ends) - 1
         if length not in ends:
-            error = f"bad capture after packet {read}, at byte {ends[read]}: the file ends within a record"
+            error = (f"bad capture after packet {read}, at byte {ends[read]}: "
+                     "the file ends within a record")
             runs.wants(what, ["decode"], given[:length], 2, of_capture(messages[:read]), error)
 
 
@@ -394,7 +430,8 @@ def try_damage(runs, what, messages):
     runs.wants(f"{what}, two sections", ["decode"], front + other, 0, of_capture(messages[:2]))
     simple = packets.block(3, struct.pack("<I", len(frames[0])) + frames[0])
     given = b"".join(blocks[:2]) + simple
-    runs.wants(f"{what}, a simple packet", ["decode"], given, 0, of_capture(messages[:1], stamped=False))
+    runs.wants(f"{what}, a simple packet", ["decode"], given, 0,
+               of_capture(messages[:1], stamped=False))
 
 
 def captures(path):
@@ -406,7 +443,8 @@ def captures(path):
 
 
 def main():
-    program = sys.argv[1] if sys.argv[1:] else HERE.parent.parent / "crates/stun_inspect/out/stun_inspect"
+    built = HERE.parent.parent / "crates/stun_inspect/out/stun_inspect"
+    program = sys.argv[1] if sys.argv[1:] else built
     count = 0
     with tempfile.TemporaryDirectory() as folder:
         runs = Runs(str(program), folder)
@@ -420,7 +458,8 @@ def main():
             try_headers(runs, path.name, messages[0])
             try_damage(runs, path.name, messages)
             count += len(messages)
-    print(f"captures: {count} messages of other programs, {runs.count} runs of stun_inspect as RFC 8489 has it")
+    print(f"captures: {count} messages of other programs, {runs.count} runs of stun_inspect as RFC "
+          "8489 has it")
     if count == 0:
         sys.exit("captures: none is there")
 

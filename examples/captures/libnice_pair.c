@@ -13,7 +13,8 @@ static guint streams[2];
 static GMainLoop *loop;
 static int gathered, ready;
 
-static void on_data(NiceAgent *agent, guint stream, guint component, guint length, gchar *bytes, gpointer data) {
+static void on_data(NiceAgent *agent, guint stream, guint component, guint length, gchar *bytes,
+                    gpointer data) {
     (void)agent, (void)stream, (void)component, (void)length, (void)bytes, (void)data;
 }
 
@@ -61,7 +62,8 @@ int main(void) {
         g_signal_connect(agents[i], "candidate-gathering-done", G_CALLBACK(on_gathered), NULL);
         g_signal_connect(agents[i], "component-state-changed", G_CALLBACK(on_state), NULL);
         streams[i] = nice_agent_add_stream(agents[i], 1);
-        nice_agent_attach_recv(agents[i], streams[i], 1, g_main_loop_get_context(loop), on_data, NULL);
+        nice_agent_attach_recv(agents[i], streams[i], 1, g_main_loop_get_context(loop), on_data,
+                               NULL);
     }
     for (int i = 0; i < 2; i++) nice_agent_gather_candidates(agents[i], streams[i]);
     g_main_loop_run(loop);

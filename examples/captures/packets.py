@@ -99,7 +99,8 @@ def interface(link, order="<", resolution=None):
 def enhanced(packet, number, order="<", in_second=1_000_000, interface_number=0, whole=None):
     ticks = SECONDS * in_second + number * in_second // 2
     halves, lengths = (ticks >> 32, ticks & 0xFFFFFFFF), (len(packet), whole or len(packet))
-    return block(6, struct.pack(order + "IIIII", interface_number, *halves, *lengths) + packet, order)
+    return block(6, struct.pack(order + "IIIII", interface_number, *halves, *lengths) + packet,
+                 order)
 
 
 def pcapng(link, packets, order="<", resolution=None, in_second=1_000_000):

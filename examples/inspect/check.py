@@ -1,11 +1,12 @@
 #!/usr/bin/env python3
-"""Runs the built stun_inspect on the transcripts of this folder, and compares its names with those of `registry` and its word on
-FINGERPRINTs with Python's zlib. It also reads an input of exactly the most bytes, and one of a byte more.
+"""Runs the built stun_inspect on the transcripts of this folder. It compares its names with those
+of `registry`, and its word on FINGERPRINTs with Python's zlib. It also reads an input of exactly
+the most bytes, and one of a byte more.
 
     examples/inspect/check.py [PROGRAM ..]
 
-Without a PROGRAM it takes crates/stun_inspect/out/stun_inspect. How the files are written says examples/play.py. It takes some
-twenty seconds. The last line counts the runs.
+Without a PROGRAM it takes crates/stun_inspect/out/stun_inspect. How the files are written says
+examples/play.py. It takes some twenty seconds. The last line counts the runs.
 """
 
 import concurrent.futures
@@ -27,22 +28,26 @@ FINGERPRINT = 0x8028
 # The most bytes of an input.
 LIMIT = 67_108_864
 ENDLESS = b"the input does not end within 67108864 bytes and 1048576 reads\n"
-NO_TEXT = b"bad input at line 1, column 1: looked for text, a capture, or a message, which has 2112a442 at its byte 4\n"
+NO_TEXT = (b"bad input at line 1, column 1: looked for text, a capture, or a message, "
+           b"which has 2112a442 at its byte 4\n")
 
 
 def names():
     """The names of the registry's table, by kind and number."""
     with open(os.path.join(HERE, "registry"), encoding="utf-8") as opened:
-        words = [line.split(" ", 2) for line in opened.read().split("\n") if line and not line.startswith("#")]
+        words = [line.split(" ", 2) for line in opened.read().split("\n")
+                 if line and not line.startswith("#")]
     return {(kind, int(number, 0)): name.strip() for kind, number, name in words}
 
 
 def decoded(program, message):
     """The lines that `decode` prints on a message."""
     program.count += 1
-    ran = subprocess.run([program.path, "decode"], input=message, stdout=subprocess.PIPE, stderr=subprocess.PIPE, timeout=120)
+    ran = subprocess.run([program.path, "decode"], input=message, stdout=subprocess.PIPE,
+                         stderr=subprocess.PIPE, timeout=120)
     if (ran.returncode, ran.stderr) != (0, b""):
-        raise play.Wrong(f"decode of {message[:200].hex()}: status {ran.returncode}, {ran.stdout[:300]!r}, {ran.stderr[:300]!r}")
+        raise play.Wrong(f"decode of {message[:200].hex()}: status {ran.returncode}, "
+                         f"{ran.stdout[:300]!r}, {ran.stderr[:300]!r}")
     return ran.stdout.decode().split("\n")[:-1]
 
 
@@ -60,10 +65,12 @@ def names_attributes(program):
     listed = names()
     for first in range(0, 0x10000, 0x3000):
         kinds = range(first, min(first + 0x3000, 0x10000))
-        lines = decoded(program, message(b"".join(struct.pack(">HH", kind, 0) for kind in kinds)))[3:]
+        lines = decoded(program,
+                        message(b"".join(struct.pack(">HH", kind, 0) for kind in kinds)))[3:]
         wants(f"lines on attributes from {first}", len(kinds), len(lines))
         for kind, line in zip(kinds, lines):
-            wants(line, f"{listed.get(('attribute', kind), 'unregistered'):28} 0x{kind:04x}", line.split(" at ")[0])
+            wants(line, f"{listed.get(('attribute', kind), 'unregistered'):28} 0x{kind:04x}",
+                  line.split(" at ")[0])
 
 
 def names_methods(program):
@@ -73,7 +80,8 @@ def names_methods(program):
     def one(method):
         kind = method & 0xF | (method & 0x70) << 1 | (method & 0xF80) << 2
         name = listed.get(("method", method), "unregistered")
-        wants(f"method {method}", f"{'method':28} {name} 0x{method:03x}", decoded(program, message(b"", kind))[1])
+        wants(f"method {method}", f"{'method':28} {name} 0x{method:03x}",
+              decoded(program, message(b"", kind))[1])
     with concurrent.futures.ThreadPoolExecutor(4) as pool:
         list(pool.map(one, range(0x1000)))
 
@@ -81,9 +89,11 @@ def names_methods(program):
 def names_errors(program):
     """All codes that an ERROR-CODE can have, 300 to 699."""
     listed, codes = names(), range(300, 700)
-    attributes = b"".join(struct.pack(">HHHBB", 0x0009, 4, 0, code // 100, code % 100) for code in codes)
+    attributes = b"".join(struct.pack(">HHHBB", 0x0009, 4, 0, code // 100, code % 100)
+                          for code in codes)
     for code, line in zip(codes, decoded(program, message(attributes))[3:]):
-        wants(line, f"{code} {listed.get(('error', code), 'unregistered')}, \"\"", line.split(" bytes  ")[1])
+        wants(line, f"{code} {listed.get(('error', code), 'unregistered')}, \"\"",
+              line.split(" bytes  ")[1])
 
 
 def fingerprint(before):
@@ -91,43 +101,51 @@ def fingerprint(before):
 
 
 def tells_fingerprints(program):
-    """A right FINGERPRINT after bytes of each length, and one that is wrong once any bit before it or of its value is another, where
-    the bytes are a message still."""
+    """A right FINGERPRINT after bytes of each length, and one that is wrong once any bit before it
+    or of its value is another, where the bytes are a message still."""
     drawn = random.Random(8489)
     for length in range(0, 260, 4):
         before = message(struct.pack(">HH", 0x8022, length) + drawn.randbytes(length))
         before = before[:2] + struct.pack(">H", len(before) - 20 + 8) + before[4:]
-        wants(f"a FINGERPRINT after {len(before)} bytes", "right", decoded(program, before + fingerprint(before))[-1].split(", ")[-1])
+        wants(f"a FINGERPRINT after {len(before)} bytes", "right",
+              decoded(program, before + fingerprint(before))[-1].split(", ")[-1])
     before = message(b"")[:2] + struct.pack(">H", 8) + message(b"")[4:]
     right = before + fingerprint(before)
     for place in [0, 1, *range(8, 20), *range(24, 28)]:
         for bit in range(6 if place == 0 else 8):
             changed = bytearray(right)
             changed[place] ^= 1 << bit
-            wants(f"a FINGERPRINT with bit {bit} of byte {place} changed", "wrong", decoded(program, bytes(changed))[-1].split(", ")[-1])
+            wants(f"a FINGERPRINT with bit {bit} of byte {place} changed", "wrong",
+                  decoded(program, bytes(changed))[-1].split(", ")[-1])
 
 
 def reads_to_the_limit(program):
-    """An input of exactly the most bytes is read, here only to be none, and one of a byte more is not."""
+    """An input of exactly the most bytes is read, here only to be none, and one of a byte more is
+    not."""
     for length, words in ((LIMIT, NO_TEXT), (LIMIT + 1, ENDLESS)):
         program.count += 1
-        ran = subprocess.run([program.path, "decode"], input=b"\xff" * length, stdout=subprocess.PIPE, stderr=subprocess.PIPE, timeout=120)
-        wants(f"an input of {length} bytes", (2, b"", b"stun_inspect: " + words), (ran.returncode, ran.stdout, ran.stderr))
+        ran = subprocess.run([program.path, "decode"], input=b"\xff" * length,
+                             stdout=subprocess.PIPE, stderr=subprocess.PIPE, timeout=120)
+        wants(f"an input of {length} bytes", (2, b"", b"stun_inspect: " + words),
+              (ran.returncode, ran.stdout, ran.stderr))
 
 
 def main(paths):
     count, wrong = 0, 0
-    for path in paths or [os.path.join(HERE, "..", "..", "crates", "stun_inspect", "out", "stun_inspect")]:
+    for path in paths or [os.path.join(HERE, "..", "..", "crates", "stun_inspect", "out",
+                                       "stun_inspect")]:
         program = play.Program(path, REFUSED)
         wrong += play.play(program, sorted(glob.glob(os.path.join(HERE, "*.txt"))))
-        for subject in (names_attributes, names_methods, names_errors, tells_fingerprints, reads_to_the_limit):
+        for subject in (names_attributes, names_methods, names_errors, tells_fingerprints,
+                        reads_to_the_limit):
             try:
                 subject(program)
             except (play.Wrong, ValueError) as failure:
                 print(f"{subject.__name__}: {failure}", file=sys.stderr)
                 wrong += 1
         count += program.count
-    print(f"inspect: {wrong} runs came otherwise" if wrong else f"inspect: passed, {count} runs of the built program")
+    print(f"inspect: {wrong} runs came otherwise" if wrong
+          else f"inspect: passed, {count} runs of the built program")
     return 1 if wrong else 0
 
 

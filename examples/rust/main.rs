@@ -1,4 +1,5 @@
-//! Builds a signed Binding request, and says which digest of it stands, through the archive that C links too.
+//! Builds a signed Binding request, and says which digest of it stands, through the archive that C
+//! links too.
 use std::process::ExitCode;
 
 // As include/stunp.h declares them: a slice crosses as a pointer and a length.
@@ -28,7 +29,13 @@ fn verify(message: &[u8], key: &[u8]) -> Result<i64, i64> {
 }
 
 /// The request at the front of the buffer, or the number of the refusal.
-fn build<'a>(algorithm: u32, id: &[u8; 12], name: &str, key: &[u8], buffer: &'a mut [u8]) -> Result<&'a [u8], i64> {
+fn build<'a>(
+    algorithm: u32,
+    id: &[u8; 12],
+    name: &str,
+    key: &[u8],
+    buffer: &'a mut [u8],
+) -> Result<&'a [u8], i64> {
     // SAFETY: as above, and `buffer` is borrowed mutably, so that it overlaps none of the others.
     let answer = unsafe {
         stunp_build_signed(
@@ -43,7 +50,9 @@ fn build<'a>(algorithm: u32, id: &[u8; 12], name: &str, key: &[u8], buffer: &'a 
             buffer.len(),
         )
     };
-    usize::try_from(answer).map(|length| &buffer[..length]).map_err(|_| answer)
+    usize::try_from(answer)
+        .map(|length| &buffer[..length])
+        .map_err(|_| answer)
 }
 
 fn main() -> ExitCode {
@@ -51,8 +60,14 @@ fn main() -> ExitCode {
     // A program takes its ids from a random source (RFC 8489, section 5).
     let id = *b"an id apiece";
     for algorithm in [1, 2] {
-        let answer = build(algorithm, &id, "evtj:h6vY", b"VOkJxbRl1RmTxUk/WvJxBt", &mut buffer)
-            .and_then(|request| verify(request, b"VOkJxbRl1RmTxUk/WvJxBt"));
+        let answer = build(
+            algorithm,
+            &id,
+            "evtj:h6vY",
+            b"VOkJxbRl1RmTxUk/WvJxBt",
+            &mut buffer,
+        )
+        .and_then(|request| verify(request, b"VOkJxbRl1RmTxUk/WvJxBt"));
         println!("{answer:?}");
         if answer != Ok(i64::from(algorithm)) {
             return ExitCode::FAILURE;

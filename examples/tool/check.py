@@ -1,14 +1,17 @@
 #!/usr/bin/env python3
-"""Runs the built program on the transcripts of this folder: every command, script line, word, refusal and exit status; input and
-output that are closed or fail; each allocation refused in turn, and so each with all after it.
+"""Runs the built program on the transcripts of this folder: every command, script line, word,
+refusal and exit status. Input and output are closed or fail. Each allocation is refused in turn,
+and so each with all after it.
 
     examples/tool/check.py [PROGRAM ..]
 
-Without a PROGRAM it builds crates/stun_tool/out/stun_tool by `rt run`, which proves what has changed since. After `rt ci` the
-two programs that it built are there: crates/stun_tool/out/stun_tool and crates/stun_tool/out/stun_tool.by-rattle.
-It needs Python 3.8 and /dev/full, and to make reads, writes and allocations fail by their number a C compiler and glibc. What must
-be printed is worked out from RFC 8489, the digests by Python's hmac and hashlib, and never taken from the program. How the files
-are written says examples/play.py. The last line counts the runs.
+Without a PROGRAM it builds crates/stun_tool/out/stun_tool by `rt run`, which proves what has
+changed since. After `rt ci` the two programs that it built are there:
+crates/stun_tool/out/stun_tool and crates/stun_tool/out/stun_tool.by-rattle. It needs Python 3.8 and
+/dev/full, and to make reads, writes and allocations fail by their number a C compiler and glibc.
+What must be printed is worked out from RFC 8489, the digests by Python's hmac and hashlib, and
+never taken from the program. How the files are written says examples/play.py. The last line counts
+the runs.
 """
 
 import glob
@@ -23,31 +26,40 @@ import play  # noqa: E402
 
 REFUSED = 1, b""
 
-SAMPLE = """00010058 2112a442 b7e7a701 bc34d686 fa87dfae 80220010 5354554e 20746573 7420636c 69656e74 00240004 6e0001ff
-    80290008 932ff9b1 51263b36 00060009 6576746a 3a683676 59202020 00080014 9aeaa70c bfd8cb56 781ef2b5 b2d3f249 c1b571a2
-    80280004 e57a3bcf"""
+SAMPLE = ("00010058 2112a442 b7e7a701 bc34d686 fa87dfae 80220010 5354554e 20746573 7420636c "
+          "69656e74 00240004 6e0001ff\n"
+          "    80290008 932ff9b1 51263b36 00060009 6576746a 3a683676 59202020 00080014 9aeaa70c "
+          "bfd8cb56 781ef2b5 b2d3f249 c1b571a2\n"
+          "    80280004 e57a3bcf")
 
 # A small task, done in the least address space, and a large one with what it prints.
 LARGE = [
-    (["check", "VOkJxbRl1RmTxUk/WvJxBt"], SAMPLE, SAMPLE + " " * 4_000_000, "valid MESSAGE-INTEGRITY\n"),
+    (["check", "VOkJxbRl1RmTxUk/WvJxBt"], SAMPLE, SAMPLE + " " * 4_000_000,
+     "valid MESSAGE-INTEGRITY\n"),
     (["serve", "realm"], "expiry 30\n", "expiry 30\n" * 20_000, "ok\n" * 20_000),
 ]
 
 
 def refuses_space(program):
-    """In an address space that does for a small task, a large one ends with status 1 and a beginning of its lines."""
+    """In an address space that does for a small task, a large one ends with status 1 and a
+    beginning of its lines."""
     for words, small, large, printed in LARGE:
         def ran(given, kibibytes):
             program.count += 1
-            limited = ["sh", "-c", 'ulimit -v "$0" && exec "$@"', str(kibibytes), program.path, *words]
-            return subprocess.run(limited, input=given.encode(), stdout=subprocess.PIPE, stderr=subprocess.PIPE, timeout=60)
+            limited = ["sh", "-c", 'ulimit -v "$0" && exec "$@"', str(kibibytes), program.path,
+                       *words]
+            return subprocess.run(limited, input=given.encode(), stdout=subprocess.PIPE,
+                                  stderr=subprocess.PIPE, timeout=60)
 
         def is_cut(kibibytes):
             end = ran(large, kibibytes)
             if (end.returncode, end.stdout, end.stderr) == (0, printed.encode(), b""):
                 return False
-            if end.returncode != 1 or end.stderr or not printed.encode().startswith(end.stdout) or end.stdout[-1:] not in (b"", b"\n"):
-                raise play.Wrong(f"{words} in {kibibytes} KiB: status {end.returncode}, {end.stdout[-300:]!r}, {end.stderr[:300]!r}")
+            is_beginning = printed.encode().startswith(end.stdout)
+            is_beginning = is_beginning and end.stdout[-1:] in (b"", b"\n")
+            if end.returncode != 1 or end.stderr or not is_beginning:
+                raise play.Wrong(f"{words} in {kibibytes} KiB: status {end.returncode}, "
+                                 f"{end.stdout[-300:]!r}, {end.stderr[:300]!r}")
             return True
         little, enough = 0, 1 << 22
         while enough - little > 4:
@@ -59,8 +71,9 @@ def refuses_space(program):
 
 def built():
     """The program, proved and built by `rt run`."""
-    ran = subprocess.run(["rt", "run", "--", "negotiate", "sha1", "auto", "sha1", "auto"], cwd=CRATE, stdin=subprocess.DEVNULL,
-                         stdout=subprocess.PIPE, stderr=subprocess.STDOUT)
+    ran = subprocess.run(["rt", "run", "--", "negotiate", "sha1", "auto", "sha1", "auto"],
+                         cwd=CRATE, stdin=subprocess.DEVNULL, stdout=subprocess.PIPE,
+                         stderr=subprocess.STDOUT)
     if ran.returncode:
         sys.stdout.buffer.write(ran.stdout)
         sys.exit("tool: not built")
@@ -78,7 +91,8 @@ def main(paths):
             print(failure, file=sys.stderr)
             wrong += 1
         count += program.count
-    print(f"tool: {wrong} runs came otherwise" if wrong else f"tool: passed, {count} runs of the built program")
+    print(f"tool: {wrong} runs came otherwise" if wrong
+          else f"tool: passed, {count} runs of the built program")
     return 1 if wrong else 0
 
 

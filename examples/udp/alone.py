@@ -5,6 +5,7 @@ import random
 import re
 import signal
 import socket
+import struct
 import subprocess
 import tempfile
 import time
@@ -28,8 +29,15 @@ def unknown_attributes(server):
 
 
 def many_attributes(server):
+    """70 unknown types that need not be understood, and 40 that must be: each of these is named."""
+    optional = [(0x9000 + number, b"") for number in range(70)]
+    required = [(0x7000 + number, b"") for number in range(40)]
     with Server(server) as running, Peer(running.port) as peer:
-        peer.is_dropped(stun.message(stun.REQUEST, [(0x8000 + i, b"") for i in range(70)]))
+        assert stun.code_of(peer.ask(stun.message(stun.REQUEST, optional))) == 200
+        answer = peer.ask(stun.message(stun.REQUEST, required))
+        assert stun.code_of(answer) == 420
+        named = struct.pack(">40H", *(kind for kind, _ in required))
+        assert stun.value_of(answer, stun.UNKNOWN) == named, answer
 
 
 def unknown_and_signed(server, words, algorithm):
@@ -131,8 +139,9 @@ def another_address(server):
 
 
 def crowd(running, *hosts, ports=1):
-    """An unsigned request of each port of each of these hosts. Each twentieth is waited for, the last
-    too, so that none is lost. Ports are held until then, so that none draws another's answer."""
+    """An unsigned request of each port of each of these hosts. Each twentieth is waited for, the
+    last too, so that none is lost. Ports are held until then, so that none draws another's
+    answer."""
     with contextlib.ExitStack() as held:
         for left in reversed(range(ports * len(hosts))):
             peer = held.enter_context(Peer(running.port, here=hosts[left // ports]))

@@ -1,11 +1,13 @@
 #!/usr/bin/env python3
-"""Tries udp_server and udp_client against other STUN programs over loopback, and prints a Markdown table of what was seen.
+"""Tries udp_server and udp_client against other STUN programs over loopback, and prints a Markdown
+table of what was seen.
 
     interop.py [--install]
 
-The peers are Debian's packages coturn, libnice-dev, python3-aioice, golang-github-pion-stun-dev and stun-client. With --install
-those that are missing, and what builds them, are installed by apt-get; without it a line after the table names them.
-docs/INTEROP.md has the table of a run. Status 0 where each row that could be tried came out as it should.
+The peers are Debian's packages coturn, libnice-dev, python3-aioice, golang-github-pion-stun-dev and
+stun-client. With --install those that are missing, and what builds them, are installed by apt-get;
+without it a line after the table names them. docs/INTEROP.md has the table of a run. Status 0 where
+each row that could be tried came out as it should.
 """
 import os
 import pathlib
@@ -22,20 +24,24 @@ import stun
 REALM, NAME, PASSWORD = harness.USER
 SERVER, CLIENT = (harness.TOP / "examples/c/out" / name for name in ("udp_server", "udp_client"))
 PYTHON = "/usr/bin/python3"  # Debian's, for which Debian packages aioice
-PACKAGES = ("coturn", "libnice-dev", "pkg-config", "python3-aioice", "golang-github-pion-stun-dev", "golang-go", "stun-client")
+PACKAGES = ("coturn", "libnice-dev", "pkg-config", "python3-aioice", "golang-github-pion-stun-dev",
+            "golang-go", "stun-client")
 ROWS = []
 
 
 def version(package):
     """The version of an installed package, without Debian's epoch and revision; or None."""
-    asked = subprocess.run(["dpkg-query", "-W", "-f", "${db:Status-Status} ${Version}", package], capture_output=True, text=True)
+    asked = subprocess.run(["dpkg-query", "-W", "-f", "${db:Status-Status} ${Version}", package],
+                           capture_output=True, text=True)
     status, _, number = asked.stdout.partition(" ")
     return number.split(":")[-1].rsplit("-", 1)[0] if status == "installed" else None
 
 
 def run(*words, timeout=40):
-    """What a program printed, on either output, and its status, or None where it was ended after so many seconds."""
-    with subprocess.Popen([str(word) for word in words], stdout=subprocess.PIPE, stderr=subprocess.STDOUT, text=True) as started:
+    """What a program printed, on either output, and its status, or None where it was ended after so
+    many seconds."""
+    with subprocess.Popen([str(word) for word in words], stdout=subprocess.PIPE,
+                          stderr=subprocess.STDOUT, text=True) as started:
         try:
             return started.communicate(timeout=timeout)[0].strip(), started.returncode
         except subprocess.TimeoutExpired:
@@ -44,7 +50,8 @@ def run(*words, timeout=40):
 
 
 def row(peer, what, judge, algorithm, trial):
-    """Tries, and keeps a row: the peer, what is done, who validated whose signature, by which algorithm, and what came of it."""
+    """Tries, and keeps a row: the peer, what is done, who validated whose signature, by which
+    algorithm, and what came of it."""
     try:
         came = trial()
     except Exception as error:
@@ -67,7 +74,8 @@ class Peer:
 
     def __init__(self, *words, port=None):
         self.out = tempfile.TemporaryFile("w+")
-        self.process = subprocess.Popen([str(word) for word in words], stdout=self.out, stderr=subprocess.STDOUT, text=True)
+        self.process = subprocess.Popen([str(word) for word in words], stdout=self.out,
+                                        stderr=subprocess.STDOUT, text=True)
         until = time.monotonic() + 15
         while time.monotonic() < until and not self.is_up(port):
             time.sleep(0.1)
@@ -100,9 +108,10 @@ class Peer:
 def turnserver(*words):
     port = free_port()
     folder = tempfile.mkdtemp()
-    return Peer("turnserver", "-n", "--listening-ip=127.0.0.1", "--listening-ip=::1", "--relay-ip=127.0.0.1", "-p", port,
-                "--no-tls", "--no-dtls", "--no-cli", "--log-file=stdout", f"--pidfile={folder}/pid", f"--userdb={folder}/db",
-                *words, port=port)
+    return Peer("turnserver", "-n", "--listening-ip=127.0.0.1", "--listening-ip=::1",
+                "--relay-ip=127.0.0.1", "-p", port, "--no-tls", "--no-dtls", "--no-cli",
+                "--log-file=stdout", f"--pidfile={folder}/pid", f"--userdb={folder}/db", *words,
+                port=port)
 
 
 # ---- Their clients against udp_server
@@ -137,22 +146,26 @@ def old_stun():
     with harness.Server(SERVER, "-v") as server:
         run("stun", f"127.0.0.1:{server.port}", timeout=60)
         until(lambda: server.lines[1:])
-        wants(all("dropped: the bytes are not a STUN message" in line for line in server.lines[1:]) and len(server.lines) > 1, server.lines)
+        wants(all("dropped: the bytes are not a STUN message" in line for line in server.lines[1:])
+              and len(server.lines) > 1, server.lines)
         return "not answered: RFC 3489 has no magic cookie"
 
 
 def asks(words, wanted, line, *offered):
-    """Their client prints what it should, and the server's last line says that it validated the request."""
+    """Their client prints what it should, and the server's last line says that it validated the
+    request."""
     with harness.Server(SERVER, *harness.USER, "--any-method", "-v", *offered) as server:
         out, _ = run(*(str(server.port) if word == "PORT" else word for word in words))
-        wants(wanted in out and until(lambda: server.lines[-1].endswith(f"{line} {NAME}")), (out, server.lines))
+        wants(wanted in out and until(lambda: server.lines[-1].endswith(f"{line} {NAME}")),
+              (out, server.lines))
         return f"prints `{wanted}`; the server's log has `{line.strip()}`"
 
 
 def refused(words):
     with harness.Server(SERVER, *harness.USER, "--any-method", "-v") as server:
         out, _ = run(*(str(server.port) if word == "PORT" else word for word in words))
-        wants(until(lambda: server.lines[1:]) and ended(server, " 401") == server.lines[1:], (out, server.lines))
+        wants(until(lambda: server.lines[1:]) and ended(server, " 401") == server.lines[1:],
+              (out, server.lines))
         return "401 each time"
 
 
@@ -176,8 +189,8 @@ def forgets(relay, first, second):
 
 
 def goes_on(words, way, codes, *offered):
-    """The server starts anew, or forgets the client's address, when the answer to its challenge is on the way. The client then draws
-    these codes first; the last tells whether it went on."""
+    """The server starts anew, or forgets the client's address, when the answer to its challenge is
+    on the way. The client then draws these codes first; the last tells whether it went on."""
     settings = (*harness.USER, "--any-method", "--expiry", "30", "--ahead", "300", "-v", *offered)
     with harness.Server(SERVER, *settings) as first, harness.Server(SERVER, *settings) as second:
         moved = []
@@ -195,7 +208,8 @@ def goes_on(words, way, codes, *offered):
                 wants(drawn == codes and out.startswith("438"), (drawn, out))
                 return f"codes {codes}: it gives up"
             wants(drawn[:len(codes)] == codes, (drawn, out))
-            wants(until(lambda: any(line.endswith(f" {codes[-1]} SHA1 {NAME}") for line in first.lines + second.lines)), out)
+            wants(until(lambda: any(line.endswith(f" {codes[-1]} SHA1 {NAME}")
+                                    for line in first.lines + second.lines)), out)
             return f"codes {codes}: it goes on"
 
 
@@ -207,7 +221,8 @@ def going_on(peer, what, words, codes):
     for way, told in WAYS:
         for offered in ((), ("--sha256",)):
             judge = "nobody" if codes[-1] == 438 else f"udp_server validated {peer.split()[0]}"
-            row(peer, " ".join((what, "→ udp_server", *offered, told)), judge, "HMAC-SHA1", lambda: goes_on(words, way, codes, *offered))
+            row(peer, " ".join((what, "→ udp_server", *offered, told)), judge, "HMAC-SHA1",
+                lambda: goes_on(words, way, codes, *offered))
 
 
 # ---- udp_client against their servers
@@ -221,7 +236,8 @@ def client_prints(peer, host, *words):
         if not words:
             return f"prints its address; codes {codes}"
         key = stun.key_of(stun.SHA1, NAME, REALM, PASSWORD)
-        wants(stun.verifies(relay.requests[-1], stun.SHA1, key) and stun.verifies(relay.responses[-1], stun.SHA1, key), codes)
+        wants(stun.verifies(relay.requests[-1], stun.SHA1, key)
+              and stun.verifies(relay.responses[-1], stun.SHA1, key), codes)
         return f"prints its address; codes {codes}"
 
 
@@ -240,7 +256,8 @@ def stale(peer):
         return [data]
 
     with harness.Relay(peer, rule) as relay:
-        harness.succeeds(harness.ask(CLIENT, "127.0.0.1", relay.port, NAME, PASSWORD), relay.address())
+        harness.succeeds(harness.ask(CLIENT, "127.0.0.1", relay.port, NAME, PASSWORD),
+                         relay.address())
         codes = harness.codes(relay)
         wants(438 in codes and 200 in codes, codes)
         return f"prints its address; codes {codes}"
@@ -253,30 +270,41 @@ def with_coturn(number):
     peer = f"coturn {number}"
     for host in ("127.0.0.1", "::1"):
         kind = "IPv6" if ":" in host else "IPv4"
-        row(peer, f"`turnutils_stunclient` → udp_server, {kind}", "nobody", "none", lambda: stunclient(host))
-    row(peer, "`turnutils_stunclient -f` → udp_server", "nobody", "none", lambda: stunclient("127.0.0.1", "-f"))
+        row(peer, f"`turnutils_stunclient` → udp_server, {kind}", "nobody", "none",
+            lambda: stunclient(host))
+    row(peer, "`turnutils_stunclient -f` → udp_server", "nobody", "none",
+        lambda: stunclient("127.0.0.1", "-f"))
     for offered in ((), ("--sha256",)):
-        words = ("turnutils_uclient", "-p", "PORT", "-u", NAME, "-w", PASSWORD, "-n", "1", "-m", "1", "-y", "127.0.0.1")
-        row(peer, " ".join(("`turnutils_uclient` (Allocate) → udp_server --any-method", *offered)), "udp_server validated coturn",
-            "HMAC-SHA1", lambda: asks(words, "error 420", " 420 SHA1", *offered))
+        words = ("turnutils_uclient", "-p", "PORT", "-u", NAME, "-w", PASSWORD, "-n", "1", "-m",
+                 "1", "-y", "127.0.0.1")
+        row(peer, " ".join(("`turnutils_uclient` (Allocate) → udp_server --any-method", *offered)),
+            "udp_server validated coturn", "HMAC-SHA1",
+            lambda: asks(words, "error 420", " 420 SHA1", *offered))
     row(peer, "`turnutils_natdiscovery -m` → udp_server", "nobody", "none", natdiscovery)
     going_on(peer, "`turnutils_uclient` (Allocate)", words, [401, 438, 420])
-    wrong = ("turnutils_uclient", "-p", "PORT", "-u", NAME, "-w", "wrong", "-n", "1", "-m", "1", "-y", "127.0.0.1")
-    row(peer, "the same, wrong password", "udp_server refused coturn", "HMAC-SHA1", lambda: refused(wrong))
+    wrong = ("turnutils_uclient", "-p", "PORT", "-u", NAME, "-w", "wrong", "-n", "1", "-m", "1",
+             "-y", "127.0.0.1")
+    row(peer, "the same, wrong password", "udp_server refused coturn", "HMAC-SHA1",
+        lambda: refused(wrong))
     with turnserver("--stun-only") as server:
         for host in ("127.0.0.1", "::1"):
             kind = "IPv6" if ":" in host else "IPv4"
-            row(peer, f"udp_client → `turnserver --stun-only`, {kind}", "nobody", "none", lambda: client_prints(server, host))
+            row(peer, f"udp_client → `turnserver --stun-only`, {kind}", "nobody", "none",
+                lambda: client_prints(server, host))
     secure = ("--lt-cred-mech", "--secure-stun", "-r", REALM, "-u", f"{NAME}:{PASSWORD}")
     with turnserver(*secure) as server:
         for host in ("127.0.0.1", "::1"):
             for words in ((), ("--sha256",)):
                 kind = "IPv6" if ":" in host else "IPv4"
-                row(peer, " ".join(("udp_client", *words, "→ `turnserver --lt-cred-mech --secure-stun`,", kind)), "each validated the other",
-                    "HMAC-SHA1", lambda: client_prints(server, host, NAME, PASSWORD, *words))
-        row(peer, "the same, wrong password", "coturn refused udp_client", "HMAC-SHA1", lambda: client_is_refused(server, NAME, "wrong"))
+                row(peer, " ".join(("udp_client", *words,
+                                    "→ `turnserver --lt-cred-mech --secure-stun`,", kind)),
+                    "each validated the other", "HMAC-SHA1",
+                    lambda: client_prints(server, host, NAME, PASSWORD, *words))
+        row(peer, "the same, wrong password", "coturn refused udp_client", "HMAC-SHA1",
+            lambda: client_is_refused(server, NAME, "wrong"))
     with turnserver(*secure, "--stale-nonce=1") as server:
-        row(peer, "udp_client → the same with `--stale-nonce=1`, request held back", "each validated the other", "HMAC-SHA1", lambda: stale(server))
+        row(peer, "udp_client → the same with `--stale-nonce=1`, request held back",
+            "each validated the other", "HMAC-SHA1", lambda: stale(server))
 
 
 def with_libnice(number, folder):
@@ -285,20 +313,26 @@ def with_libnice(number, folder):
     built = run("cc", "-O1", harness.HERE / "libnice_peer.c", "-o", program, *flags[0].split())
     assert built[1] == 0, built
     for offered in ((), ("--sha256",)):
-        row(peer, " ".join(("StunAgent → udp_server", *offered)), "each validated the other", "HMAC-SHA1",
-            lambda: asks((program, "client", "127.0.0.1", "PORT", NAME, PASSWORD), "signed", " 200 SHA1", *offered))
+        row(peer, " ".join(("StunAgent → udp_server", *offered)), "each validated the other",
+            "HMAC-SHA1", lambda: asks((program, "client", "127.0.0.1", "PORT", NAME, PASSWORD),
+                                      "signed", " 200 SHA1", *offered))
     for offered in ((), ("--sha256",)):
-        row(peer, " ".join(("its ICE agent (Allocate) → udp_server --any-method", *offered)), "udp_server validated libnice", "HMAC-SHA1",
-            lambda: asks((program, "gather", "127.0.0.1", "PORT", NAME, PASSWORD), "gathered", " 420 SHA1", *offered))
-    going_on(peer, "StunAgent", (program, "client", "127.0.0.1", "PORT", NAME, PASSWORD), [401, 438, 200])
-    going_on(peer, "its ICE agent (Allocate)", (program, "gather", "127.0.0.1", "PORT", NAME, PASSWORD), [401, 438, 420])
+        row(peer, " ".join(("its ICE agent (Allocate) → udp_server --any-method", *offered)),
+            "udp_server validated libnice", "HMAC-SHA1",
+            lambda: asks((program, "gather", "127.0.0.1", "PORT", NAME, PASSWORD), "gathered",
+                         " 420 SHA1", *offered))
+    going_on(peer, "StunAgent", (program, "client", "127.0.0.1", "PORT", NAME, PASSWORD),
+             [401, 438, 200])
+    going_on(peer, "its ICE agent (Allocate)",
+             (program, "gather", "127.0.0.1", "PORT", NAME, PASSWORD), [401, 438, 420])
     row(peer, "StunAgent → udp_server, wrong password", "udp_server refused libnice", "HMAC-SHA1",
         lambda: refused((program, "client", "127.0.0.1", "PORT", NAME, "wrong")))
     with Peer(program, "server", *harness.USER) as server:
         for words in ((), ("--sha256",)):
-            row(peer, " ".join(("udp_client", *words, "→ StunAgent")), "each validated the other", "HMAC-SHA1",
-                lambda: client_prints(server, "127.0.0.1", NAME, PASSWORD, *words))
-        row(peer, "the same, wrong password", "libnice refused udp_client", "HMAC-SHA1", lambda: client_is_refused(server, NAME, "wrong"))
+            row(peer, " ".join(("udp_client", *words, "→ StunAgent")), "each validated the other",
+                "HMAC-SHA1", lambda: client_prints(server, "127.0.0.1", NAME, PASSWORD, *words))
+        row(peer, "the same, wrong password", "libnice refused udp_client", "HMAC-SHA1",
+            lambda: client_is_refused(server, NAME, "wrong"))
 
 
 def with_aioice(number):
@@ -307,39 +341,49 @@ def with_aioice(number):
         kind = "IPv6" if ":" in host else "IPv4"
         row(peer, f"stun.Message → udp_server, {kind}", "each validated the other", "HMAC-SHA1",
             lambda: asks((*program, "client", host, "PORT", NAME, PASSWORD), "signed", " 200 SHA1"))
-    row(peer, "its TURN client (Allocate) → udp_server --any-method", "udp_server validated aioice", "HMAC-SHA1",
-        lambda: asks((*program, "turn", "127.0.0.1", "PORT", NAME, PASSWORD), "420 signed", " 420 SHA1"))
-    going_on(peer, "its TURN client (Allocate)", (*program, "turn", "127.0.0.1", "PORT", NAME, PASSWORD), [401, 438])
+    row(peer, "its TURN client (Allocate) → udp_server --any-method", "udp_server validated aioice",
+        "HMAC-SHA1", lambda: asks((*program, "turn", "127.0.0.1", "PORT", NAME, PASSWORD),
+                                  "420 signed", " 420 SHA1"))
+    going_on(peer, "its TURN client (Allocate)",
+             (*program, "turn", "127.0.0.1", "PORT", NAME, PASSWORD), [401, 438])
     row(peer, "stun.Message → udp_server, wrong password", "udp_server refused aioice", "HMAC-SHA1",
         lambda: refused((*program, "client", "127.0.0.1", "PORT", NAME, "wrong")))
     with Peer(*program, "server", *harness.USER) as server:
         for words in ((), ("--sha256",)):
-            row(peer, " ".join(("udp_client", *words, "→ stun.parse_message")), "each validated the other", "HMAC-SHA1",
+            row(peer, " ".join(("udp_client", *words, "→ stun.parse_message")),
+                "each validated the other", "HMAC-SHA1",
                 lambda: client_prints(server, "127.0.0.1", NAME, PASSWORD, *words))
-        row(peer, "the same, wrong password", "aioice refused udp_client", "HMAC-SHA1", lambda: client_is_refused(server, NAME, "wrong"))
+        row(peer, "the same, wrong password", "aioice refused udp_client", "HMAC-SHA1",
+            lambda: client_is_refused(server, NAME, "wrong"))
 
 
 def with_pion(number, folder):
     peer, program = f"pion {number}", folder / "pion_peer"
-    go = {**os.environ, "GO111MODULE": "off", "GOPATH": "/usr/share/gocode", "GOCACHE": str(folder / "cache"), "GOFLAGS": ""}
-    subprocess.run(["go", "build", "-o", program, harness.HERE / "pion_peer.go"], env=go, check=True)
+    go = {**os.environ, "GO111MODULE": "off", "GOPATH": "/usr/share/gocode",
+          "GOCACHE": str(folder / "cache"), "GOFLAGS": ""}
+    subprocess.run(["go", "build", "-o", program, harness.HERE / "pion_peer.go"], env=go,
+                   check=True)
     for host in ("127.0.0.1", "::1"):
         kind = "IPv6" if ":" in host else "IPv4"
-        row(peer, f"stun.Message → udp_server --sha256, {kind}", "each validated the other", "HMAC-SHA1",
-            lambda: asks((program, "client", host, "PORT", NAME, PASSWORD), "signed", " 200 SHA1", "--sha256"))
+        row(peer, f"stun.Message → udp_server --sha256, {kind}", "each validated the other",
+            "HMAC-SHA1", lambda: asks((program, "client", host, "PORT", NAME, PASSWORD), "signed",
+                                      " 200 SHA1", "--sha256"))
     row(peer, "the same, wrong password", "udp_server refused pion", "HMAC-SHA1",
         lambda: refused((program, "client", "127.0.0.1", "PORT", NAME, "wrong")))
     with Peer(program, "server", *harness.USER) as server:
         for words in ((), ("--sha256",)):
-            row(peer, " ".join(("udp_client", *words, "→ stun.Message")), "each validated the other", "HMAC-SHA1",
+            row(peer, " ".join(("udp_client", *words, "→ stun.Message")),
+                "each validated the other", "HMAC-SHA1",
                 lambda: client_prints(server, "127.0.0.1", NAME, PASSWORD, *words))
-        row(peer, "the same, wrong password", "pion refused udp_client", "HMAC-SHA1", lambda: client_is_refused(server, NAME, "wrong"))
+        row(peer, "the same, wrong password", "pion refused udp_client", "HMAC-SHA1",
+            lambda: client_is_refused(server, NAME, "wrong"))
 
 
 def install():
     """Installs the packages that are missing."""
     missing = [package for package in PACKAGES if version(package) is None]
-    for words in (["update"], ["install", "-y", "--no-install-recommends", *missing]) if missing else ():
+    for words in (["update"],
+                  ["install", "-y", "--no-install-recommends", *missing]) if missing else ():
         environment = {**os.environ, "DEBIAN_FRONTEND": "noninteractive"}
         subprocess.run(["apt-get", "-q", *words], stdout=sys.stderr, env=environment, check=True)
 
@@ -347,7 +391,8 @@ def install():
 def main():
     if "--install" in sys.argv:
         install()
-    subprocess.run(["make", "-s", "-C", harness.TOP / "examples/c", "udp", f"STATE={harness.STATE}", f"LIBRARY={harness.STATELESS}"], check=True)
+    subprocess.run(["make", "-s", "-C", harness.TOP / "examples/c", "udp", f"STATE={harness.STATE}",
+                    f"LIBRARY={harness.STATELESS}"], check=True)
     versions = {package: version(package) for package in PACKAGES}
     if versions["coturn"]:
         with_coturn(versions["coturn"])
@@ -360,7 +405,8 @@ def main():
         with tempfile.TemporaryDirectory() as folder:
             with_pion(versions["golang-github-pion-stun-dev"], pathlib.Path(folder))
     if versions["stun-client"]:
-        row(f"stun-client {versions['stun-client']}", "`stun` → udp_server", "nobody", "none", old_stun)
+        row(f"stun-client {versions['stun-client']}", "`stun` → udp_server", "nobody", "none",
+            old_stun)
     print("| Peer | What | Who validated whose digest | Algorithm | Seen |\n|---|---|---|---|---|")
     for one in ROWS:
         print("| " + " | ".join(one) + " |")

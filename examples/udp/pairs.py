@@ -104,7 +104,8 @@ def changed_response(server, client, words):
 
 
 def changed_request(server, client, words):
-    """Each signed request comes 40 times, each time with another bit turned: none draws a success."""
+    """Each signed request comes 40 times, each time with another bit turned: none draws a
+    success."""
     chance = random.Random(5389)
 
     def rule(relay, is_request, number, data):
@@ -162,7 +163,8 @@ def reflected(server, client):
 
 
 def expired(server, client, words, ahead):
-    """The nonce expires while the signed request is on its way: 438 with a new one, and a success."""
+    """The nonce expires while the signed request is on its way: 438 with a new one, and a
+    success."""
 
     def rule(relay, is_request, number, data):
         if is_request and number == 2:
@@ -197,7 +199,8 @@ def restarted(server, client, words):
 
 
 def new_port(server, client, words):
-    """The client has another port when it sends the signed request, as a NAT that rebinds has it."""
+    """The client has another port when it sends the signed request, as a NAT that rebinds has
+    it."""
 
     def rule(relay, is_request, number, data):
         if is_request and number == 2:

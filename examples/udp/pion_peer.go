@@ -1,10 +1,12 @@
 // pion's STUN messages as a peer of the programs in ../c, with long-term credentials:
 //
 //	pion_peer client HOST PORT NAME PASSWORD    asks, answers the challenge, and judges the answer
-//	pion_peer server REALM NAME PASSWORD        prints `port N`, challenges, judges and answers until it is ended
+//	pion_peer server REALM NAME PASSWORD        prints `port N`, challenges, judges and answers
+//	                                            until it is ended
 //
-// The client prints the address and has status 0 where pion validated the signed answer. The server prints `validated` for
-// each request that pion validated. Build: GO111MODULE=off GOPATH=/usr/share/gocode go build pion_peer.go
+// The client prints the address and has status 0 where pion validated the signed answer. The server
+// prints `validated` for each request that pion validated.
+// Build: GO111MODULE=off GOPATH=/usr/share/gocode go build pion_peer.go
 package main
 
 import (
@@ -45,7 +47,8 @@ func client(host, port, name, password string) {
 	must(realm.GetFrom(challenge))
 	must(nonce.GetFrom(challenge))
 	integrity := stun.NewLongTermIntegrity(name, realm.String(), password)
-	request := stun.MustBuild(stun.TransactionID, stun.BindingRequest, stun.NewUsername(name), realm, nonce, integrity, stun.Fingerprint)
+	request := stun.MustBuild(stun.TransactionID, stun.BindingRequest, stun.NewUsername(name),
+		realm, nonce, integrity, stun.Fingerprint)
 	answer := ask(server, request)
 	must(integrity.Check(answer))
 	must(stun.Fingerprint.Check(answer))
@@ -70,14 +73,15 @@ func serve(realm, name, password string) {
 		var answer *stun.Message
 		if err := integrity.Check(request); err != nil {
 			fmt.Println("refused,", err)
-			answer = stun.MustBuild(stun.NewTransactionIDSetter(request.TransactionID), stun.BindingError, stun.CodeUnauthorized,
-				stun.NewRealm(realm), stun.NewNonce("a nonce of pion"))
+			answer = stun.MustBuild(stun.NewTransactionIDSetter(request.TransactionID),
+				stun.BindingError, stun.CodeUnauthorized, stun.NewRealm(realm),
+				stun.NewNonce("a nonce of pion"))
 		} else {
 			fmt.Println("validated")
 			peer := from.(*net.UDPAddr)
 			seen := &stun.XORMappedAddress{IP: peer.IP, Port: peer.Port}
-			answer = stun.MustBuild(stun.NewTransactionIDSetter(request.TransactionID), stun.BindingSuccess, seen, integrity,
-				stun.Fingerprint)
+			answer = stun.MustBuild(stun.NewTransactionIDSetter(request.TransactionID),
+				stun.BindingSuccess, seen, integrity, stun.Fingerprint)
 		}
 		_, err = socket.WriteTo(answer.Raw, from)
 		must(err)

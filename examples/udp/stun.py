@@ -1,4 +1,5 @@
-"""STUN messages of RFC 8489 for the tests, written from the RFC over Python's hashlib, hmac and zlib."""
+"""STUN messages of RFC 8489 for the tests, written from the RFC over Python's hashlib, hmac and
+zlib."""
 import base64
 import hashlib
 import hmac
@@ -26,7 +27,8 @@ def message(kind, attributes=(), transaction=None):
 def added(message, kind, value):
     """The message with one attribute more, which its length field counts."""
     padded = value + bytes(-len(value) % 4)
-    return stating(message, len(message) - 16 + len(padded)) + struct.pack(">HH", kind, len(value)) + padded
+    return stating(message, len(message) - 16
+                   + len(padded)) + struct.pack(">HH", kind, len(value)) + padded
 
 
 def stating(message, length):
@@ -35,7 +37,8 @@ def stating(message, length):
 
 
 def read(message):
-    """The class and method, the id, and (type, value, place) of each attribute, whatever is visible."""
+    """The class and method, the id, and (type, value, place) of each attribute, whatever is
+    visible."""
     kind, length, cookie = struct.unpack_from(">HHI", message)
     assert cookie == COOKIE and length == len(message) - 20, "no STUN message"
     found, place = [], 20
@@ -91,7 +94,9 @@ def fingerprinted(message):
 
 def has_right_fingerprint(message):
     """Whether the message ends with FINGERPRINT, and it is right."""
-    return message[-8:-4] == b"\x80\x28\0\4" and fingerprinted(stating(message[:-8], len(message) - 28)) == message
+    if message[-8:-4] != b"\x80\x28\0\4":
+        return False
+    return fingerprinted(stating(message[:-8], len(message) - 28)) == message
 
 
 def mapped_address(message):
@@ -109,15 +114,18 @@ def hidden_address(request, host, port):
 
 
 def asks_for_a_choice(challenge):
-    """Whether the nonce of a challenge has the security bit of password algorithms (section 9.2)."""
+    """Whether the nonce of a challenge has the security bit of password algorithms (section
+    9.2)."""
     nonce = value_of(challenge, NONCE)
     return nonce[:9] == b"obMatJos2" and base64.b64decode(nonce[9:13])[0] & 0x80 != 0
 
 
 def answered(request, challenge, name, realm, password, algorithm=SHA1, extra=()):
     """A request of this kind and these extra attributes that answers a 401 or a 438."""
-    attributes = [(USERNAME, name.encode()), (REALM, realm.encode()), (NONCE, value_of(challenge, NONCE)), *extra]
+    attributes = [(USERNAME, name.encode()), (REALM, realm.encode()),
+                  (NONCE, value_of(challenge, NONCE)), *extra]
     if asks_for_a_choice(challenge):
         offer = value_of(challenge, PASSWORD_ALGORITHMS)
-        attributes += [(PASSWORD_ALGORITHMS, offer), (PASSWORD_ALGORITHM, struct.pack(">HH", algorithm, 0))]
+        attributes += [(PASSWORD_ALGORITHMS, offer),
+                       (PASSWORD_ALGORITHM, struct.pack(">HH", algorithm, 0))]
     return signed(message(request, attributes), algorithm, key_of(algorithm, name, realm, password))

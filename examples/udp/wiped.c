@@ -38,7 +38,8 @@ int main(void) {
     char password[LENGTH];
     write_password(password);
     if (stunp_server_new(&server, (const uint8_t *)"realm", 5) != 0) return 1;
-    if (stunp_server_add_user(&server, (const uint8_t *)"name", 4, (const uint8_t *)password, LENGTH)
+    if (stunp_server_add_user(&server, (const uint8_t *)"name", 4, (const uint8_t *)password,
+                              LENGTH)
         != 0)
         return 1;
     explicit_bzero(password, sizeof password);

@@ -3,9 +3,9 @@
 //!     udp_client HOST PORT [NAME PASSWORD] [--user FILE] [--sha256] [--within SECONDS]
 //!
 //! Without a name it takes an answer that nobody signed; with one, only an answer that the server
-//! signed. A file, or standard input where it is `-`, has a line `NAME PASSWORD`. Status 0; or 1, and
-//! why on standard error: `no answer`, `refused ..`, `unsupported ..` or `failed ..`; or 2 for wrong
-//! words.
+//! signed. A file, or standard input where it is `-`, has a line `NAME PASSWORD`. Status 0; or 1,
+//! and why on standard error: `no answer`, `refused ..`, `unsupported ..` or `failed ..`; or 2 for
+//! wrong words.
 
 mod reading;
 mod users;
@@ -38,7 +38,8 @@ struct Asker {
     asks: u32,
 }
 
-/// An address as the agent keeps it: which interface a link-local one is at, the socket alone knows.
+/// An address as the agent keeps it: which interface a link-local one is at, the socket alone
+/// knows.
 fn bare(address: SocketAddr) -> SocketAddr {
     SocketAddr::new(address.ip(), address.port())
 }
@@ -141,9 +142,9 @@ impl Asker {
         }
     }
 
-    /// What a datagram tells: the authenticator judges it before the agent, and what is no answer, has
-    /// a wrong FINGERPRINT or is forged tells nothing. What has an attribute that it would have to
-    /// understand ends the request all the same (section 6.3.3).
+    /// What a datagram tells: the authenticator judges it before the agent, and what is no answer,
+    /// has a wrong FINGERPRINT or is forged tells nothing. What has an attribute that it would have
+    /// to understand ends the request all the same (section 6.3.3).
     fn judge(
         &mut self,
         bytes: &[u8],

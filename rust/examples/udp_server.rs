@@ -4,16 +4,17 @@
 //!     udp_server PORT [REALM [NAME PASSWORD].. [--users FILE]] [--sha256] [--expiry SECONDS]
 //!         [--addresses N] [--workers N] [-v]
 //!
-//! A file, or standard input where it is `-`, has a line `NAME PASSWORD` for each user. Port 0 is any
-//! free one. The first line of output is `port N`. It runs until it is ended by a signal. Each worker
-//! is a thread with a server of its own, and an address is always dealt to the same one: what they
-//! answer is what one server would. Each keeps a nonce for so many addresses, 131072 unless said.
+//! A file, or standard input where it is `-`, has a line `NAME PASSWORD` for each user. Port 0 is
+//! any free one. The first line of output is `port N`. It runs until it is ended by a signal. Each
+//! worker is a thread with a server of its own, and an address is always dealt to the same one. So
+//! they answer what one server would. Each keeps a nonce for so many addresses, 131072 unless said.
 //!
-//! It has no `unsafe` and calls the system by the standard library alone, so three things are missing
-//! that examples/c/udp_server.c has. The socket's own buffer is as large as the machine makes it
-//! (`net.core.rmem_default`): a datagram waits in it until it is dealt to a worker, and then in 4 MiB of
-//! this program's. A terminal that goes (SIGHUP) ends it, unless it was started by `nohup` or as a
-//! service. On a machine of several addresses an answer may leave by another than was asked.
+//! It has no `unsafe` and calls the system by the standard library alone, so three things are
+//! missing that examples/c/udp_server.c has. The socket's own buffer is as large as the machine
+//! makes it (`net.core.rmem_default`). A datagram waits in it until it is dealt to a worker, and
+//! then in 4 MiB of this program's. A terminal that goes (SIGHUP) ends it, unless it was started by
+//! `nohup` or as a service. On a machine of several addresses an answer may leave by another than
+//! was asked.
 
 mod clock;
 mod places;
@@ -177,7 +178,8 @@ impl Server {
                 Err(LongTermServerAuthErrorReason::Unauthorized) => return Ok(401),
                 Err(LongTermServerAuthErrorReason::StaleNonce) => return Ok(438),
                 Err(LongTermServerAuthErrorReason::BadRequest) => {
-                    // A forgotten address repeats an offer that is forgotten too: it is to ask anew.
+                    // A forgotten address repeats an offer that is forgotten too: it is to ask
+                    // anew.
                     let is_forgotten = !was_known && auth.nonce_for_client(from).is_some();
                     return Ok(if is_forgotten { 438 } else { 400 });
                 }
@@ -187,9 +189,9 @@ impl Server {
         Ok(if read.has_unknown { 420 } else { 200 })
     }
 
-    /// What a datagram draws: a code and an answer; or why it is dropped. The request is judged, the
-    /// server says who asked, each answer but a 400 is signed, and nobody is kept: a Binding request
-    /// begins no session.
+    /// What a datagram draws: a code and an answer; or why it is dropped. The request is judged,
+    /// the server says who asked, and each answer but a 400 is signed. Nobody is kept: a Binding
+    /// request begins no session.
     fn answer(
         &mut self,
         bytes: &[u8],
@@ -238,7 +240,8 @@ impl Server {
             let from = SocketAddr::new(peer.ip().to_canonical(), peer.port());
             match self.answer(&bytes, from) {
                 Ok((told, answer)) => {
-                    // Who gets no answer asks again. Of a link-local address `peer` has the interface.
+                    // Who gets no answer asks again. Of a link-local address `peer` has the
+                    // interface.
                     let _ = socket.send_to(&answer, peer);
                     self.tell(|| format!("{from} {told}"));
                 }

@@ -16,8 +16,8 @@ macro_rules! hidden_address {
         pub struct $name($proved);
 
         impl $name {
-            /// The attribute of this address in a message of this id. Flow information and scope of an
-            /// IPv6 address are not kept.
+            /// The attribute of this address in a message of this id. Flow information and scope of
+            /// an IPv6 address are not kept.
             pub fn new(address: SocketAddr, id: TransactionId) -> $name {
                 $name(<$proved>::new(address, id.0))
             }
@@ -72,7 +72,8 @@ hidden_address!(
 );
 
 hidden_address!(
-    /// XOR-RELAYED-ADDRESS (RFC 8656, section 18.5): the address that a server relays from, hidden so.
+    /// XOR-RELAYED-ADDRESS (RFC 8656, section 18.5): the address that a server relays from, hidden
+    /// so.
     XorRelayedAddress,
     further::XorRelayedAddress
 );

@@ -1,8 +1,8 @@
 //! Requests: when they are sent again, and when they end (RFC 8489, section 6.2).
 //!
 //! An agent has no socket and no clock: the caller tells moments, sends what is lent and hands in
-//! what is received. After each call but the getters ask `poll_transmit` until it answers `None`, then
-//! `poll`.
+//! what is received. After each call but the getters ask `poll_transmit` until it answers `None`,
+//! then `poll`.
 
 use crate::Instant;
 use crate::copies::granted;
@@ -69,8 +69,8 @@ impl StunAgentBuilder {
     }
 }
 
-/// A STUN agent: requests, their retransmissions and their ends, and the addresses that messages came
-/// from.
+/// A STUN agent: requests, their retransmissions and their ends, and the addresses that messages
+/// came from.
 pub struct StunAgent(proved::StunAgent);
 
 impl fmt::Debug for StunAgent {
@@ -131,8 +131,8 @@ impl StunAgent {
     ///
     /// # Errors
     ///
-    /// `ParseError` where the bytes begin with no header, then `ProtocolViolation` for a request, or
-    /// where the agent sends to another address alone.
+    /// `ParseError` where the bytes begin with no header, then `ProtocolViolation` for a request,
+    /// or where the agent sends to another address alone.
     pub fn send<T: AsRef<[u8]>>(
         &mut self,
         message: T,
@@ -142,14 +142,14 @@ impl StunAgent {
         self.0.send(Lent(message), to, now).map(lent)
     }
 
-    /// Keeps a request, and lends its bytes to be sent now. `poll_transmit` sends it again, and `poll`
-    /// ends it.
+    /// Keeps a request, and lends its bytes to be sent now. `poll_transmit` sends it again, and
+    /// `poll` ends it.
     ///
     /// # Errors
     ///
-    /// `ParseError` where the bytes begin with no header, then `ProtocolViolation` for another class
-    /// or where the agent sends to another address alone, then `AlreadyInProgress` where a request of
-    /// its id is outstanding. The agent is then as before.
+    /// `ParseError` where the bytes begin with no header, then `ProtocolViolation` for another
+    /// class or where the agent sends to another address alone, then `AlreadyInProgress` where a
+    /// request of its id is outstanding. The agent is then as before.
     pub fn send_request<T: AsRef<[u8]>>(
         &mut self,
         message: T,
@@ -191,13 +191,13 @@ impl StunAgent {
         granted(self.0.handle_stun_message(&message.0, from))
     }
 
-    /// Takes a message from an address, and tells whether it was taken: false where it is a response
-    /// to nothing that was asked of this very address, and is to be dropped. A request or an
-    /// indication is taken.
+    /// Takes a message from an address, and tells whether it was taken. The answer is false where
+    /// the message is a response to nothing that was asked of this very address. Such a message is
+    /// to be dropped. A request or an indication is taken.
     ///
-    /// Ask the authenticator before: the agent checks no digest, and whoever can send from the address
-    /// that was asked else ends a request by a forged response. No call forgets an address that was
-    /// noted: bound from how many you hand in messages.
+    /// Ask the authenticator before, since the agent checks no digest. Whoever can send from the
+    /// address that was asked else ends a request by a forged response. No call forgets an address
+    /// that was noted: bound from how many you hand in messages.
     #[must_use = "a message that is not taken is to be dropped"]
     pub fn handle_stun_message_with_time(
         &mut self,
@@ -249,7 +249,8 @@ impl StunAgent {
         }
     }
 
-    /// Lends the bytes of at most one request that is to be sent again. Ask until it answers `None`.
+    /// Lends the bytes of at most one request that is to be sent again. Ask until it answers
+    /// `None`.
     pub fn poll_transmit(&mut self, now: Instant) -> Option<Transmit<&[u8]>> {
         let sent = self.0.poll_transmit(now)?;
         Some(Transmit::new(sent.data, sent.transport, sent.from, sent.to))
@@ -286,8 +287,8 @@ impl StunRequest<'_> {
     }
 }
 
-/// An outstanding request that can be changed. Once it has ended, nothing changes, and what it says of
-/// its peer and its integrity stays.
+/// An outstanding request that can be changed. Once it has ended, nothing changes, and what it says
+/// of its peer and its integrity stays.
 #[derive(Debug)]
 pub struct StunRequestMut<'a> {
     agent: &'a mut StunAgent,
@@ -317,8 +318,8 @@ impl StunRequestMut<'_> {
         self.agent
     }
 
-    /// Sends the request no more. It is still waited for, until its last wait is over, and then ends
-    /// as cancelled.
+    /// Sends the request no more. It is still waited for, until its last wait is over, and then
+    /// ends as cancelled.
     pub fn cancel_retransmissions(&mut self) {
         self.change(|request| request.cancel_retransmissions());
     }

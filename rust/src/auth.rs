@@ -132,9 +132,9 @@ impl ShortTermAuth {
 
 /// Answers a server's challenges, signs requests and checks responses (section 9.2).
 ///
-/// The first request goes out unsigned; a 401 brings realm and nonce, from which the key is made; the
-/// request is signed and sent again; a success that is signed under the key confirms it. From then on
-/// 401s are not taken up any more.
+/// The first request goes out unsigned. A 401 brings realm and nonce, from which the key is made.
+/// The request is signed and sent again. A success that is signed under the key confirms it. From
+/// then on 401s are not taken up any more.
 pub struct LongTermClientAuth {
     proved: proved::LongTermClientAuth,
     credentials: Option<LongTermCredentials>,
@@ -180,10 +180,10 @@ impl LongTermClientAuth {
         self.proved.add_supported_integrity(algorithm);
     }
 
-    /// Supports one algorithm alone, which does not keep a client of HMAC-SHA256 from signing with
-    /// HMAC-SHA1 where a forged challenge says so: `signing_algorithm` tells, before a message is
-    /// signed, and a loop can give up. It is a challenge without a list of algorithms, whose nonce's
-    /// bits ask for none.
+    /// Supports one algorithm alone. That does not keep a client of HMAC-SHA256 from signing with
+    /// HMAC-SHA1 where a forged challenge says so. `signing_algorithm` tells, before a message is
+    /// signed, and a loop can give up. It is a challenge without a list of algorithms, whose
+    /// nonce's bits ask for none.
     pub fn set_supported_integrity(&mut self, algorithm: IntegrityAlgorithm) {
         self.proved.set_supported_integrity(algorithm);
     }
@@ -198,8 +198,8 @@ impl LongTermClientAuth {
         self.proved.set_anonymous_username(anonymous);
     }
 
-    /// The algorithm whose integrity attribute a signing would add now: `None` before a challenge was
-    /// taken up, where it adds nothing.
+    /// The algorithm whose integrity attribute a signing would add now: `None` before a challenge
+    /// was taken up, where it adds nothing.
     pub fn signing_algorithm(&self) -> Option<IntegrityAlgorithm> {
         self.proved.signing_algorithm()
     }
@@ -209,8 +209,8 @@ impl LongTermClientAuth {
         self.proved.message_signature_bytes()
     }
 
-    /// Adds what the challenge that was taken up asks for, and the integrity attribute under its key.
-    /// Before a challenge the message stays as it is.
+    /// Adds what the challenge that was taken up asks for, and the integrity attribute under its
+    /// key. Before a challenge the message stays as it is.
     ///
     /// # Errors
     ///
@@ -276,8 +276,8 @@ impl LongTermServerAuth {
         self.proved.realm()
     }
 
-    /// Adds a user, or gives a present one another password. A name of more than 513 bytes is taken,
-    /// but only a USERHASH can name it.
+    /// Adds a user, or gives a present one another password. A name of more than 513 bytes is
+    /// taken, but only a USERHASH can name it.
     pub fn add_user(&mut self, credentials: LongTermCredentials) {
         granted(self.proved.add_user(credentials.0));
     }
@@ -339,23 +339,23 @@ impl LongTermServerAuth {
         self.proved.remove_client(client);
     }
 
-    /// Forgets all that is kept of an address: its nonce, the algorithms that were offered to it, and
-    /// its client. It is then met as a new one.
+    /// Forgets all that is kept of an address: its nonce, the algorithms that were offered to it,
+    /// and its client. It is then met as a new one.
     pub fn forget(&mut self, client: SocketAddr) {
         self.proved.forget(client);
     }
 
     /// Forgets each address without a client whose nonce's end is before `now`. It walks all
-    /// addresses, so call it now and then. A client that comes late draws a 438 where nonces are kept
-    /// for as long again as they last: call it with `now` less that time.
+    /// addresses, so call it now and then. A client that comes late draws a 438 where nonces are
+    /// kept for as long again as they last. For that, call it with `now` less that time.
     pub fn forget_expired(&mut self, now: Instant) {
         self.proved.forget_expired(now);
     }
 
-    /// Forgets what `forget_expired` does, at no more than `most` addresses, so that a server of many
-    /// has no long pause. It looks at those that have a place, in the order of `SocketAddr`, from
-    /// `from` on, or from the first where that is `None`. It answers where the next call is to go on,
-    /// and `None` at the end, so that the answer of each call is the `from` of the next.
+    /// Forgets what `forget_expired` does, at no more than `most` addresses, so that a server of
+    /// many has no long pause. It looks at those that have a place, in the order of `SocketAddr`,
+    /// from `from` on, or from the first where that is `None`. It answers where the next call is to
+    /// go on, and `None` at the end. So the answer of each call is the `from` of the next.
     pub fn forget_expired_within(
         &mut self,
         now: Instant,
@@ -376,8 +376,8 @@ impl LongTermServerAuth {
     ///
     /// # Errors
     ///
-    /// The first refusal in the order of the attributes; `IntegrityFailed` where the client's user or
-    /// key is gone. It drops the writer and leaves the server.
+    /// The first refusal in the order of the attributes; `IntegrityFailed` where the client's user
+    /// or key is gone. It drops the writer and leaves the server.
     pub fn sign_outgoing_message<W: MessageWrite>(
         &mut self,
         message: W,
@@ -404,9 +404,9 @@ impl LongTermServerAuth {
     ///
     /// # Errors
     ///
-    /// `IntegrityFailed` for a response. Else the first that holds: `Unauthorized` without integrity;
-    /// `BadRequest` without realm, nonce, name or agreement on the algorithm; `StaleNonce` for another
-    /// nonce than the address's current one; `Unauthorized` for the rest.
+    /// `IntegrityFailed` for a response. Else the first that holds: `Unauthorized` without
+    /// integrity; `BadRequest` without realm, nonce, name or agreement on the algorithm;
+    /// `StaleNonce` for another nonce than the address's current one; `Unauthorized` for the rest.
     ///
     /// # Panics
     ///
@@ -482,18 +482,14 @@ impl LongTermServerAuth {
 
     /// A user with stored keys in the place of a password: those that were made of it
     /// at the server's realm. A key for an algorithm that the server does not support is not used.
-    pub fn prepare_user_with_keys(
-        &self,
-        username: String,
-        keys: StoredKeys,
-    ) -> LongTermServerUser {
+    pub fn prepare_user_with_keys(&self, username: String, keys: StoredKeys) -> LongTermServerUser {
         LongTermServerUser {
             proved: granted(self.proved.prepare_user_with_keys(text(username), keys)),
         }
     }
 
-    /// The algorithm of a message's digest, where it verifies under the key that the registered user
-    /// of a name has for a supported algorithm. It is no verdict: no nonce is read.
+    /// The algorithm of a message's digest, where it verifies under the key that the registered
+    /// user of a name has for a supported algorithm. It is no verdict: no nonce is read.
     pub fn user_verifies(
         &self,
         name: &str,

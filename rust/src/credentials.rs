@@ -30,8 +30,8 @@ impl PartialEq for IntegrityKey<Global> {
 
 impl Eq for IntegrityKey<Global> {}
 
-/// The long-term key of a user at a realm (section 9.2.2): 16 bytes for `Sha1`, 32 for `Sha256`. The
-/// texts are taken as they are. It does not allocate.
+/// The long-term key of a user at a realm (section 9.2.2): 16 bytes for `Sha1`, 32 for `Sha256`.
+/// The texts are taken as they are. It does not allocate.
 pub fn long_term_key(
     algorithm: IntegrityAlgorithm,
     username: &str,
@@ -109,7 +109,10 @@ credentials!(LongTermCredentials);
 impl LongTermCredentials {
     /// The credentials of this user.
     pub fn new(username: String, password: String) -> LongTermCredentials {
-        LongTermCredentials(proved::LongTermCredentials::new(text(username), text(password)))
+        LongTermCredentials(proved::LongTermCredentials::new(
+            text(username),
+            text(password),
+        ))
     }
 
     /// The user's name.

@@ -93,9 +93,9 @@ pub fn has_unknown(message: &Message<'_>, known: &[AttributeType]) -> bool {
     unknown::has_unknown(&message.0, known)
 }
 
-/// The answer to a request that has unknown attributes, in an empty writer: an error response with the
-/// code 420 and UNKNOWN-ATTRIBUTES (RFC 8489, section 6.3.1). It can be added to and signed. There is
-/// none where the request has no such attribute, or the message is no request.
+/// The answer to a request that has unknown attributes, in an empty writer: an error response with
+/// the code 420 and UNKNOWN-ATTRIBUTES (RFC 8489, section 6.3.1). It can be added to and signed.
+/// There is none where the request has no such attribute, or the message is no request.
 ///
 /// # Errors
 ///
@@ -122,15 +122,15 @@ pub fn answer_unknown<W: MessageWrite>(
     unknown::answer_unknown(&request.0, known, writer)
 }
 
-/// Whether a response ends its transaction as failed, whatever else it says: it has a visible attribute
-/// that must be understood and whose type is not among these, or it is an error response without
-/// ERROR-CODE (RFC 8489, sections 6.3.3 and 6.3.4).
+/// Whether a response ends its transaction as failed, whatever else it says (RFC 8489, sections
+/// 6.3.3 and 6.3.4). It does where it has a visible attribute that must be understood and whose
+/// type is not among these. So does an error response without ERROR-CODE.
 pub fn ends_failed(response: &Message<'_>, known: &[AttributeType]) -> bool {
     unknown::ends_failed(&response.0, known)
 }
 
-/// UNKNOWN-ATTRIBUTES with these types, for an answer with the error 420 that is written otherwise than
-/// by `answer_unknown` (RFC 8489, section 14.13).
+/// UNKNOWN-ATTRIBUTES with these types, for an answer with the error 420 that is written otherwise
+/// than by `answer_unknown` (RFC 8489, section 14.13).
 pub fn unknown_attributes<'a>(
     message: &'a Message<'a>,
     known: &'a [AttributeType],

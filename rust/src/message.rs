@@ -52,7 +52,8 @@ impl MessageHeader {
 ///
 /// fn is_signed(bytes: &[u8], password: &str) -> bool {
 ///     let credentials = ShortTermCredentials::new(password.to_string()).into();
-///     Message::from_bytes(bytes).is_ok_and(|message| message.validate_integrity(&credentials).is_ok())
+///     let message = Message::from_bytes(bytes);
+///     message.is_ok_and(|message| message.validate_integrity(&credentials).is_ok())
 /// }
 /// assert!(!is_signed(b"\0\x01\0\0\x21\x12\xa4\x42 any 12 byte", "password"));
 /// ```
@@ -141,8 +142,8 @@ impl<'a> Message<'a> {
     /// The visible attributes in their order, each with the place of its first byte.
     ///
     /// After MESSAGE-INTEGRITY only MESSAGE-INTEGRITY-SHA256 and FINGERPRINT are visible, after
-    /// MESSAGE-INTEGRITY-SHA256 only FINGERPRINT, after FINGERPRINT nothing (RFC 8489, sections 14.5
-    /// to 14.7).
+    /// MESSAGE-INTEGRITY-SHA256 only FINGERPRINT, after FINGERPRINT nothing (RFC 8489, sections
+    /// 14.5 to 14.7).
     pub fn iter_attributes(&self) -> MessageAttributesIter<'a> {
         self.0.iter_attributes()
     }
@@ -223,7 +224,8 @@ impl<'a> Message<'a> {
     ///
     /// # Panics
     ///
-    /// Where the writer has bytes already, or is a slice without room for 20. `try_builder` answers.
+    /// Where the writer has bytes already, or is a slice without room for 20. `try_builder`
+    /// answers.
     pub fn builder<W: MessageWrite>(message_type: MessageType, id: TransactionId, writer: W) -> W {
         Message::try_builder(message_type, id, writer)
             .expect("an empty writer with room for 20 bytes")
@@ -252,7 +254,8 @@ impl<'a> Message<'a> {
         Message::builder_request_with_id(method, TransactionId::generate(), writer)
     }
 
-    /// An indication of a random id. Those of `builder` and `TransactionId::generate` are its panics.
+    /// An indication of a random id. Those of `builder` and `TransactionId::generate` are its
+    /// panics.
     #[cfg(all(feature = "std", feature = "rand"))]
     #[cfg_attr(docsrs, doc(cfg(all(feature = "std", feature = "rand"))))]
     pub fn builder_indication<W: MessageWrite>(method: Method, writer: W) -> W {

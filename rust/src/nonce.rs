@@ -20,7 +20,8 @@ impl NonceSecurityBits {
         self.0.bytes()
     }
 
-    /// The bits of a nonce: the four letters after the cookie, where they are base64 of three bytes.
+    /// The bits of a nonce: the four letters after the cookie, where they are base64 of three
+    /// bytes.
     pub fn from_nonce(nonce: &str) -> Option<NonceSecurityBits> {
         proved::NonceSecurityBits::from_nonce(nonce).map(NonceSecurityBits)
     }

@@ -20,8 +20,8 @@ use core::ops::Deref;
 /// Calls that every writer has: they tell what its message has, add attributes, and sign it. A
 /// refusal leaves the message as it was.
 ///
-/// The writer holds a message without FINGERPRINT, as the builders of `Message` leave it and each of
-/// these calls keeps it. On an empty one they panic.
+/// The writer holds a message without FINGERPRINT, as the builders of `Message` leave it and each
+/// of these calls keeps it. On an empty one they panic.
 pub trait MessageWriteExt: MessageWrite + Sized {
     /// The type of the message.
     fn get_type(&self) -> MessageType {
@@ -64,10 +64,10 @@ pub trait MessageWriteExt: MessageWrite + Sized {
     ///
     /// # Errors
     ///
-    /// The first of: a type that this call does not write (`NotAllowed`: the two integrity attributes
-    /// and FINGERPRINT), the message has an integrity attribute (`MessageIntegrityExists`) or one of
-    /// this type (`AttributeExists`), it would be longer than 65532 bytes after its header
-    /// (`TooLarge`), no room (`TooSmall`).
+    /// The first of: a type that this call does not write (`NotAllowed`: the two integrity
+    /// attributes and FINGERPRINT), the message has an integrity attribute
+    /// (`MessageIntegrityExists`) or one of this type (`AttributeExists`), it would be longer than
+    /// 65532 bytes after its header (`TooLarge`), no room (`TooSmall`).
     fn add_attribute<A: Attribute>(&mut self, attribute: &A) -> Result<(), StunWriteError> {
         Proved::add_attribute(self, attribute)
     }

@@ -1,5 +1,5 @@
-//! FINGERPRINT, unknown attributes and streams of messages, at the samples of RFC 5769, and the values
-//! of further attributes, typed from RFC 8489, 8445 and 8656.
+//! FINGERPRINT, unknown attributes and streams of messages, at the samples of RFC 5769, and the
+//! values of further attributes, typed from RFC 8489, 8445 and 8656.
 use seatcrane_stun::extra::attribute::*;
 use seatcrane_stun::extra::turn::{self, TurnMethod};
 use seatcrane_stun::extra::{
@@ -11,11 +11,12 @@ use seatcrane_stun::types::attribute::{AttributeType, ErrorCode, RawAttribute};
 use seatcrane_stun::types::message::*;
 use seatcrane_stun::types::prelude::*;
 
-const REQUEST: &str = "00010058 2112a442 b7e7a701 bc34d686 fa87dfae 80220010 5354554e 20746573 7420636c 69656e74
-    00240004 6e0001ff 80290008 932ff9b1 51263b36 00060009 6576746a 3a683676 59202020
-    00080014 9aeaa70c bfd8cb56 781ef2b5 b2d3f249 c1b571a2 80280004 e57a3bcf";
-const RESPONSE: &str = "0101003c 2112a442 b7e7a701 bc34d686 fa87dfae 8022000b 74657374 20766563 746f7220
-    00200008 0001a147 e112a643 00080014 2b91f599 fd9e90c3 8c7489f9 2af9ba53 f06be7d7 80280004 c07d4c96";
+const REQUEST: &str = "00010058 2112a442 b7e7a701 bc34d686 fa87dfae 80220010 5354554e 20746573
+    7420636c 69656e74 00240004 6e0001ff 80290008 932ff9b1 51263b36 00060009 6576746a 3a683676
+    59202020 00080014 9aeaa70c bfd8cb56 781ef2b5 b2d3f249 c1b571a2 80280004 e57a3bcf";
+const RESPONSE: &str = "0101003c 2112a442 b7e7a701 bc34d686 fa87dfae 8022000b 74657374 20766563
+    746f7220 00200008 0001a147 e112a643 00080014 2b91f599 fd9e90c3 8c7489f9 2af9ba53 f06be7d7
+    80280004 c07d4c96";
 
 fn bytes(digits: &str) -> Vec<u8> {
     let digits: Vec<u32> = digits.chars().filter_map(|c| c.to_digit(16)).collect();
@@ -96,10 +97,16 @@ fn cuts_a_stream() {
         assert!(more > 0 && there + more <= first);
     }
     assert_eq!(next_frame(&stream), Frame::Message(first));
-    assert_eq!(next_frame(&stream[first..]), Frame::Message(stream.len() - first));
+    assert_eq!(
+        next_frame(&stream[first..]),
+        Frame::Message(stream.len() - first)
+    );
     assert_eq!(next_frame(&[0x80; 20]), Frame::NotStun);
     assert_eq!(next_turn_frame(&stream), Frame::Message(first));
-    assert_eq!(next_turn_frame(&[0x40, 0, 0, 5, 1, 2, 3, 4, 5]), Frame::Need(3));
+    assert_eq!(
+        next_turn_frame(&[0x40, 0, 0, 5, 1, 2, 3, 4, 5]),
+        Frame::Need(3)
+    );
     assert_eq!(next_turn_frame(&[0x40, 0, 0, 0, 0x40]), Frame::Message(4));
     assert_eq!(next_packet_frame(&[0]), Frame::Need(1));
     assert_eq!(next_packet_frame(&[0, 2, 7, 7, 7]), Frame::Message(4));
@@ -121,7 +128,10 @@ where
     let read = A::from_raw(RawAttribute::new(A::TYPE, value)).unwrap();
     assert_eq!(read, attribute);
     let other = RawAttribute::new(AttributeType(kind ^ 1), value);
-    assert_eq!(A::from_raw(other).unwrap_err(), StunParseError::InvalidAttributeData);
+    assert_eq!(
+        A::from_raw(other).unwrap_err(),
+        StunParseError::InvalidAttributeData
+    );
     read
 }
 
@@ -130,7 +140,11 @@ where
 fn refuses<'a, A: AttributeFromRaw<'a> + AttributeStaticType>(values: &[&'a [u8]]) {
     for value in values {
         let error = A::from_raw(RawAttribute::new(A::TYPE, value)).err();
-        assert_eq!(error, Some(StunParseError::InvalidAttributeData), "{value:?}");
+        assert_eq!(
+            error,
+            Some(StunParseError::InvalidAttributeData),
+            "{value:?}"
+        );
     }
 }
 
@@ -138,17 +152,27 @@ fn refuses<'a, A: AttributeFromRaw<'a> + AttributeStaticType>(values: &[&'a [u8]
 fn reads_what_ice_writes() {
     let sample = bytes(REQUEST);
     let message = Message::from_bytes(&sample).unwrap();
-    assert_eq!(message.attribute::<Priority>().unwrap().priority(), 0x6e00_01ff);
+    assert_eq!(
+        message.attribute::<Priority>().unwrap().priority(),
+        0x6e00_01ff
+    );
     let controlled = message.attribute::<IceControlled>().unwrap();
     assert_eq!(controlled.tie_breaker(), 0x932f_f9b1_5126_3b36);
-    assert_eq!(message.attribute::<Software>().unwrap().software(), "STUN test client");
+    assert_eq!(
+        message.attribute::<Software>().unwrap().software(),
+        "STUN test client"
+    );
     let missing = StunParseError::MissingAttribute(AttributeType(0x0025));
     assert_eq!(message.attribute::<UseCandidate>(), Err(missing));
 
     stands(Priority::new(0x0102_0304), 0x0024, &[1, 2, 3, 4]);
     stands(UseCandidate, 0x0025, &[]);
     stands(IceControlled::new(1), 0x8029, &[0, 0, 0, 0, 0, 0, 0, 1]);
-    stands(IceControlling::new(1 << 56), 0x802A, &[1, 0, 0, 0, 0, 0, 0, 0]);
+    stands(
+        IceControlling::new(1 << 56),
+        0x802A,
+        &[1, 0, 0, 0, 0, 0, 0, 0],
+    );
     refuses::<Priority>(&[&[], &[0; 3], &[0; 5]]);
     refuses::<UseCandidate>(&[&[0]]);
     refuses::<IceControlled>(&[&[], &[0; 4], &[0; 9]]);
@@ -171,17 +195,31 @@ fn reads_what_turn_writes() {
     assert_eq!((TurnMethod::of(BINDING), turn::CHANNEL_BIND), (None, 9));
 
     let channel = ChannelNumber::new(0x4FFF).unwrap();
-    assert_eq!(stands(channel, 0x000C, &[0x4F, 0xFF, 0, 0]).channel(), 0x4FFF);
+    assert_eq!(
+        stands(channel, 0x000C, &[0x4F, 0xFF, 0, 0]).channel(),
+        0x4FFF
+    );
     for number in [0, 0x3FFF, 0x5000, 0xFFFF] {
         assert_eq!(ChannelNumber::new(number), Err(StunWriteError::NotAllowed));
     }
-    refuses::<ChannelNumber>(&[&[0x40, 0], &[0x3F, 0xFF, 0, 0], &[0x50, 0, 0, 0], &[0x40; 5]]);
+    refuses::<ChannelNumber>(&[
+        &[0x40, 0],
+        &[0x3F, 0xFF, 0, 0],
+        &[0x50, 0, 0, 0],
+        &[0x40; 5],
+    ]);
     let raw = RawAttribute::new(ChannelNumber::TYPE, &[0x40, 1, 7, 7]);
     assert_eq!(ChannelNumber::from_raw(raw).unwrap().channel(), 0x4001);
 
-    assert_eq!(stands(Lifetime::new(600), 0x000D, &[0, 0, 2, 88]).seconds(), 600);
+    assert_eq!(
+        stands(Lifetime::new(600), 0x000D, &[0, 0, 2, 88]).seconds(),
+        600
+    );
     refuses::<Lifetime>(&[&[0; 2], &[0; 8]]);
-    assert_eq!(stands(Data::new(b"abcde"), 0x0013, b"abcde").data(), b"abcde");
+    assert_eq!(
+        stands(Data::new(b"abcde"), 0x0013, b"abcde").data(),
+        b"abcde"
+    );
     let udp = RequestedTransport::new(RequestedTransport::UDP);
     assert_eq!(stands(udp, 0x0019, &[17, 0, 0, 0]).protocol(), 17);
     refuses::<RequestedTransport>(&[&[17], &[17, 0, 0, 0, 0]]);
@@ -190,46 +228,80 @@ fn reads_what_turn_writes() {
     assert!(!stands(EvenPort::new(false), 0x0018, &[0]).requested());
     refuses::<EvenPort>(&[&[], &[0x80, 0]]);
     let token = *b"reserved";
-    assert_eq!(stands(ReservationToken::new(token), 0x0022, b"reserved").token(), &token);
+    assert_eq!(
+        stands(ReservationToken::new(token), 0x0022, b"reserved").token(),
+        &token
+    );
     refuses::<ReservationToken>(&[b"reserve", b"reserved.."]);
     for (family, number) in [(AddressFamily::Ipv4, 1), (AddressFamily::Ipv6, 2)] {
         let value = [number, 0, 0, 0];
         let raw = RawAttribute::new(RequestedAddressFamily::TYPE, &value);
-        assert_eq!(RequestedAddressFamily::from_raw(raw).unwrap().family(), family);
+        assert_eq!(
+            RequestedAddressFamily::from_raw(raw).unwrap().family(),
+            family
+        );
         assert_eq!(AddressFamily::from_number(number), Some(family));
     }
-    stands(RequestedAddressFamily::new(AddressFamily::Ipv6), 0x0017, &[2, 0, 0, 0]);
+    stands(
+        RequestedAddressFamily::new(AddressFamily::Ipv6),
+        0x0017,
+        &[2, 0, 0, 0],
+    );
     refuses::<RequestedAddressFamily>(&[&[1], &[0; 4], &[3, 0, 0, 0]]);
     let second = AdditionalAddressFamily::new(AddressFamily::Ipv6);
-    assert_eq!(stands(second, 0x8000, &[2, 0, 0, 0]).family(), AddressFamily::Ipv6);
+    assert_eq!(
+        stands(second, 0x8000, &[2, 0, 0, 0]).family(),
+        AddressFamily::Ipv6
+    );
     refuses::<AdditionalAddressFamily>(&[&[2], &[0; 4], &[3, 0, 0, 0]]);
 }
 
 #[test]
 fn reads_addresses_and_texts() {
     let ipv4 = "192.0.2.1:32853".parse().unwrap();
-    let ipv6 = "[2001:db8:1234:5678:11:2233:4455:6677]:32853".parse().unwrap();
+    let ipv6 = "[2001:db8:1234:5678:11:2233:4455:6677]:32853"
+        .parse()
+        .unwrap();
     let plain = [0, 1, 0x80, 0x55, 192, 0, 2, 1];
-    assert_eq!(stands(MappedAddress::new(ipv4), 0x0001, &plain).addr(), ipv4);
-    assert_eq!(stands(AlternateServer::new(ipv4), 0x8023, &plain).server(), ipv4);
+    assert_eq!(
+        stands(MappedAddress::new(ipv4), 0x0001, &plain).addr(),
+        ipv4
+    );
+    assert_eq!(
+        stands(AlternateServer::new(ipv4), 0x8023, &plain).server(),
+        ipv4
+    );
     let mut longer = vec![0, 2, 0x80, 0x55];
     longer.extend(bytes("20010db8 12345678 00112233 44556677"));
-    assert_eq!(stands(MappedAddress::new(ipv6), 0x0001, &longer).addr(), ipv6);
+    assert_eq!(
+        stands(MappedAddress::new(ipv6), 0x0001, &longer).addr(),
+        ipv6
+    );
     refuses::<MappedAddress>(&[&[], &plain[..7], &longer[..8], &[0, 3, 0, 0, 1, 2, 3, 4]]);
 
     // The values of RFC 5769, sections 2.2 and 2.3, under the id of its samples.
     let id = TransactionId::from(<[u8; 12]>::try_from(bytes("b7e7a701bc34d686fa87dfae")).unwrap());
     let hidden = bytes("0001a147 e112a643");
-    assert_eq!(stands(XorPeerAddress::new(ipv4, id), 0x0012, &hidden).addr(id), ipv4);
+    assert_eq!(
+        stands(XorPeerAddress::new(ipv4, id), 0x0012, &hidden).addr(id),
+        ipv4
+    );
     let hidden = bytes("0002a147 0113a9fa a5d3f179 bc25f4b5 bed2b9d9");
-    assert_eq!(stands(XorRelayedAddress::new(ipv6, id), 0x0016, &hidden).addr(id), ipv6);
+    assert_eq!(
+        stands(XorRelayedAddress::new(ipv6, id), 0x0016, &hidden).addr(id),
+        ipv6
+    );
     refuses::<XorPeerAddress>(&[&[], &hidden[..8]]);
 
     let longest = "a".repeat(763);
     stands(Software::new(&longest).unwrap(), 0x8022, longest.as_bytes());
     let error = Software::new(&"a".repeat(764)).unwrap_err();
     assert_eq!(error, StunWriteError::TooLarge);
-    stands(AlternateDomain::new("example.org").unwrap(), 0x8003, b"example.org");
+    stands(
+        AlternateDomain::new("example.org").unwrap(),
+        0x8003,
+        b"example.org",
+    );
     let error = AlternateDomain::new(&longest[..256]).unwrap_err();
     assert_eq!(error, StunWriteError::TooLarge);
     refuses::<Software>(&[&[0xFF], &[b'a'; 764]]);
@@ -250,32 +322,57 @@ fn answers_a_request_by_420() {
     let answer = Message::from_bytes(&answer).unwrap();
     let unknown = answer.attribute::<UnknownAttributes>().unwrap();
     assert_eq!((unknown.len(), unknown.is_empty()), (1, false));
-    assert_eq!((unknown.get(0), unknown.get(1)), (Some(Priority::TYPE), None));
+    assert_eq!(
+        (unknown.get(0), unknown.get(1)),
+        (Some(Priority::TYPE), None)
+    );
     refuses::<UnknownAttributes>(&[&[0], &[0, 1, 2]]);
 
     let all = [known[0], known[1], Priority::TYPE];
     assert!(!has_unknown(&request, &all));
-    assert!(answer_unknown(&request, &all, MessageWriteVec::new()).unwrap().is_none());
+    assert!(
+        answer_unknown(&request, &all, MessageWriteVec::new())
+            .unwrap()
+            .is_none()
+    );
     let mut short = [0; 55];
     let writer = MessageWriteMutSlice::new(&mut short);
-    assert_eq!(answer_unknown(&request, &known, writer).err(), Some(StunWriteError::TooSmall));
+    assert_eq!(
+        answer_unknown(&request, &known, writer).err(),
+        Some(StunWriteError::TooSmall)
+    );
     let mut enough = [0; 56];
     let writer = MessageWriteMutSlice::new(&mut enough);
     assert!(answer_unknown(&request, &known, writer).unwrap().is_some());
 
     // What is no request is not answered, and a response that is not understood has failed.
-    assert!(answer_unknown(&answer, &[], MessageWriteVec::new()).unwrap().is_none());
+    assert!(
+        answer_unknown(&answer, &[], MessageWriteVec::new())
+            .unwrap()
+            .is_none()
+    );
     assert!(ends_failed(&answer, &[]));
-    assert!(!ends_failed(&answer, &[AttributeType::ERROR_CODE, AttributeType(0x000A)]));
+    assert!(!ends_failed(
+        &answer,
+        &[AttributeType::ERROR_CODE, AttributeType(0x000A)]
+    ));
     let bare = Message::builder_error(&request, MessageWriteVec::new()).finish();
     assert!(ends_failed(&Message::from_bytes(&bare).unwrap(), &[]));
     let mut coded = Message::builder_error(&request, MessageWriteVec::new());
-    coded.add_attribute(&ErrorCode::new(487, "").unwrap()).unwrap();
+    coded
+        .add_attribute(&ErrorCode::new(487, "").unwrap())
+        .unwrap();
     let coded = coded.finish();
-    assert!(!ends_failed(&Message::from_bytes(&coded).unwrap(), &[AttributeType::ERROR_CODE]));
+    assert!(!ends_failed(
+        &Message::from_bytes(&coded).unwrap(),
+        &[AttributeType::ERROR_CODE]
+    ));
     let success = bytes(RESPONSE);
     let success = Message::from_bytes(&success).unwrap();
     assert!(ends_failed(&success, &[AttributeType::MESSAGE_INTEGRITY]));
-    let known = [AttributeType::MESSAGE_INTEGRITY, AttributeType::XOR_MAPPED_ADDRESS];
+    let known = [
+        AttributeType::MESSAGE_INTEGRITY,
+        AttributeType::XOR_MAPPED_ADDRESS,
+    ];
     assert!(!ends_failed(&success, &known));
 }

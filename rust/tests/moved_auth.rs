@@ -1,5 +1,5 @@
-//! What the tests of the Rust crate check of the authenticators, written anew: by its calls, without
-//! random words handed in where it hands none in.
+//! What the tests of the Rust crate check of the authenticators, written anew: by its calls,
+//! without random words handed in where it hands none in.
 #![cfg(all(feature = "std", feature = "rand"))]
 
 use IntegrityAlgorithm::{Sha1, Sha256};

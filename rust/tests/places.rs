@@ -1,4 +1,5 @@
-//! The places of the example server, beside a plain list: the same address loses its place each time.
+//! The places of the example server, beside a plain list: the same address loses its place each
+//! time.
 
 #[path = "../examples/places/mod.rs"]
 mod places;

@@ -1,7 +1,9 @@
-/* The calls on messages, on what only C can pass: numbers and lengths that no call takes, rooms that are too small, and the
- * order of their refusals. What they answer to messages the transcripts play (tests/play.py).
+/* The calls on messages, on what only C can pass. That is numbers and lengths that no call takes,
+ * rooms that are too small, and the order of their refusals. What they answer to messages the
+ * transcripts play (tests/play.py).
  *
- * Its samples are typed from RFC 5769 and RFC 8489, B.1, and the key is by Python's hashlib; none comes from the library. */
+ * Its samples are typed from RFC 5769 and RFC 8489, B.1, and the key is by Python's hashlib; none
+ * comes from the library. */
 #include "stunp.h"
 #include <stdio.h>
 #include <stdlib.h>
@@ -12,19 +14,23 @@
 
 static void check(int64_t answer, int64_t wanted, int line) {
     if (answer == wanted) return;
-    fprintf(stderr, "arguments: line %d: %lld (%s), not %lld\n", line, (long long)answer, stunp_strerror(answer), (long long)wanted);
+    fprintf(stderr, "arguments: line %d: %lld (%s), not %lld\n", line, (long long)answer,
+            stunp_strerror(answer), (long long)wanted);
     exit(1);
 }
 
 /* RFC 5769, section 2.3: a response with an IPv6 address. */
 static const char response[] =
-    "\x01\x01\x00\x48\x21\x12\xa4\x42\xb7\xe7\xa7\x01\xbc\x34\xd6\x86\xfa\x87\xdf\xae\x80\x22\x00\x0btest vector "
-    "\x00\x20\x00\x14\x00\x02\xa1\x47\x01\x13\xa9\xfa\xa5\xd3\xf1\x79\xbc\x25\xf4\xb5\xbe\xd2\xb9\xd9\x00\x08\x00\x14"
-    "\xa3\x82\x95\x4e\x4b\xe6\x7b\xf1\x17\x84\xc9\x7c\x82\x92\xc2\x75\xbf\xe3\xed\x41\x80\x28\x00\x04\xc8\xfb\x0b\x4c";
+    "\x01\x01\x00\x48\x21\x12\xa4\x42\xb7\xe7\xa7\x01\xbc\x34\xd6\x86\xfa\x87\xdf\xae"
+    "\x80\x22\x00\x0btest vector \x00\x20\x00\x14\x00\x02\xa1\x47\x01\x13\xa9\xfa\xa5\xd3\xf1\x79"
+    "\xbc\x25\xf4\xb5\xbe\xd2\xb9\xd9\x00\x08\x00\x14\xa3\x82\x95\x4e\x4b\xe6\x7b\xf1"
+    "\x17\x84\xc9\x7c\x82\x92\xc2\x75\xbf\xe3\xed\x41\x80\x28\x00\x04\xc8\xfb\x0b\x4c";
 static const uint8_t *const response_id = (const uint8_t *)response + 8;
-static const uint8_t peer[16] = {0x20, 0x01, 0x0d, 0xb8, 0x12, 0x34, 0x56, 0x78, 0, 0x11, 0x22, 0x33, 0x44, 0x55, 0x66, 0x77};
+static const uint8_t peer[16] = {0x20, 0x01, 0x0d, 0xb8, 0x12, 0x34, 0x56, 0x78, 0, 0x11, 0x22,
+                                 0x33, 0x44, 0x55, 0x66, 0x77};
 
-static const char user_name[] = "\xe3\x83\x9e\xe3\x83\x88\xe3\x83\xaa\xe3\x83\x83\xe3\x82\xaf\xe3\x82\xb9";
+static const char user_name[] =
+    "\xe3\x83\x9e\xe3\x83\x88\xe3\x83\xaa\xe3\x83\x83\xe3\x82\xaf\xe3\x82\xb9";
 
 static void reads(void) {
     uint8_t address[16] = {0}, id[12] = {7};
@@ -44,7 +50,8 @@ static void reads(void) {
 /* Cursors that no walk leaves, types that no attribute has, and a header without its message. */
 static void walks(void) {
     const size_t whole = sizeof response - 1;
-    stunp_cursor outside[] = {{1, 0}, {19, 0}, {whole + 1, 0}, {SIZE_MAX, 9}}, inside[] = {{whole, 0}, {20, 3}, {20, UINT32_MAX}};
+    stunp_cursor outside[] = {{1, 0}, {19, 0}, {whole + 1, 0}, {SIZE_MAX, 9}},
+        inside[] = {{whole, 0}, {20, 3}, {20, UINT32_MAX}};
     stunp_header header = {STUNP_ERROR, 7, 7, {7}};
     uint16_t type = 7;
     size_t length = 7;
@@ -53,7 +60,8 @@ static void walks(void) {
         CHECK(stunp_walk(BYTES(response), &outside[i], &type, &length), STUNP_BAD_ARGUMENT);
         CHECK(outside[i].place == before.place && outside[i].hidden == before.hidden, 1);
     }
-    for (size_t i = 0; i < sizeof inside / sizeof *inside; i++) CHECK(stunp_walk(BYTES(response), &inside[i], &type, &length), 0);
+    for (size_t i = 0; i < sizeof inside / sizeof *inside; i++)
+        CHECK(stunp_walk(BYTES(response), &inside[i], &type, &length), 0);
     CHECK(stunp_find((const uint8_t *)response, 19, 65536, &length), STUNP_BAD_ARGUMENT);
     CHECK(stunp_find((const uint8_t *)response, 19, STUNP_SOFTWARE, &length), STUNP_TRUNCATED);
     CHECK(stunp_find(BYTES(response), STUNP_USERNAME, &length), STUNP_MISSING_ATTRIBUTE);
@@ -61,9 +69,11 @@ static void walks(void) {
     CHECK(stunp_find(BYTES(response), STUNP_FINGERPRINT, &length), 84);
     CHECK((int64_t)length, 4);
     CHECK(stunp_read_header((const uint8_t *)response, 19, &header), STUNP_TRUNCATED);
-    CHECK(header.message_class == STUNP_ERROR && header.method == 7 && header.length == 7 && header.id[0] == 7, 1);
+    CHECK(header.message_class == STUNP_ERROR && header.method == 7 && header.length == 7
+          && header.id[0] == 7, 1);
     CHECK(stunp_read_header((const uint8_t *)response, 20, &header), 0);
-    CHECK(header.message_class == STUNP_SUCCESS && header.method == STUNP_BINDING && header.length == whole, 1);
+    CHECK(header.message_class == STUNP_SUCCESS && header.method == STUNP_BINDING
+          && header.length == whole, 1);
     CHECK(memcmp(header.id, response_id, 12), 0);
 }
 
@@ -101,11 +111,15 @@ static void writes_keys(void) {
                               "\x23\x04\xd9\x89\xc9\xd0\xaf\x3a\x8c\x7e\x18\x4b\x4f\x9b\xb4\xa1";
     uint8_t out[33];
     out[32] = 0xa5;
-    CHECK(stunp_long_term_key(STUNP_SHA256, BYTES(user_name), BYTES("example.org"), BYTES("TheMatrIX"), out, sizeof out),
+    CHECK(stunp_long_term_key(STUNP_SHA256, BYTES(user_name), BYTES("example.org"),
+                              BYTES("TheMatrIX"), out, sizeof out),
           STUNP_SHA256_KEY_LENGTH);
-    CHECK(stunp_long_term_key(STUNP_SHA256, BYTES(user_name), BYTES(""), BYTES("\xff"), out, 0), STUNP_NOT_TEXT);
-    CHECK(stunp_long_term_key(STUNP_SHA256, BYTES(user_name), BYTES(""), BYTES("TheMatrIX"), out, 31), STUNP_BUFFER_TOO_SMALL);
-    CHECK(stunp_long_term_key(STUNP_SHA1, BYTES(user_name), BYTES(""), BYTES("TheMatrIX"), out, 15), STUNP_BUFFER_TOO_SMALL);
+    CHECK(stunp_long_term_key(STUNP_SHA256, BYTES(user_name), BYTES(""), BYTES("\xff"), out, 0),
+          STUNP_NOT_TEXT);
+    CHECK(stunp_long_term_key(STUNP_SHA256, BYTES(user_name), BYTES(""), BYTES("TheMatrIX"), out,
+                              31), STUNP_BUFFER_TOO_SMALL);
+    CHECK(stunp_long_term_key(STUNP_SHA1, BYTES(user_name), BYTES(""), BYTES("TheMatrIX"), out, 15),
+          STUNP_BUFFER_TOO_SMALL);
     CHECK(stunp_userhash(BYTES(user_name), BYTES("example.org"), out, 31), STUNP_BUFFER_TOO_SMALL);
     CHECK(stunp_userhash(BYTES(user_name), BYTES("\xff"), out, 0), STUNP_NOT_TEXT);
     CHECK(stunp_userhash(BYTES("\xff"), BYTES("example.org"), out, 32), STUNP_NOT_TEXT);
@@ -113,18 +127,24 @@ static void writes_keys(void) {
     CHECK(out[32], 0xa5);
 }
 
-/* The call that writes a whole request: its longest one, and each refusal before those that come after it. */
+/* The call that writes a whole request: its longest one, and each refusal before those that come
+ * after it. */
 static void builds(void) {
     static uint8_t name[514], out[STUNP_LONGEST_SIGNED];
     const uint8_t *id = response_id;
     memset(name, 'a', sizeof name);
-    CHECK(stunp_build_signed(STUNP_SHA256, id, 12, name, 513, BYTES("key"), out, sizeof out), STUNP_LONGEST_SIGNED);
+    CHECK(stunp_build_signed(STUNP_SHA256, id, 12, name, 513, BYTES("key"), out, sizeof out),
+          STUNP_LONGEST_SIGNED);
     CHECK(stunp_verify(out, sizeof out, BYTES("key")), STUNP_SHA256);
-    CHECK(stunp_build_signed(STUNP_SHA256, id, 12, name, 513, BYTES("key"), out, sizeof out - 1), STUNP_BUFFER_TOO_SMALL);
-    CHECK(stunp_build_signed(STUNP_SHA256, id, 12, name, 514, BYTES("key"), out, 0), STUNP_TEXT_TOO_LONG);
+    CHECK(stunp_build_signed(STUNP_SHA256, id, 12, name, 513, BYTES("key"), out, sizeof out - 1),
+          STUNP_BUFFER_TOO_SMALL);
+    CHECK(stunp_build_signed(STUNP_SHA256, id, 12, name, 514, BYTES("key"), out, 0),
+          STUNP_TEXT_TOO_LONG);
     name[513] = 0xff;
-    CHECK(stunp_build_signed(STUNP_SHA256, id, 12, name, 514, BYTES("key"), out, 0), STUNP_NOT_TEXT);
-    CHECK(stunp_build_signed(STUNP_SHA256, id, 11, name, 514, BYTES("key"), out, 0), STUNP_BAD_ARGUMENT);
+    CHECK(stunp_build_signed(STUNP_SHA256, id, 12, name, 514, BYTES("key"), out, 0),
+          STUNP_NOT_TEXT);
+    CHECK(stunp_build_signed(STUNP_SHA256, id, 11, name, 514, BYTES("key"), out, 0),
+          STUNP_BAD_ARGUMENT);
     CHECK(stunp_verify(out, sizeof out, BYTES("key")), STUNP_SHA256);
     CHECK(stunp_build_signed(STUNP_SHA1, id, 12, name, 0, name, 0, out, 48), 48);
     CHECK(stunp_verify(out, 48, name, 0), STUNP_SHA1);

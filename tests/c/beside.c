@@ -45,7 +45,8 @@ static void libnice(void) {
     StunAgent agent;
     StunMessage message;
     stun_agent_init(&agent, known, STUN_COMPATIBILITY_RFC5389, STUN_AGENT_USAGE_USE_FINGERPRINT);
-    want("libnice", stun_agent_init_request(&agent, &message, bytes, sizeof bytes, STUN_BINDING), 1);
+    want("libnice", stun_agent_init_request(&agent, &message, bytes, sizeof bytes, STUN_BINDING),
+         1);
     reads("of libnice's", bytes, stun_agent_finish_message(&agent, &message, NULL, 0));
     stunp_writer request = write_request(bytes, sizeof bytes);
     StunValidationStatus status =

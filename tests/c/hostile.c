@@ -1,7 +1,9 @@
-/* What strangers may send, through each call that reads it: the messages of bench/hostile.h, mutations of the request of RFC
- * 5769, section 2.1, whose attributes are compared with a walk of this file's own, and mutations of requests and answers that
- * are rightly signed. Each is flush against memory that may not be touched, at its end and then at its front. Nothing with a
- * changed covered byte may be validated. check.sh builds this with an address sanitizer where the compiler has one. */
+/* What strangers may send, through each call that reads it. First come the messages of
+ * bench/hostile.h. Then come mutations of the request of RFC 5769, section 2.1, whose attributes
+ * are compared with a walk of this file's own. Last come mutations of requests and answers that are
+ * rightly signed. Each is flush against memory that may not be touched, at its end and then at its
+ * front. Nothing with a changed covered byte may be validated. check.sh builds this with an address
+ * sanitizer where the compiler has one. */
 #include "../../bench/hostile.h"
 #include "fixture.h"
 
@@ -19,10 +21,13 @@ static uint8_t *placed(const uint8_t *message, size_t length, bool is_at_end) {
 
 /* ---- The calls on messages. */
 
-/* Changes some bytes, or the type or length of an attribute, and sometimes the length of the message. */
+/* Changes some bytes, or the type or length of an attribute, and sometimes the length of the
+ * message. */
 static size_t mutate_attributes(uint8_t *message) {
     static const uint8_t places[] = {20, 40, 48, 60, 76, 100};
-    static const uint16_t types[] = {STUNP_MESSAGE_INTEGRITY, STUNP_MESSAGE_INTEGRITY_SHA256, STUNP_FINGERPRINT, STUNP_XOR_MAPPED_ADDRESS, STUNP_ERROR_CODE, STUNP_USERNAME};
+    static const uint16_t types[] = {STUNP_MESSAGE_INTEGRITY, STUNP_MESSAGE_INTEGRITY_SHA256,
+                                     STUNP_FINGERPRINT, STUNP_XOR_MAPPED_ADDRESS, STUNP_ERROR_CODE,
+                                     STUNP_USERNAME};
     size_t length = sizeof sample;
     memcpy(message, sample, length);
     for (uint32_t changes = draw(4); changes > 0; changes--) {
@@ -66,23 +71,29 @@ static size_t find_visible(const uint8_t *message, size_t length, struct found *
     return count;
 }
 
-/* A walk comes to the same attributes, and so does a search for each of their types to the first of it. */
-static void walk_over(const uint8_t *message, size_t length, const struct found *found, size_t count, long number) {
+/* A walk comes to the same attributes, and so does a search for each of their types to the first of
+ * it. */
+static void walk_over(const uint8_t *message, size_t length, const struct found *found,
+                      size_t count, long number) {
     stunp_cursor cursor = {0, 0};
     uint16_t type = 0;
     size_t value = 0;
     for (size_t i = 0; i < count; i++) {
         int64_t place = stunp_walk(message, length, &cursor, &type, &value);
-        if (place != (int64_t)found[i].place || type != found[i].type || value != found[i].length) fail("a walk elsewhere", number);
+        if (place != (int64_t)found[i].place || type != found[i].type || value != found[i].length)
+            fail("a walk elsewhere", number);
         size_t first = 0;
         while (found[first].type != type) first++;
-        if (stunp_find(message, length, type, &value) != (int64_t)found[first].place || value != found[first].length)
+        if (stunp_find(message, length, type, &value) != (int64_t)found[first].place
+            || value != found[first].length)
             fail("another is found", number);
     }
     size_t left = value;
     for (int again = 0; again < 2; again++)
-        if (stunp_walk(message, length, &cursor, &type, &value) != 0) fail("a walk goes further", number);
-    if (stunp_find(message, length, 0x7fff, &value) != STUNP_MISSING_ATTRIBUTE || value != left) fail("none is found", number);
+        if (stunp_walk(message, length, &cursor, &type, &value) != 0)
+            fail("a walk goes further", number);
+    if (stunp_find(message, length, 0x7fff, &value) != STUNP_MISSING_ATTRIBUTE || value != left)
+        fail("none is found", number);
 }
 
 /* A cursor of no walk: what it comes to is within the message, wherever it is. */
@@ -92,12 +103,14 @@ static void walk_anywhere(const uint8_t *message, size_t length, long number) {
     size_t value = 0;
     int64_t place = stunp_walk(message, length, &cursor, &type, &value);
     if (before.place != 0 && (before.place < 20 || before.place > length)) {
-        if (place != STUNP_BAD_ARGUMENT || cursor.place != before.place || cursor.hidden != before.hidden || type != 0 || value != 0)
+        if (place != STUNP_BAD_ARGUMENT || cursor.place != before.place
+            || cursor.hidden != before.hidden || type != 0 || value != 0)
             fail("a wrong cursor is taken", number);
         return;
     }
     for (; place > 0; place = stunp_walk(message, length, &cursor, &type, &value)) {
-        if (place < 20 || (size_t)place < before.place || (size_t)place + 4 + value > length || cursor.place > length)
+        if (place < 20 || (size_t)place < before.place || (size_t)place + 4 + value > length
+            || cursor.place > length)
             fail("a walk outside", number);
         before = cursor;
     }
@@ -110,16 +123,19 @@ static void read_header(const uint8_t *message, size_t length, long number) {
     int64_t answer = stunp_read_header(message, length, &header);
     if (answer != stunp_parse(message, length) && answer != 0) fail("a header is refused", number);
     if (answer < 0 ? header.message_class != 7 || header.method != 7 || header.length != 7
-                   : memcmp(header.id, message + ID_AT, sizeof id) != 0 || header.length != 20u + (size_t)(message[2] << 8 | message[3]))
+                   : memcmp(header.id, message + ID_AT, sizeof id) != 0
+                   || header.length != 20u + (size_t)(message[2] << 8 | message[3]))
         fail("another header", number);
     if (stunp_parse(message, length) < 0) return;
-    if (header.message_class != stunp_class(message, length) || header.method != stunp_method(message, length)
-        || header.length != length || stunp_id(message, length, id, sizeof id) != 12 || memcmp(header.id, id, sizeof id) != 0)
+    if (header.message_class != stunp_class(message, length)
+        || header.method != stunp_method(message, length) || header.length != length
+        || stunp_id(message, length, id, sizeof id) != 12 || memcmp(header.id, id, sizeof id) != 0)
         fail("another header than by three calls", number);
 }
 
 /* What the first visible FINGERPRINT of a message is, by this file's own sum. */
-static int64_t find_fingerprint(const uint8_t *message, size_t length, const struct found *found, size_t count) {
+static int64_t find_fingerprint(const uint8_t *message, size_t length, const struct found *found,
+                                size_t count) {
     while (count > 0 && found->type != STUNP_FINGERPRINT) found++, count--;
     if (count == 0) return STUNP_NO_FINGERPRINT;
     if (found->length != 4 || found->place + 8 != length) return STUNP_MISPLACED_FINGERPRINT;
@@ -130,8 +146,10 @@ static int64_t find_fingerprint(const uint8_t *message, size_t length, const str
     return (~sum ^ 0x5354554e) == stated ? STUNP_RIGHT_FINGERPRINT : STUNP_WRONG_FINGERPRINT;
 }
 
-/* The types that must be understood and are not, told in full, told in part, and refused in a buffer that ends where memory does. */
-static void find_unknown(const uint8_t *message, size_t length, const struct found *found, size_t count, long number) {
+/* The types that must be understood and are not, told in full, told in part, and refused in a
+ * buffer that ends where memory does. */
+static void find_unknown(const uint8_t *message, size_t length, const struct found *found,
+                         size_t count, long number) {
     static const uint16_t known[] = {STUNP_USERNAME, STUNP_MESSAGE_INTEGRITY, 0x0000};
     uint16_t wanted[32], told[32] = {0};
     uint8_t answer[256];
@@ -139,21 +157,27 @@ static void find_unknown(const uint8_t *message, size_t length, const struct fou
     for (size_t i = 0; i < count; i++) {
         size_t same = 0;
         while (same < types && wanted[same] != found[i].type) same++;
-        if (found[i].type < 0x8000 && found[i].type != known[0] && found[i].type != known[1] && found[i].type != known[2] && same == types)
+        if (found[i].type < 0x8000 && found[i].type != known[0] && found[i].type != known[1]
+            && found[i].type != known[2] && same == types)
             wanted[types++] = found[i].type;
     }
     size_t some = draw(5);
-    if (stunp_unknown_types(message, length, known, 3, told, some) != (int64_t)types) fail("not as many unknown types", number);
-    if (memcmp(told, wanted, 2 * (some < types ? some : types)) != 0 || told[some < types ? some : types] != 0) fail("other unknown types", number);
+    if (stunp_unknown_types(message, length, known, 3, told, some) != (int64_t)types)
+        fail("not as many unknown types", number);
+    size_t fit = some < types ? some : types;
+    if (memcmp(told, wanted, 2 * fit) != 0 || told[fit] != 0) fail("other unknown types", number);
     size_t whole = types == 0 ? 0 : 52 + (2 * types + 3) / 4 * 4;
     int64_t written = stunp_refuse_unknown(message, length, known, 3, answer, room);
-    if (written != (stunp_class(message, length) != STUNP_REQUEST ? STUNP_BAD_ARGUMENT : room < whole ? STUNP_BUFFER_TOO_SMALL : (int64_t)whole))
+    if (written != (stunp_class(message, length) != STUNP_REQUEST ? STUNP_BAD_ARGUMENT
+                    : room < whole ? STUNP_BUFFER_TOO_SMALL : (int64_t)whole))
         fail("not refused", number);
     if (written <= 0) return;
-    if (stunp_parse(answer, whole) != 0 || stunp_error_code(answer, whole) != 420 || memcmp(answer + ID_AT, message + ID_AT, 12) != 0)
+    if (stunp_parse(answer, whole) != 0 || stunp_error_code(answer, whole) != 420
+        || memcmp(answer + ID_AT, message + ID_AT, 12) != 0)
         fail("another refusal", number);
     for (size_t i = 0; i < types; i++)
-        if (answer[52 + 2 * i] != wanted[i] >> 8 || answer[53 + 2 * i] != (wanted[i] & 255)) fail("another type is refused", number);
+        if (answer[52 + 2 * i] != wanted[i] >> 8 || answer[53 + 2 * i] != (wanted[i] & 255))
+            fail("another type is refused", number);
 }
 
 /* The attribute at a place as an address that is not hidden, and as a number. */
@@ -162,41 +186,55 @@ static void read_plainly(const uint8_t *message, size_t length, size_t place, lo
     uint16_t port = 0, hidden_port = 0;
     uint64_t read = 7, wanted = 0;
     int64_t answer = stunp_read_address(message, length, place, octets, sizeof octets, &port);
-    if (answer != stunp_read_xor_address(message, length, place, hidden, sizeof hidden, &hidden_port)) fail("two answers of an address", number);
-    if (answer > 0 && (port != (hidden_port ^ 0x2112) || memcmp(octets, message + place + 8, (size_t)answer) != 0))
+    int64_t again =
+        stunp_read_xor_address(message, length, place, hidden, sizeof hidden, &hidden_port);
+    if (answer != again) fail("two answers of an address", number);
+    if (answer > 0 && (port != (hidden_port ^ 0x2112)
+                       || memcmp(octets, message + place + 8, (size_t)answer) != 0))
         fail("another plain address", number);
     int64_t size = stunp_read_number(message, length, place, &read);
-    if ((size == STUNP_BAD_ARGUMENT) != (answer == STUNP_BAD_ARGUMENT)) fail("a number in no attribute", number);
-    if (size < 0 ? size != STUNP_BAD_ARGUMENT && size != STUNP_MALFORMED_ATTRIBUTE : size != (message[place + 2] << 8 | message[place + 3]))
+    if ((size == STUNP_BAD_ARGUMENT) != (answer == STUNP_BAD_ARGUMENT))
+        fail("a number in no attribute", number);
+    if (size < 0 ? size != STUNP_BAD_ARGUMENT && size != STUNP_MALFORMED_ATTRIBUTE
+        : size != (message[place + 2] << 8 | message[place + 3]))
         fail("another size", number);
     for (int64_t i = 0; i < size; i++) wanted = wanted << 8 | message[place + 4 + (size_t)i];
     if (read != (size < 0 ? 7 : wanted)) fail("another number", number);
 }
 
 /* The address in an attribute, wherever it is said to be. */
-static void read_address(const uint8_t *message, size_t length, size_t place, bool is_there, long number) {
+static void read_address(const uint8_t *message, size_t length, size_t place, bool is_there,
+                         long number) {
     uint8_t octets[16];
     uint16_t port = 0;
     int64_t answer = stunp_read_xor_address(message, length, place, octets, sizeof octets, &port);
     if (place < 20 && answer != STUNP_BAD_ARGUMENT) fail("an address in a header", number);
-    if (answer == STUNP_BAD_ARGUMENT ? is_there : answer != STUNP_MALFORMED_ATTRIBUTE && answer != 4 && answer != 16) fail("another answer", number);
+    if (answer == STUNP_BAD_ARGUMENT ? is_there
+        : answer != STUNP_MALFORMED_ATTRIBUTE && answer != 4 && answer != 16)
+        fail("another answer", number);
     read_plainly(message, length, place, number);
     if (answer < 0) return;
     const uint8_t *value = message + place + 4;
-    if (value[1] != (answer == 4 ? 1 : 2) || port != ((value[2] << 8 | value[3]) ^ 0x2112)) fail("another port", number);
+    if (value[1] != (answer == 4 ? 1 : 2) || port != ((value[2] << 8 | value[3]) ^ 0x2112))
+        fail("another port", number);
     for (size_t i = 0; i < (size_t)answer; i++)
-        if (octets[i] != (value[4 + i] ^ message[4 + i])) fail("another address under the id", number);
+        if (octets[i] != (value[4 + i] ^ message[4 + i]))
+            fail("another address under the id", number);
 }
 
 /* What a stream would have of the bytes hangs on the first 20 of them. */
 static void frame(const uint8_t *message, size_t length, long number) {
     stunp_header header = {0, 0, 0, {0}};
-    int64_t answer = stunp_read_header(message, length, &header), frame = stunp_next_frame(message, length);
-    if (frame != (length < 20 ? 20 : answer < 0 ? STUNP_NOT_STUN : (int64_t)header.length)) fail("another frame", number);
-    if (stunp_is_stun(message, length) != (answer == 0 && message[0] <= 3)) fail("another packet", number);
+    int64_t answer = stunp_read_header(message, length, &header),
+        frame = stunp_next_frame(message, length);
+    if (frame != (length < 20 ? 20 : answer < 0 ? STUNP_NOT_STUN : (int64_t)header.length))
+        fail("another frame", number);
+    if (stunp_is_stun(message, length) != (answer == 0 && message[0] <= 3))
+        fail("another packet", number);
     int64_t wanted = length < 2 ? 2 : 2 + (message[0] << 8 | message[1]);
     if (stunp_next_packet_frame(message, length) != wanted) fail("another packet's frame", number);
-    wanted = length < 4 ? 4 : message[0] >> 4 != 4 ? frame : 4 + ((message[2] << 8 | message[3]) + 3) / 4 * 4;
+    wanted = length < 4 ? 4 : message[0] >> 4 != 4 ? frame
+        : 4 + ((message[2] << 8 | message[3]) + 3) / 4 * 4;
     if (stunp_next_turn_frame(message, length) != wanted) fail("another frame of TURN", number);
 }
 
@@ -215,9 +253,11 @@ static void read_values(const uint8_t *message, size_t length, long number) {
     read_address(message, length, draw(2) == 0 ? draw(256) : SIZE_MAX - draw(4), false, number);
     int64_t fingerprint = stunp_check_fingerprint(message, length);
     if (parsed < 0) {
-        if (stunp_next(message, length, 0, &type, &value) != parsed || stunp_walk(message, length, &cursor, &type, &value) != parsed
-            || stunp_find(message, length, STUNP_USERNAME, &value) != parsed || cursor.place != 0 || stunp_class(message, length) != parsed
-            || stunp_method(message, length) != parsed || stunp_id(message, length, id, sizeof id) != parsed || code != parsed
+        if (stunp_next(message, length, 0, &type, &value) != parsed
+            || stunp_walk(message, length, &cursor, &type, &value) != parsed
+            || stunp_find(message, length, STUNP_USERNAME, &value) != parsed || cursor.place != 0
+            || stunp_class(message, length) != parsed || stunp_method(message, length) != parsed
+            || stunp_id(message, length, id, sizeof id) != parsed || code != parsed
             || address != parsed || type != 0 || value != 0 || port != 0 || fingerprint != parsed
             || stunp_unknown_types(message, length, &type, 0, &type, 1) != parsed
             || stunp_refuse_unknown(message, length, &type, 0, octets, 16) != parsed)
@@ -228,11 +268,14 @@ static void read_values(const uint8_t *message, size_t length, long number) {
     int64_t place = 0;
     for (size_t i = 0; i < count; i++) {
         place = stunp_next(message, length, (size_t)place, &type, &value);
-        if (place != (int64_t)found[i].place || type != found[i].type || value != found[i].length) fail("another attribute", number);
+        if (place != (int64_t)found[i].place || type != found[i].type || value != found[i].length)
+            fail("another attribute", number);
     }
-    if (stunp_next(message, length, (size_t)place, &type, &value) != 0) fail("an attribute more", number);
+    if (stunp_next(message, length, (size_t)place, &type, &value) != 0)
+        fail("an attribute more", number);
     walk_over(message, length, found, count, number);
-    if (fingerprint != find_fingerprint(message, length, found, count)) fail("another FINGERPRINT", number);
+    if (fingerprint != find_fingerprint(message, length, found, count))
+        fail("another FINGERPRINT", number);
     find_unknown(message, length, found, count, number);
     for (size_t i = 0; i < count; i++) read_address(message, length, found[i].place, true, number);
     bool has_code = false, has_address = false;
@@ -240,8 +283,11 @@ static void read_values(const uint8_t *message, size_t length, long number) {
         has_code |= found[i].type == STUNP_ERROR_CODE;
         has_address |= found[i].type == STUNP_XOR_MAPPED_ADDRESS;
     }
-    if (has_code != (code != STUNP_MISSING_ATTRIBUTE) || (code < 300 && code > 0) || code > 699) fail("another code", number);
-    if (has_address != (address != STUNP_MISSING_ATTRIBUTE) || (address > 0 && address != 4 && address != 16)) fail("another address", number);
+    if (has_code != (code != STUNP_MISSING_ATTRIBUTE) || (code < 300 && code > 0) || code > 699)
+        fail("another code", number);
+    if (has_address != (address != STUNP_MISSING_ATTRIBUTE)
+        || (address > 0 && address != 4 && address != 16))
+        fail("another address", number);
 }
 
 /* An attribute and a digest more, in a buffer that ends where memory does. */
@@ -257,7 +303,8 @@ static long write_more(const uint8_t *message, size_t length, long number) {
     int64_t answer = stunp_add(buffer, room, length, STUNP_USERNAME, (const uint8_t *)"name", 4);
     for (size_t i = parsed < 0 ? 0 : find_visible(message, length, found); i > 0; i--) {
         uint16_t type = found[i - 1].type;
-        closed |= type == STUNP_MESSAGE_INTEGRITY || type == STUNP_MESSAGE_INTEGRITY_SHA256 || type == STUNP_FINGERPRINT;
+        closed |= type == STUNP_MESSAGE_INTEGRITY || type == STUNP_MESSAGE_INTEGRITY_SHA256
+            || type == STUNP_FINGERPRINT;
         named |= type == STUNP_USERNAME;
     }
     int64_t wanted = parsed < 0 ? parsed : closed ? STUNP_CLOSED : named ? STUNP_ATTRIBUTE_EXISTS
@@ -267,17 +314,24 @@ static long write_more(const uint8_t *message, size_t length, long number) {
         if (memcmp(before, buffer, room) != 0) fail("a refusal writes", number);
         return 0;
     }
-    if (stunp_parse(buffer, length + 8) != 0 || memcmp(buffer + length, "\x00\x06\x00\x04name", 8) != 0) fail("not what was added", number);
-    if (memcmp(before + length + 8, buffer + length + 8, room - length - 8) != 0) fail("written after the answer", number);
-    int64_t signed_length = stunp_sign(buffer, room, length + 8, STUNP_SHA1, (const uint8_t *)"key", 3);
-    if (room < length + 32 ? signed_length != STUNP_BUFFER_TOO_SMALL : stunp_verify(buffer, (size_t)signed_length, (const uint8_t *)"key", 3) != STUNP_SHA1)
+    if (stunp_parse(buffer, length + 8) != 0
+        || memcmp(buffer + length, "\x00\x06\x00\x04name", 8) != 0)
+        fail("not what was added", number);
+    if (memcmp(before + length + 8, buffer + length + 8, room - length - 8) != 0)
+        fail("written after the answer", number);
+    int64_t signed_length =
+        stunp_sign(buffer, room, length + 8, STUNP_SHA1, (const uint8_t *)"key", 3);
+    if (room < length + 32 ? signed_length != STUNP_BUFFER_TOO_SMALL
+        : stunp_verify(buffer, (size_t)signed_length, (const uint8_t *)"key", 3) != STUNP_SHA1)
         fail("not signed", number);
     /* FINGERPRINT ends it, signed or not. */
     size_t end = signed_length < 0 ? length + 8 : (size_t)signed_length;
     memcpy(before, buffer, room);
     int64_t ended = stunp_add_fingerprint(buffer, room, end);
-    if (ended != (room < end + 8 ? STUNP_BUFFER_TOO_SMALL : (int64_t)end + 8)) fail("another end", number);
-    if (ended < 0 ? memcmp(before, buffer, room) != 0 : stunp_check_fingerprint(buffer, end + 8) != STUNP_RIGHT_FINGERPRINT)
+    if (ended != (room < end + 8 ? STUNP_BUFFER_TOO_SMALL : (int64_t)end + 8))
+        fail("another end", number);
+    if (ended < 0 ? memcmp(before, buffer, room) != 0
+        : stunp_check_fingerprint(buffer, end + 8) != STUNP_RIGHT_FINGERPRINT)
         fail("not ended", number);
     return 1;
 }
@@ -296,7 +350,8 @@ static void run_messages(void) {
 
 /* ---- The calls with state. */
 
-/* Reads each attribute, which must lie within the message, one after the other, and returns how many there are. */
+/* Reads each attribute, which must lie within the message, one after the other, and returns how
+ * many there are. */
 static long walk(const uint8_t *message, size_t length, int64_t parsed) {
     uint16_t type = 0;
     size_t value = 0, end = STUNP_HEADER_LENGTH;
@@ -304,7 +359,8 @@ static long walk(const uint8_t *message, size_t length, int64_t parsed) {
     int64_t place = stunp_next(message, length, 0, &type, &value);
     if (parsed < 0) want("stunp_next of what is no message", place, parsed);
     for (; place > 0; place = stunp_next(message, length, (size_t)place, &type, &value)) {
-        if ((size_t)place < end || (size_t)place + 4 + value > length) fail("an attribute outside", (long)place);
+        if ((size_t)place < end || (size_t)place + 4 + value > length)
+            fail("an attribute outside", (long)place);
         end = (size_t)place + 4 + value;
         count++;
     }
@@ -317,21 +373,26 @@ static void handle(const uint8_t *message, size_t length, int64_t parsed) {
     uint64_t until;
     stunp_address peer;
     if (parsed < 0) {
-        want("stunp_agent_handle of what is no message", stunp_agent_handle(&agent, message, length, &stranger, 0), parsed);
+        want("stunp_agent_handle of what is no message",
+             stunp_agent_handle(&agent, message, length, &stranger, 0), parsed);
         return;
     }
     bool is_response = stunp_class(message, length) >= STUNP_SUCCESS;
     want("unasked", stunp_agent_handle(&agent, message, length, &stranger, 0), !is_response);
     struct message request = message_of(STUNP_REQUEST, 0);
     memcpy(request.bytes + ID_AT, message + ID_AT, sizeof id);
-    int64_t sent = stunp_agent_send_request(&agent, request.bytes, request.length, &server_address, 0);
+    int64_t sent =
+        stunp_agent_send_request(&agent, request.bytes, request.length, &server_address, 0);
     want("stunp_agent_send_request", sent, 0);
-    want("from a stranger", stunp_agent_handle(&agent, message, length, &stranger, 0), !is_response);
+    want("from a stranger", stunp_agent_handle(&agent, message, length, &stranger, 0),
+         !is_response);
     want("still asked", stunp_agent_is_outstanding(&agent, message + ID_AT, sizeof id, &peer), 1);
     want("from the server", stunp_agent_handle(&agent, message, length, &server_address, 0), 1);
-    want("answered", stunp_agent_is_outstanding(&agent, message + ID_AT, sizeof id, &peer), !is_response);
+    want("answered", stunp_agent_is_outstanding(&agent, message + ID_AT, sizeof id, &peer),
+         !is_response);
     want("cancel", stunp_agent_cancel(&agent, message + ID_AT, sizeof id), !is_response);
-    want("ends", stunp_agent_poll(&agent, 0, &until, id, sizeof id), is_response ? 0 : STUNP_CANCELLED);
+    want("ends", stunp_agent_poll(&agent, 0, &until, id, sizeof id),
+         is_response ? 0 : STUNP_CANCELLED);
 }
 
 /* Through each call that reads without validating: the answers at both places are the same. */
@@ -348,7 +409,8 @@ static int64_t server_says(struct pair *pair, const uint8_t *message, size_t len
     const uint8_t *at = placed(message, length, true);
     int64_t answer = stunp_server_validate(&pair->server, at, length, &stranger, 0, some_words);
     at = placed(message, length, false);
-    want("two answers", stunp_server_validate(&pair->server, at, length, &stranger, 0, some_words), answer);
+    want("two answers", stunp_server_validate(&pair->server, at, length, &stranger, 0, some_words),
+         answer);
     want_same("a message is left", at, message, length);
     return answer;
 }
@@ -359,9 +421,11 @@ static void run_table(struct pair *pair) {
     for (size_t i = 0; i < sizeof table / sizeof *table; i++) {
         size_t length = spell(message, table[i].digits, 4);
         want(table[i].name, read_all(message, length), 0);
-        int64_t wanted = table[i].verdict == STUNP_NO_INTEGRITY ? STUNP_UNAUTHORIZED : STUNP_BAD_REQUEST;
+        int64_t wanted =
+            table[i].verdict == STUNP_NO_INTEGRITY ? STUNP_UNAUTHORIZED : STUNP_BAD_REQUEST;
         want(table[i].name, server_says(pair, message, length), wanted);
-        want(table[i].name, stunp_client_validate(&pair->client, message, length), STUNP_INTEGRITY_FAILED);
+        want(table[i].name, stunp_client_validate(&pair->client, message, length),
+             STUNP_INTEGRITY_FAILED);
         for (size_t front = 0; front < length; front++) {
             want("a front of a message", read_all(message, front), STUNP_TRUNCATED);
             want("a front of a message", server_says(pair, message, front), STUNP_TRUNCATED);
@@ -385,8 +449,10 @@ static void run_mutations(struct pair *pair, int64_t algorithm) {
         size_t length = mutate(message, request.bytes, request.length);
         int64_t parsed = read_all(message, length), verdict = server_says(pair, message, length);
         if (parsed < 0) want("no message", verdict, parsed);
-        if (verdict > 0 && is_covered_changed(message, length, &request)) fail("a changed request is validated", i);
-        if (parsed == 0 && (verdict == 0 || verdict > algorithm || verdict < STUNP_STALE_NONCE)) fail("another answer", (long)verdict);
+        if (verdict > 0 && is_covered_changed(message, length, &request))
+            fail("a changed request is validated", i);
+        if (parsed == 0 && (verdict == 0 || verdict > algorithm || verdict < STUNP_STALE_NONCE))
+            fail("another answer", (long)verdict);
         validated += verdict > 0;
         sound += parsed == 0;
 
@@ -394,11 +460,14 @@ static void run_mutations(struct pair *pair, int64_t algorithm) {
         parsed = read_all(message, length);
         verdict = stunp_client_validate(&pair->client, placed(message, length, true), length);
         if (parsed < 0) want("no message", verdict, parsed);
-        if (verdict > 0 && is_covered_changed(message, length, &answer)) fail("a changed answer is validated", i);
+        if (verdict > 0 && is_covered_changed(message, length, &answer))
+            fail("a changed answer is validated", i);
     }
-    if (validated < MUTATIONS / 100 || sound < MUTATIONS / 4) fail("too few are validated", validated);
+    if (validated < MUTATIONS / 100 || sound < MUTATIONS / 4)
+        fail("too few are validated", validated);
     want("the request, still", server_says(pair, request.bytes, request.length), algorithm);
-    want("the answer, still", stunp_client_validate(&pair->client, answer.bytes, answer.length), algorithm);
+    want("the answer, still", stunp_client_validate(&pair->client, answer.bytes, answer.length),
+         algorithm);
 }
 
 int main(void) {
@@ -407,7 +476,8 @@ int main(void) {
     server_address = address_of(1);
     stranger = address_of(2);
     want("stunp_agent_new", stunp_agent_new(&agent, STUNP_UDP, &stranger), 0);
-    for (uint32_t algorithms = STUNP_SHA1; algorithms <= (STUNP_SHA1 | STUNP_SHA256); algorithms++) {
+    for (uint32_t algorithms = STUNP_SHA1; algorithms <= (STUNP_SHA1 | STUNP_SHA256);
+         algorithms++) {
         struct pair pair = pair_of(algorithms);
         run_table(&pair);
         challenge(&pair, &stranger, 0);

@@ -1,5 +1,5 @@
-/* 100,000 addresses ask a server and are forgotten, and 100,000 requests are sent and end, each twice: the second time takes
- * no more memory than the first, and at the end no block is left. */
+/* 100,000 addresses ask a server and are forgotten, and 100,000 requests are sent and end, each
+ * twice. The second time takes no more memory than the first, and at the end no block is left. */
 #include "fixture.h"
 
 enum { MANY = 100000, ROUNDS = 2 };
@@ -12,7 +12,8 @@ static void addresses(void) {
         uint64_t now = (uint64_t)round * 10000 * SECOND;
         for (uint32_t i = 0; i < MANY; i++) {
             stunp_address from = address_of(i);
-            int64_t verdict = stunp_server_validate(&pair.server, request.bytes, request.length, &from, now, some_words);
+            int64_t verdict = stunp_server_validate(&pair.server, request.bytes, request.length,
+                                                    &from, now, some_words);
             want("an unsigned request", verdict, STUNP_UNAUTHORIZED);
         }
         most[round] = stunp_heap_bytes();
@@ -44,7 +45,8 @@ static void validated(void) {
     validate(&pair, &from, 0, STUNP_SHA256);
     size_t blocks = stunp_heap_blocks();
     want("forget", stunp_server_forget_expired(&pair.server, UINT64_MAX), 0);
-    want("kept", stunp_server_client(&pair.server, &from, name, sizeof name, &length), STUNP_SHA256);
+    want("kept", stunp_server_client(&pair.server, &from, name, sizeof name, &length),
+         STUNP_SHA256);
     want("its blocks", (int64_t)stunp_heap_blocks(), (int64_t)blocks);
     want("remove", stunp_server_remove_client(&pair.server, &from), 0);
     want("forget", stunp_server_forget_expired(&pair.server, UINT64_MAX), 0);
@@ -63,14 +65,16 @@ static void requests(void) {
         for (uint32_t i = 0; i < MANY; i++) {
             struct message request = message_of(STUNP_REQUEST, i);
             stunp_address to = address_of(i);
-            want("sent", stunp_agent_send_request(&agent, request.bytes, request.length, &to, now + i * 1000), 0);
+            want("sent", stunp_agent_send_request(&agent, request.bytes, request.length, &to,
+                                                  now + i * 1000), 0);
         }
         most[round] = stunp_heap_bytes();
         uint8_t id[STUNP_ID_LENGTH];
         for (uint32_t i = 0; i < MANY; i++) {
             struct message request = message_of(STUNP_REQUEST, i);
             want("cancel", stunp_agent_cancel(&agent, request.bytes + 8, STUNP_ID_LENGTH), 1);
-            want("ends", stunp_agent_poll(&agent, now + MANY * 1000, &until, id, sizeof id), STUNP_CANCELLED);
+            want("ends", stunp_agent_poll(&agent, now + MANY * 1000, &until, id, sizeof id),
+                 STUNP_CANCELLED);
             want_same("its id", id, request.bytes + 8, sizeof id);
         }
         want("no more", stunp_agent_poll(&agent, now + MANY * 1000, &until, id, sizeof id), 0);

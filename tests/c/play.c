@@ -1,17 +1,20 @@
-/* Makes one call of the archives for each line of standard input, and answers it by a line: tests/play.py plays transcripts by it.
+/* Makes one call of the archives for each line of standard input, and answers it by a line:
+ * tests/play.py plays transcripts by it.
  *
- * A line is the name of a call without `stun_`, with `-` for `_`, and its words in the order of its arguments: a number; bytes as
- * hexadecimal digits, or `-` for none; an address as its octets, `:` and its port; of a buffer and of an output its room, of a
- * buffer then the message. A handle has no word, since there is one of each kind. The answer is that of the call, how many
- * allocations it asked for, and the outputs that it wrote, byte by byte.
+ * A line is the name of a call without `stun_`, with `-` for `_`, and its words in the order of its
+ * arguments. A word is a number, bytes as hexadecimal digits, or `-` for none. An address is its
+ * octets, `:` and its port. Of a buffer and of an output the word is its room, and of a buffer then
+ * the message. A handle has no word, since there is one of each kind. The answer is that of the
+ * call, how many allocations it asked for, and the outputs that it wrote, byte by byte.
  *
  *     reset      frees the handles, and answers how many blocks and bytes are held
  *     blocks     answers the same, and frees nothing
  *     refuse N   the n-th allocation from here on is refused; 0 for none
  *
- * What is passed stands in a block of its own length, what is written to in one of its own room, so that an address sanitizer sees
- * each byte outside. After each call this program looks itself that nothing was changed but what was written: nothing where
- * the call refuses. A line that it cannot read, or a byte that was changed, ends it. */
+ * What is passed stands in a block of its own length, what is written to in one of its own room. So
+ * an address sanitizer sees each byte outside. After each call this program looks itself that
+ * nothing was changed but what was written: nothing where the call refuses. A line that it cannot
+ * read, or a byte that was changed, ends it. */
 #include "heap.h"
 #include <stdio.h>
 #include <stdlib.h>
@@ -48,7 +51,9 @@ static block *block_of(size_t length) {
     return made;
 }
 
-static void fill(block *in, size_t place, uint8_t byte) { in->at[place] = in->before[place] = byte; }
+static void fill(block *in, size_t place, uint8_t byte) {
+    in->at[place] = in->before[place] = byte;
+}
 
 static char *next_word(void) {
     char *word = strtok(NULL, " \n");
@@ -73,7 +78,9 @@ static uint8_t digit(char letter) {
     return (uint8_t)(found - digits);
 }
 
-static uint8_t byte_of(const char *digits) { return (uint8_t)(digit(digits[0]) * 16 + digit(digits[1])); }
+static uint8_t byte_of(const char *digits) {
+    return (uint8_t)(digit(digits[0]) * 16 + digit(digits[1]));
+}
 
 /* The bytes of a word in a block of this room, or of their own length. */
 static block *block_with(const char *word, size_t room) {
@@ -145,7 +152,8 @@ CALL(class_of, block *message = bytes(), stunp_class(ALL(message)))
 CALL(method, block *message = bytes(), stunp_method(ALL(message)))
 CALL(error_code, block *message = bytes(), stunp_error_code(ALL(message)))
 CALL(verify, block *message = bytes(); block *key = bytes(), stunp_verify(ALL(message), ALL(key)))
-CALL(id, block *message = bytes(); block *out = output(), wrote(out, stunp_id(ALL(message), ALL(out))))
+CALL(id, block *message = bytes(); block *out = output(),
+     wrote(out, stunp_id(ALL(message), ALL(out))))
 
 static int64_t next(void) {
     block *message = bytes();
@@ -164,8 +172,8 @@ static int64_t xor_mapped_address(void) {
     return wrote(out, answer);
 }
 
-CALL(begin, uint32_t class = short_number(); uint32_t method = short_number(); block *id = bytes(); block *out = output(),
-     wrote(out, stunp_begin(class, method, ALL(id), ALL(out))))
+CALL(begin, uint32_t class = short_number(); uint32_t method = short_number(); block *id = bytes();
+     block *out = output(), wrote(out, stunp_begin(class, method, ALL(id), ALL(out))))
 CALL(add, block *message = buffer(); uint32_t type = short_number(); block *value = bytes(),
      wrote(message, stunp_add(USED(message), type, ALL(value))))
 CALL(add_xor_mapped_address, block *message = buffer(); block *octets = bytes(),
@@ -174,8 +182,10 @@ CALL(add_error, block *message = buffer(); uint32_t code = short_number(); block
      wrote(message, stunp_add_error(USED(message), code, ALL(reason))))
 CALL(sign, block *message = buffer(); uint32_t algorithm = short_number(); block *key = bytes(),
      wrote(message, stunp_sign(USED(message), algorithm, ALL(key))))
-CALL(long_term_key, uint32_t algorithm = short_number(); block *name = bytes(); block *realm = bytes(); block *password = bytes();
-     block *out = output(), wrote(out, stunp_long_term_key(algorithm, ALL(name), ALL(realm), ALL(password), ALL(out))))
+CALL(long_term_key, uint32_t algorithm = short_number(); block *name = bytes();
+     block *realm = bytes(); block *password = bytes();
+     block *out = output(),
+     wrote(out, stunp_long_term_key(algorithm, ALL(name), ALL(realm), ALL(password), ALL(out))))
 CALL(userhash, block *name = bytes(); block *realm = bytes(); block *out = output(),
      wrote(out, stunp_userhash(ALL(name), ALL(realm), ALL(out))))
 
@@ -224,7 +234,8 @@ CALL(agent_handle, block *message = bytes(); const stunp_address *from = address
 CALL(agent_validated_peer, (void)0, stunp_agent_validated_peer(&agent, address()))
 CALL(agent_is_validated_peer, (void)0, stunp_agent_is_validated_peer(&agent, address()))
 CALL(agent_cancel, block *id = bytes(), stunp_agent_cancel(&agent, ALL(id)))
-CALL(agent_cancel_retransmissions, block *id = bytes(), stunp_agent_cancel_retransmissions(&agent, ALL(id)))
+CALL(agent_cancel_retransmissions, block *id = bytes(),
+     stunp_agent_cancel_retransmissions(&agent, ALL(id)))
 CALL(agent_configure, block *id = bytes(), stunp_agent_configure(&agent, ALL(id), timeouts()))
 
 static int64_t agent_poll(void) {
@@ -260,19 +271,23 @@ static int64_t agent_statistics(void) {
 }
 
 CALL(server_set_algorithms, (void)0, stunp_server_set_algorithms(&server, short_number()))
-CALL(server_set_anonymous_username, (void)0, stunp_server_set_anonymous_username(&server, short_number()))
+CALL(server_set_anonymous_username, (void)0,
+     stunp_server_set_anonymous_username(&server, short_number()))
 CALL(server_set_nonce_expiry, (void)0, stunp_server_set_nonce_expiry(&server, number()))
-CALL(server_add_user, block *name = bytes(); block *password = bytes(), stunp_server_add_user(&server, ALL(name), ALL(password)))
+CALL(server_add_user, block *name = bytes(); block *password = bytes(),
+     stunp_server_add_user(&server, ALL(name), ALL(password)))
 CALL(server_remove_user, block *name = bytes(), stunp_server_remove_user(&server, ALL(name)))
 CALL(server_remove_client, (void)0, stunp_server_remove_client(&server, address()))
 CALL(server_forget, (void)0, stunp_server_forget(&server, address()))
 CALL(server_forget_expired, (void)0, stunp_server_forget_expired(&server, number()))
-CALL(server_sign, block *message = buffer(), wrote(message, stunp_server_sign(&server, USED(message), address())))
+CALL(server_sign, block *message = buffer(),
+     wrote(message, stunp_server_sign(&server, USED(message), address())))
 
 static int64_t server_forget_expired_within(void) {
     uint64_t now = number();
     block *from = block_of_value(address(), sizeof(stunp_address));
-    int64_t answer = stunp_server_forget_expired_within(&server, now, VALUE(stunp_address, from), (size_t)number());
+    int64_t answer = stunp_server_forget_expired_within(&server, now, VALUE(stunp_address, from),
+                                                        (size_t)number());
     wrote_all(from, answer >= 0);
     return answer;
 }
@@ -301,31 +316,40 @@ static int64_t server_validate(void) {
 CALL(client_set_credentials, block *name = bytes(); block *password = bytes(),
      stunp_client_set_credentials(&client, ALL(name), ALL(password)))
 CALL(client_set_algorithms, (void)0, stunp_client_set_algorithms(&client, short_number()))
-CALL(client_set_anonymous_username, (void)0, stunp_client_set_anonymous_username(&client, short_number()))
+CALL(client_set_anonymous_username, (void)0,
+     stunp_client_set_anonymous_username(&client, short_number()))
 CALL(client_signing_algorithm, (void)0, stunp_client_signing_algorithm(&client))
-CALL(client_sign, block *message = buffer(), wrote(message, stunp_client_sign(&client, USED(message))))
+CALL(client_sign, block *message = buffer(),
+     wrote(message, stunp_client_sign(&client, USED(message))))
 CALL(client_validate, block *message = bytes(), stunp_client_validate(&client, ALL(message)))
 
 /* ---- Lines. */
 
 static const struct { const char *name; int64_t (*call)(void); } calls[] = {
-    {"version", version}, {"parse", parse}, {"class", class_of}, {"method", method}, {"error-code", error_code},
-    {"verify", verify}, {"id", id}, {"next", next}, {"xor-mapped-address", xor_mapped_address}, {"begin", begin},
-    {"add", add}, {"add-xor-mapped-address", add_xor_mapped_address}, {"add-error", add_error}, {"sign", sign},
+    {"version", version}, {"parse", parse}, {"class", class_of}, {"method", method},
+    {"error-code", error_code}, {"verify", verify}, {"id", id}, {"next", next},
+    {"xor-mapped-address", xor_mapped_address}, {"begin", begin}, {"add", add},
+    {"add-xor-mapped-address", add_xor_mapped_address}, {"add-error", add_error}, {"sign", sign},
     {"long-term-key", long_term_key}, {"userhash", userhash}, {"agent-new", agent_new},
-    {"agent-new-with", agent_new_with}, {"agent-send-request", agent_send_request}, {"agent-send", agent_send},
-    {"agent-poll", agent_poll}, {"agent-poll-transmit", agent_poll_transmit}, {"agent-handle", agent_handle},
-    {"agent-validated-peer", agent_validated_peer}, {"agent-is-validated-peer", agent_is_validated_peer},
+    {"agent-new-with", agent_new_with}, {"agent-send-request", agent_send_request},
+    {"agent-send", agent_send}, {"agent-poll", agent_poll},
+    {"agent-poll-transmit", agent_poll_transmit}, {"agent-handle", agent_handle},
+    {"agent-validated-peer", agent_validated_peer},
+    {"agent-is-validated-peer", agent_is_validated_peer},
     {"agent-is-outstanding", agent_is_outstanding}, {"agent-cancel", agent_cancel},
-    {"agent-cancel-retransmissions", agent_cancel_retransmissions}, {"agent-configure", agent_configure},
-    {"agent-statistics", agent_statistics}, {"server-new", server_new}, {"server-set-algorithms", server_set_algorithms},
-    {"server-set-anonymous-username", server_set_anonymous_username}, {"server-set-nonce-expiry", server_set_nonce_expiry},
-    {"server-add-user", server_add_user}, {"server-remove-user", server_remove_user},
-    {"server-remove-client", server_remove_client}, {"server-forget", server_forget},
-    {"server-forget-expired", server_forget_expired}, {"server-forget-expired-within", server_forget_expired_within},
-    {"server-client", server_client}, {"server-nonce", server_nonce}, {"server-validate", server_validate},
-    {"server-sign", server_sign}, {"client-new", client_new}, {"client-set-credentials", client_set_credentials},
-    {"client-set-algorithms", client_set_algorithms}, {"client-set-anonymous-username", client_set_anonymous_username},
+    {"agent-cancel-retransmissions", agent_cancel_retransmissions},
+    {"agent-configure", agent_configure}, {"agent-statistics", agent_statistics},
+    {"server-new", server_new}, {"server-set-algorithms", server_set_algorithms},
+    {"server-set-anonymous-username", server_set_anonymous_username},
+    {"server-set-nonce-expiry", server_set_nonce_expiry}, {"server-add-user", server_add_user},
+    {"server-remove-user", server_remove_user}, {"server-remove-client", server_remove_client},
+    {"server-forget", server_forget}, {"server-forget-expired", server_forget_expired},
+    {"server-forget-expired-within", server_forget_expired_within},
+    {"server-client", server_client}, {"server-nonce", server_nonce},
+    {"server-validate", server_validate}, {"server-sign", server_sign}, {"client-new", client_new},
+    {"client-set-credentials", client_set_credentials},
+    {"client-set-algorithms", client_set_algorithms},
+    {"client-set-anonymous-username", client_set_anonymous_username},
     {"client-signing-algorithm", client_signing_algorithm}, {"client-sign", client_sign},
     {"client-validate", client_validate},
 };
@@ -344,7 +368,8 @@ static void finish(int64_t answer) {
     for (block *one = blocks; one < blocks + block_count; one++) {
         size_t written = answer < 0 ? 0 : one->written;
         if (written > one->length) fail("more is written than there is room");
-        if (memcmp(one->at + written, one->before + written, one->length - written) != 0) fail("a byte is changed");
+        if (memcmp(one->at + written, one->before + written, one->length - written) != 0)
+            fail("a byte is changed");
         if (written > 0) print_bytes(one->at, written);
         free(one->at);
         free(one->before);
@@ -360,7 +385,8 @@ static void make(int64_t (*call)(void)) {
     stunp_client old_client = client;
     size_t asked = stunp_heap_asked();
     int64_t answer = call();
-    if (answer < 0 && !(IS_SAME(agent, old_agent) && IS_SAME(server, old_server) && IS_SAME(client, old_client)))
+    if (answer < 0 && !(IS_SAME(agent, old_agent) && IS_SAME(server, old_server)
+                        && IS_SAME(client, old_client)))
         fail("a refusal changes a handle");
     printf("%lld %zu", (long long)answer, stunp_heap_asked() - asked);
     finish(answer);

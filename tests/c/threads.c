@@ -1,6 +1,7 @@
-/* Handles that go from thread to thread: made in main and handed to threads by a queue with a mutex,
- * and one set of them through four threads in turn. And the memory of heap.c, of which four threads
- * take at once. check.sh runs it plain, and under ThreadSanitizer and helgrind where they are there.
+/* Handles that go from thread to thread. They are made in main and handed to threads by a queue
+ * with a mutex, and one set of them goes through four threads in turn. And the memory of heap.c, of
+ * which four threads take at once. check.sh runs it plain, and under ThreadSanitizer and helgrind
+ * where they are there.
  *
  *     threads [ROUNDS] */
 #include "fixture.h"

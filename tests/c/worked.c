@@ -1,5 +1,6 @@
-/* The worked examples of stunp.h and stunp_state.h, which check.sh takes out of the headers, each run against a peer in this
- * process. It is C99, over heap.c, and C++17, over an allocator of its own. */
+/* The worked examples of stunp.h and stunp_state.h, which check.sh takes out of the headers, each
+ * run against a peer in this process. It is C99, over heap.c, and C++17, over an allocator of its
+ * own. */
 #include "stunp_state.h"
 #include <stdio.h>
 #include <stdlib.h>
@@ -42,7 +43,8 @@ static void answers(void) {
     static const uint8_t address[4] = {192, 0, 2, 1};
     uint8_t request[64], out[128], id[STUNP_ID_LENGTH] = {7}, octets[16];
     uint16_t port, type;
-    size_t length = (size_t)stunp_begin(STUNP_REQUEST, STUNP_BINDING, id, sizeof id, request, sizeof request), value_length;
+    size_t length = (size_t)stunp_begin(STUNP_REQUEST, STUNP_BINDING, id, sizeof id, request,
+                                        sizeof request), value_length;
     size_t written = answer(request, length, address, sizeof address, 32853, out, sizeof out);
     want("the address", stunp_xor_mapped_address(out, written, octets, sizeof octets, &port), 4);
     want("its octets", memcmp(octets, address, 4), 0);
@@ -84,8 +86,10 @@ static void reply(const uint8_t *request, int64_t code, const stunp_address *fro
     uint8_t id[STUNP_ID_LENGTH], *out = waiting[after_waiting].bytes;
     const size_t room = sizeof waiting[0].bytes;
     stunp_id(request, 20 + (size_t)(request[2] << 8 | request[3]), id, sizeof id);
-    int64_t length = stunp_begin(code == 0 ? STUNP_SUCCESS : STUNP_ERROR, STUNP_BINDING, id, sizeof id, out, room);
-    length = code == 0 ? stunp_add_xor_mapped_address(out, room, (size_t)length, client_address.octets, 4, client_address.port)
+    int64_t length = stunp_begin(code == 0 ? STUNP_SUCCESS : STUNP_ERROR, STUNP_BINDING, id,
+                                 sizeof id, out, room);
+    length = code == 0 ? stunp_add_xor_mapped_address(out, room, (size_t)length,
+                                                      client_address.octets, 4, client_address.port)
                        : stunp_add_error(out, room, (size_t)length, (uint32_t)code, TEXT(""));
     if (peer == CHALLENGING) {
         uint8_t nonce = (uint8_t)('a' + transmissions);
@@ -97,7 +101,8 @@ static void reply(const uint8_t *request, int64_t code, const stunp_address *fro
     waiting[after_waiting++].length = (size_t)length;
 }
 
-/* The first transmission of each run is lost. Before an answer come two forged ones: from elsewhere, and unsigned. */
+/* The first transmission of each run is lost. Before an answer come two forged ones: from
+ * elsewhere, and unsigned. */
 static void send_to(const stunp_address *to, const uint8_t *bytes, size_t length) {
     want("the server's address", memcmp(to, &server_address, sizeof *to), 0);
     if (transmissions++ == 0 || peer == SILENT) return;
@@ -109,9 +114,11 @@ static void send_to(const stunp_address *to, const uint8_t *bytes, size_t length
     reply(bytes, 401, &stranger_address);
     reply(bytes, 0, &server_address);
     waiting[after_waiting].from = &server_address;
-    waiting[after_waiting].length = serve(&server, bytes, length, &client_address, waiting[after_waiting].bytes, sizeof waiting[0].bytes);
+    waiting[after_waiting].length = serve(&server, bytes, length, &client_address,
+                                          waiting[after_waiting].bytes, sizeof waiting[0].bytes);
     after_waiting++;
-    if (peer == FORGETFUL && transmissions == 2) want("forgetting", stunp_server_forget_expired(&server, UINT64_MAX), 0);
+    if (peer == FORGETFUL && transmissions == 2)
+        want("forgetting", stunp_server_forget_expired(&server, UINT64_MAX), 0);
 }
 
 static size_t receive(stunp_address *from, uint8_t *bytes, size_t room, uint64_t until) {
@@ -127,7 +134,8 @@ static size_t receive(stunp_address *from, uint8_t *bytes, size_t room, uint64_t
     return length;
 }
 
-static void asks(stunp_agent *agent, const char *password, enum peer with, int64_t wanted, int wanted_transmissions) {
+static void asks(stunp_agent *agent, const char *password, enum peer with, int64_t wanted,
+                 int wanted_transmissions) {
     static stunp_client client;
     uint8_t octets[16];
     uint16_t port = 0;
@@ -136,7 +144,9 @@ static void asks(stunp_agent *agent, const char *password, enum peer with, int64
     first_waiting = after_waiting = 0;
     want("a client", stunp_client_new(&client), 0);
     want("algorithms", stunp_client_set_algorithms(&client, STUNP_SHA1 | STUNP_SHA256), 0);
-    want("credentials", stunp_client_set_credentials(&client, TEXT("name"), (const uint8_t *)password, strlen(password)), 0);
+    const uint8_t *secret = (const uint8_t *)password;
+    want("credentials",
+         stunp_client_set_credentials(&client, TEXT("name"), secret, strlen(password)), 0);
     want("ask", ask(agent, &client, &server_address, octets, &port), wanted);
     want("transmissions", transmissions, wanted_transmissions);
     if (wanted == 4) want("the octets", memcmp(octets, client_address.octets, 4), 0);
@@ -144,13 +154,15 @@ static void asks(stunp_agent *agent, const char *password, enum peer with, int64
     stunp_client_free(&client);
 }
 
-/* What a loop without stunp_agent_poll_transmit comes to: it does not wait, nothing is sent again, and nothing ends. */
+/* What a loop without stunp_agent_poll_transmit comes to: it does not wait, nothing is sent again,
+ * and nothing ends. */
 static void polls_alone(void) {
     uint8_t bytes[64], id[STUNP_ID_LENGTH] = {1};
     uint64_t until = 0;
     stunp_address to;
     static stunp_agent agent;
-    size_t length = (size_t)stunp_begin(STUNP_REQUEST, STUNP_BINDING, id, sizeof id, bytes, sizeof bytes);
+    size_t length = (size_t)stunp_begin(STUNP_REQUEST, STUNP_BINDING, id, sizeof id, bytes,
+                                        sizeof bytes);
     want("an agent", stunp_agent_new(&agent, STUNP_UDP, &client_address), 0);
     want("a request", stunp_agent_send_request(&agent, bytes, length, &server_address, 0), 0);
     for (int i = 0; i < 100; i++) {
@@ -159,7 +171,8 @@ static void polls_alone(void) {
         want("the moment", (int64_t)until, 500000000);
     }
     want("polls late", stunp_agent_poll(&agent, UINT64_MAX, &until, id, sizeof id), 0);
-    want("the request again", stunp_agent_poll_transmit(&agent, 500000000, bytes, sizeof bytes, &to), (int64_t)length);
+    want("the request again",
+         stunp_agent_poll_transmit(&agent, 500000000, bytes, sizeof bytes, &to), (int64_t)length);
     want("polls then", stunp_agent_poll(&agent, 500000000, &until, id, sizeof id), 0);
     want("the next moment", (int64_t)until, 1500000000);
     stunp_agent_free(&agent);
@@ -172,7 +185,8 @@ int main(void) {
     server_address.length = client_address.length = stranger_address.length = 4;
     server_address.port = 3478, client_address.port = 50000, stranger_address.port = 3479;
     client_address.octets[3] = 9;
-    want("an agent", stunp_agent_new_with(&agent, STUNP_UDP, &client_address, &server_address, &timeouts), 0);
+    want("an agent",
+         stunp_agent_new_with(&agent, STUNP_UDP, &client_address, &server_address, &timeouts), 0);
     want("a server", stunp_server_new(&server, TEXT("realm")), 0);
     want("algorithms", stunp_server_set_algorithms(&server, STUNP_SHA1 | STUNP_SHA256), 0);
     want("a user", stunp_server_add_user(&server, TEXT("name"), TEXT("password")), 0);
@@ -180,7 +194,8 @@ int main(void) {
     asks(&agent, "wrong", HONEST, STUNP_UNAUTHORIZED, 3);
     asks(&agent, "password", SILENT, STUNP_TIMED_OUT, 7);
     asks(&agent, "password", HONEST, 4, 3);
-    /* A new client at the same address, and one whose address is forgotten between the challenge and its answer. */
+    /* A new client at the same address, and one whose address is forgotten between the challenge
+     * and its answer. */
     asks(&agent, "password", HONEST, 4, 3);
     asks(&agent, "password", FORGETFUL, 4, 4);
     asks(&agent, "password", CHALLENGING, STUNP_UNAUTHORIZED, 5);

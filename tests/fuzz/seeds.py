@@ -9,8 +9,8 @@ import re
 import sys
 
 TOP = pathlib.Path(__file__).resolve().parents[2]
-DRIVER = (TOP / "tests/fuzz/fuzz.c").read_text()
-STEPS = re.search(r"enum step \{(.*?)STEPS", DRIVER, re.S).group(1)
+WORLD = (TOP / "tests/fuzz/world.h").read_text()
+STEPS = re.search(r"enum step \{(.*?)STEPS", WORLD, re.S).group(1)
 STEP = {name: number for number, name in enumerate(re.findall(r"\b[A-Z_]+\b", STEPS))}
 MOST = 1200
 

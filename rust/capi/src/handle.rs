@@ -23,7 +23,8 @@ impl<T> Handle<T> {
     pub fn take(&mut self, _alloc: Global) -> Option<Box<T>> {
         let Handle { is_full, at } = mem::replace(self, Handle::EMPTY);
         // SAFETY: a full handle has what `put` wrote, and no call leaves two that do.
-        is_full.then(|| Box::from_std(unsafe { boxed::Box::from_raw(ptr::slice_from_raw_parts_mut(at, 1)) }))
+        let taken = || unsafe { boxed::Box::from_raw(ptr::slice_from_raw_parts_mut(at, 1)) };
+        is_full.then(|| Box::from_std(taken()))
     }
 
     /// Puts a value into an empty handle.

@@ -1,9 +1,9 @@
 //! STUN for programs in C, over the exported sources: what `include/stunp.h` and
 //! `include/stunp_state.h` declare, and nothing else.
 //!
-//! `cargo build --release -p seatcrane-stun-c` makes `libstunp.a` and `libstunp.so`. What is unsafe stands
-//! in `border.rs` and `passed.rs`, where a slice comes as a pointer and a length, in `handle.rs`, where a
-//! handle keeps a pointer, and in `memory.rs`, which asks the program for memory.
+//! `cargo build --release -p seatcrane-stun-c` makes `libstunp.a` and `libstunp.so`. What is unsafe
+//! stands in four files. In `border.rs` and `passed.rs` a slice comes as a pointer and a length. In
+//! `handle.rs` a handle keeps a pointer. `memory.rs` asks the program for memory.
 
 extern crate alloc;
 

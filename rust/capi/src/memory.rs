@@ -17,8 +17,8 @@ unsafe extern "C" {
 
 struct Program;
 
-// SAFETY: a block is the program's, as long and as aligned as was asked, until it is given back; the
-// header asks that of its functions.
+// SAFETY: a block is the program's, as long and as aligned as was asked, until it is given back;
+// the header asks that of its functions.
 unsafe impl GlobalAlloc for Program {
     unsafe fn alloc(&self, layout: Layout) -> *mut u8 {
         // SAFETY: as above; no layout that is asked for has a length of 0.

@@ -5,8 +5,8 @@ use std::time::{Duration, Instant};
 
 const SECOND: Duration = Duration::from_secs(1);
 
-/// The standard library's clock stands still in sleep, on Linux, and no call of it has another. What
-/// `/proc/uptime` tells goes on, to a hundredth of a second. It is read once a second.
+/// The standard library's clock stands still in sleep, on Linux, and no call of it has another.
+/// What `/proc/uptime` tells goes on, to a hundredth of a second. It is read once a second.
 pub struct Clock {
     start: Instant,
     up: Option<Duration>,

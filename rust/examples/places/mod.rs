@@ -87,9 +87,9 @@ impl Places {
         }
     }
 
-    /// Gives an address a place, unless it has one. Answers which other address lost its own for it:
-    /// one that was never validated, where there is one, and of these the one that was silent for
-    /// longest.
+    /// Gives an address a place, unless it has one. Answers which other address lost its own for
+    /// it. That is one that was never validated, where there is one, and of these the one that was
+    /// silent for longest.
     pub fn take(&mut self, from: SocketAddr) -> Option<SocketAddr> {
         if let Some(kind) = self.leave(from) {
             self.join(from, kind);
@@ -110,7 +110,8 @@ impl Places {
     }
 
     /// Tells that an address was validated. Of all places, and of a network's, three quarters are
-    /// kept so for who was: beyond it, who of these was silent for longest counts as if it never was.
+    /// kept so for who was. Beyond it, who of these was silent for longest counts as if it never
+    /// was.
     pub fn keep(&mut self, at: SocketAddr) {
         let is_stranger = |(kind, _): &(Kind, u64)| *kind == Kind::Stranger;
         if !self.places.get(&at).is_some_and(is_stranger) {

@@ -112,7 +112,8 @@ impl<T, A: Allocator> Room<T, A> {
         Ok(())
     }
 
-    /// The places that `least` items need: those that are there if they do, else twice as many or more.
+    /// The places that `least` items need: those that are there if they do, else twice as many or
+    /// more.
     pub(super) fn grown(&self, least: usize) -> usize {
         least.max(self.places.saturating_mul(2)).max(4)
     }

@@ -1,8 +1,9 @@
-//! What the exported sources use of their language's library and Rust's has not: collections whose
-//! growth can fail and that carry an allocator, and a few small traits. Written by hand; not proved.
+//! What the exported sources use of their language's library and Rust's has not. That is
+//! collections whose growth can fail and that carry an allocator, and a few small traits. Written
+//! by hand; not proved.
 //!
-//! An allocator here grants or refuses bytes, and the bytes come from the process. A collection asks
-//! it before it grows, then asks the process by `try_reserve`. Where either refuses, the call
+//! An allocator here grants or refuses bytes, and the bytes come from the process. A collection
+//! asks it before it grows, then asks the process by `try_reserve`. Where either refuses, the call
 //! returns an error and the collection is as it was.
 
 // Here, since the calls for C and the checks have these files without the front.

@@ -1,0 +1,221 @@
+/* A server that is handed each user, by a password and by keys: in whom a message names, what it
+ * then answers, and what only C can pass. */
+#include "refusals.h"
+
+/* A server without users, to which its caller hands the user in whom a message names: as one that
+ * has the user. */
+static void users_elsewhere(bool is_hidden) {
+    const uint32_t both = STUNP_SHA1 | STUNP_SHA256;
+    struct pair pair = pair_of(both);
+    stunp_server *server = &pair.server;
+    stunp_address from = address_of(7);
+    struct message plain = message_of(STUNP_REQUEST, 9), request, answer;
+    uint8_t name[32], hash[32], byte = 0xff;
+    size_t length = 99;
+    want("the hash", stunp_userhash("name", 4, "realm", 5, hash, sizeof hash), 32);
+    want("no users", stunp_server_remove_user(server, "name", 4), 0);
+    want("hidden names", stunp_client_set_anonymous_username(&pair.client,
+         is_hidden ? STUNP_AUTO : STUNP_DISABLED), 0);
+    want("names, nowhere", stunp_server_named_user(server, plain.bytes, CUT, &nowhere, name, 4,
+         &length), STUNP_BAD_ARGUMENT);
+    REFUSES_MESSAGES("names",
+                     stunp_server_named_user(server, bytes, length, &from, name, 4, &(size_t){0}));
+    want("nobody", stunp_server_named_user(server, plain.bytes, plain.length, &from, name, 0,
+         &length), STUNP_NAMES_NOBODY);
+    want("no length", (int64_t)length, 99);
+    challenge(&pair, &from, 0);
+    request = request_of(&pair, 2);
+    stunp_heap_bound(0);
+    const int64_t named = is_hidden ? STUNP_BY_HASH : STUNP_BY_NAME;
+    const size_t wanted = is_hidden ? sizeof hash : 4;
+    want("no room", stunp_server_named_user(server, request.bytes, request.length, &from, name,
+         wanted - 1, &length), STUNP_BUFFER_TOO_SMALL);
+    want("the length that is wanted", (int64_t)length, (int64_t)wanted);
+    length = 99;
+    want("somebody", stunp_server_named_user(server, request.bytes, request.length, &from, name,
+         wanted, &length), named);
+    want("the length", (int64_t)length, (int64_t)wanted);
+    want_same("who", name, is_hidden ? hash : text("name"), wanted);
+    want("no memory", stunp_server_validate_of(server, request.bytes, request.length, &from, 0,
+         some_words, "name", 4, "password", 8), STUNP_OUT_OF_MEMORY);
+    stunp_heap_bound(SIZE_MAX);
+    want("without users", stunp_server_validate(server, request.bytes, request.length, &from, 0,
+         some_words), STUNP_UNAUTHORIZED);
+    want("of, nowhere", stunp_server_validate_of(server, request.bytes, CUT, &nowhere, 0,
+         some_words, &byte, 1, "", 0), STUNP_BAD_ARGUMENT);
+    REFUSES_MESSAGES("of", stunp_server_validate_of(server, bytes, length, &from, 0, some_words,
+                                                    &byte, 1, "", 0));
+    want("no name", stunp_server_validate_of(server, request.bytes, request.length, &from, 0,
+         some_words, &byte, 1, "", 0), STUNP_NOT_TEXT);
+    want("no password", stunp_server_validate_of(server, request.bytes, request.length, &from, 0,
+         some_words, "name", 4, &byte, 1), STUNP_NOT_TEXT);
+    want("another password", stunp_server_validate_of(server, request.bytes, request.length,
+         &from, 0, some_words, "name", 4, "Password", 8), STUNP_UNAUTHORIZED);
+    want("another user", stunp_server_validate_of(server, request.bytes, request.length, &from, 0,
+         some_words, "Name", 4, "password", 8), STUNP_UNAUTHORIZED);
+    want("the user", stunp_server_validate_of(server, request.bytes, request.length, &from, 0,
+         some_words, "name", 4, "password", 8), STUNP_SHA256);
+    want("is the client", stunp_server_client(server, &from, name, sizeof name, &length),
+         STUNP_SHA256);
+
+    answer = message_of(STUNP_SUCCESS, 2);
+    struct message left = answer;
+    const size_t room = sizeof answer.bytes;
+    want("without the user", stunp_server_sign(server, answer.bytes, room, 20, &from),
+         STUNP_INTEGRITY_FAILED);
+    want("no name", stunp_server_sign_of(server, answer.bytes, 20, 30, &nowhere, &byte, 1, "", 0),
+         STUNP_NOT_TEXT);
+    want("nowhere", stunp_server_sign_of(server, answer.bytes, 20, 30, &nowhere, "name", 4,
+         "password", 8), STUNP_BAD_ARGUMENT);
+    want("another user", stunp_server_sign_of(server, answer.bytes, room, 20, &from, "Name", 4,
+         "password", 8), STUNP_INTEGRITY_FAILED);
+    want("no room", stunp_server_sign_of(server, answer.bytes, 20, 20, &from, "name", 4,
+         "password", 8), STUNP_BUFFER_TOO_SMALL);
+    stunp_heap_bound(0);
+    want("no memory", stunp_server_sign_of(server, answer.bytes, room, 20, &from, "name", 4,
+         "password", 8), STUNP_OUT_OF_MEMORY);
+    stunp_heap_bound(SIZE_MAX);
+    want_same("the message is left", &answer, &left, sizeof answer);
+    stunp_writer writer = stunp_write_on(20, answer.bytes, room);
+    stunp_write_server_sign_of(&writer, server, &from, "name", 4, "password", 8);
+    want("signed", stunp_written(&writer), 0);
+    want("and taken", stunp_client_validate(&pair.client, answer.bytes, writer.length),
+         STUNP_SHA256);
+    want("the server has no users", stunp_server_validate(server, request.bytes, request.length,
+         &from, 0, some_words), STUNP_UNAUTHORIZED);
+    free_pair(&pair);
+    want_no_blocks("users_elsewhere");
+}
+
+/* The keys of a password, and which of them are stored. */
+struct keys {
+    uint8_t sha1[STUNP_SHA1_KEY_LENGTH], sha256[STUNP_SHA256_KEY_LENGTH];
+    size_t sha1_length, sha256_length;
+};
+
+static struct keys keys_of(const char *password) {
+    struct keys keys = {.sha1_length = sizeof keys.sha1, .sha256_length = sizeof keys.sha256};
+    want("for SHA-1", stunp_long_term_key(STUNP_SHA1, "name", 4, "realm", 5, password,
+         strlen(password), keys.sha1, sizeof keys.sha1), STUNP_SHA1_KEY_LENGTH);
+    want("for SHA-256", stunp_long_term_key(STUNP_SHA256, "name", 4, "realm", 5, password,
+         strlen(password), keys.sha256, sizeof keys.sha256), STUNP_SHA256_KEY_LENGTH);
+    return keys;
+}
+
+static int64_t validates_by(stunp_server *server, const struct message *message,
+                            const stunp_address *from, const void *name, size_t length,
+                            const struct keys *keys) {
+    return stunp_server_validate_of_keys(server, message->bytes, message->length, from, 0,
+                                         some_words, name, length, keys->sha1, keys->sha1_length,
+                                         keys->sha256, keys->sha256_length);
+}
+
+static int64_t signs_by(stunp_server *server, struct message *message, size_t room,
+                        const stunp_address *to, const void *name, size_t length,
+                        const struct keys *keys) {
+    return stunp_server_sign_of_keys(server, message->bytes, room, message->length, to, name,
+                                     length, keys->sha1, keys->sha1_length, keys->sha256,
+                                     keys->sha256_length);
+}
+
+/* What is refused of stored keys, in its order; it changes nothing. */
+static void refuses_keys(struct pair *pair, const struct message *request,
+                         const stunp_address *from, const struct keys *right) {
+    stunp_server *server = &pair->server;
+    struct message cut = *request, answer = message_of(STUNP_SUCCESS, 2), left = answer;
+    struct keys shorter = *right, longer = *right, both = *right;
+    const size_t room = sizeof answer.bytes;
+    uint8_t byte = 0xff, name[4];
+    size_t length = 99;
+    cut.length = CUT;
+    shorter.sha1_length--;
+    longer.sha256_length++;
+    both.sha1_length = STUNP_SHA256_KEY_LENGTH, both.sha256_length = STUNP_SHA1_KEY_LENGTH;
+    stunp_server_set_most_addresses(server, 0);
+    stunp_address other = address_of(9);
+    want("by keys, nowhere", validates_by(server, &cut, &nowhere, &byte, 1, &shorter),
+         STUNP_BAD_ARGUMENT);
+    want("by keys, no message", validates_by(server, &cut, &other, &byte, 1, &shorter),
+         STUNP_TRUNCATED);
+    want("by keys, one too many", validates_by(server, request, &other, &byte, 1, &shorter),
+         STUNP_TOO_MANY_ADDRESSES);
+    stunp_server_set_most_addresses(server, SIZE_MAX);
+    stunp_heap_bound(0);
+    want("by keys, no name", validates_by(server, request, from, &byte, 1, &shorter),
+         STUNP_NOT_TEXT);
+    want("a shorter key", validates_by(server, request, from, "name", 4, &shorter),
+         STUNP_BAD_ARGUMENT);
+    want("a longer key", validates_by(server, request, from, "name", 4, &longer),
+         STUNP_BAD_ARGUMENT);
+    want("each for the other", validates_by(server, request, from, "name", 4, &both),
+         STUNP_BAD_ARGUMENT);
+    want("by keys, no memory", validates_by(server, request, from, "name", 4, right),
+         STUNP_OUT_OF_MEMORY);
+    answer.length = room + 1;
+    want("sign, no name", signs_by(server, &answer, room, &nowhere, &byte, 1, &shorter),
+         STUNP_NOT_TEXT);
+    want("sign, a shorter key", signs_by(server, &answer, room, &nowhere, "name", 4, &shorter),
+         STUNP_BAD_ARGUMENT);
+    answer.length = 20;
+    want("sign, a longer key", signs_by(server, &answer, 20, from, "name", 4, &longer),
+         STUNP_BAD_ARGUMENT);
+    want("sign, no memory", signs_by(server, &answer, 20, from, "name", 4, right),
+         STUNP_OUT_OF_MEMORY);
+    stunp_heap_bound(SIZE_MAX);
+    want("sign, no room", signs_by(server, &answer, 20, from, "name", 4, right),
+         STUNP_BUFFER_TOO_SMALL);
+    want_same("the message is left", &answer, &left, sizeof answer);
+    want("nobody is the client", stunp_server_client(server, from, name, sizeof name, &length), 0);
+    want("no other address", stunp_server_address_count(server), 1);
+}
+
+/* The same by the keys that a data base stores: as by the password that they were made of. */
+static void users_by_keys(uint32_t algorithms) {
+    const uint32_t algorithm = algorithms == STUNP_SHA1 ? STUNP_SHA1 : STUNP_SHA256;
+    struct pair pair = pair_of(algorithms);
+    stunp_server *server = &pair.server;
+    stunp_address from = address_of(7);
+    struct keys right = keys_of("password"), wrong = keys_of("Password"), none = {.sha1_length = 0};
+    struct keys other = right;
+    if (algorithm == STUNP_SHA1) other.sha1_length = 0;
+    else other.sha256_length = 0;
+    want("no users", stunp_server_remove_user(server, "name", 4), 0);
+    challenge(&pair, &from, 0);
+    struct message request = request_of(&pair, 2);
+    refuses_keys(&pair, &request, &from, &right);
+    want("another's keys", validates_by(server, &request, &from, "name", 4, &wrong),
+         STUNP_UNAUTHORIZED);
+    want("another's name", validates_by(server, &request, &from, "Name", 4, &right),
+         STUNP_UNAUTHORIZED);
+    want("no key", stunp_server_validate_of_keys(server, request.bytes, request.length, &from, 0,
+         some_words, "name", 4, NULL, 0, NULL, 0), STUNP_UNAUTHORIZED);
+    want("the key for the other", validates_by(server, &request, &from, "name", 4, &other),
+         STUNP_UNAUTHORIZED);
+    int64_t verdict = stunp_server_validate_of(server, request.bytes, request.length, &from, 0,
+                                               some_words, "name", 4, "password", 8);
+    want("the password", verdict, algorithm);
+    want("its keys", validates_by(server, &request, &from, "name", 4, &right), verdict);
+    struct message answer = message_of(STUNP_SUCCESS, 2), same = answer;
+    const size_t room = sizeof answer.bytes;
+    want("signs without a key", signs_by(server, &answer, room, &from, "name", 4, &none),
+         STUNP_INTEGRITY_FAILED);
+    stunp_writer writer = stunp_write_on(20, answer.bytes, room);
+    stunp_write_server_sign_of_keys(&writer, server, &from, "name", 4, right.sha1,
+                                    right.sha1_length, right.sha256, right.sha256_length);
+    want("signed", stunp_written(&writer), 0);
+    want("as by the password", stunp_server_sign_of(server, same.bytes, room, 20, &from, "name", 4,
+         "password", 8), (int64_t)writer.length);
+    want_same("its bytes", answer.bytes, same.bytes, room);
+    want("and taken", stunp_client_validate(&pair.client, answer.bytes, writer.length), verdict);
+    free_pair(&pair);
+    want_no_blocks("users_by_keys");
+}
+
+int main(void) {
+    users_elsewhere(false);
+    users_elsewhere(true);
+    users_by_keys(STUNP_SHA1);
+    users_by_keys(STUNP_SHA1 | STUNP_SHA256);
+    puts("users: passed");
+    return 0;
+}

@@ -38,7 +38,7 @@ transaction, 1 where it is left out.
     where stdin unread                        a file whose first byte is still to be read when the
                                               program ends
     where slow                                a read gives one byte, every second read is
-                                              interrupted, and a write takes one byte
+                                              interrupted; so do writes
     where reads fail after FIRST..LAST        reads are slow, and fail after each of these numbers
                                               of bytes
     where reads endless | interrupted         each gives a digit 0, or is interrupted, and there are
@@ -311,7 +311,7 @@ def play_strained(program, what, run, wanted, words):
     kind, state = words[0], words[1:2]
     if kind == "slow":
         compare(what, wanted,
-                program.strained(run, READS="slow", WRITES="fail", WRITE_LEFT=1 << 40)[0])
+                program.strained(run, READS="slow", WRITES="slow")[0])
     elif kind == "reads" and state == ["fail"]:
         first, last = map(int, words[3].split(".."))
         for left in range(first, last + 1):

@@ -3,7 +3,8 @@
  *   STRAIN_READS        slow: a read gives one byte, and every second is interrupted; after
  *                       STRAIN_READ_LEFT bytes reads fail, where it is given. endless: each gives a
  *                       digit 0. interrupted: each is interrupted
- *   STRAIN_WRITES       a write takes one byte, up to STRAIN_WRITE_LEFT, and then fail, stop (takes
+ *   STRAIN_WRITES       slow: a write takes one byte, and every second is interrupted. Else a write
+ *                       takes one byte, up to STRAIN_WRITE_LEFT, and then fail, stop (takes
  *                       nothing) or stall (is interrupted)
  *   STRAIN_REFUSED_FROM, STRAIN_REFUSED_TO
  *                       the numbers, from 1, of the first and the last allocation that is refused
@@ -22,7 +23,7 @@
 extern void *__libc_malloc(size_t size);
 extern void *__libc_realloc(void *old, size_t size);
 
-static long allocations, reads, given, taken;
+static long allocations, reads, writes, given, taken;
 static ssize_t (*real_read)(int, void *, size_t);
 static ssize_t (*real_write)(int, const void *, size_t);
 
@@ -75,6 +76,7 @@ ssize_t write(int descriptor, const void *bytes, size_t size) {
     if (!real_write) *(void **)&real_write = dlsym(RTLD_NEXT, "write");
     const char *how = getenv("STRAIN_WRITES");
     if (descriptor != 1 || !how || size == 0) return real_write(descriptor, bytes, size);
+    if (!strcmp(how, "slow")) return writes++ % 2 ? real_write(descriptor, bytes, 1) : fail(EINTR);
     if (taken < number("STRAIN_WRITE_LEFT", 0)) {
         taken++;
         return real_write(descriptor, bytes, 1);

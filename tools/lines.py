@@ -25,7 +25,7 @@ AT_MOST = {
     "rs lines": 0,
     "rt lines": 80,
     "sh lines": 0,
-    "antt files": 1,
+    "antt files": 3,
     "c files": 2,
     "md files": 0,
     "py files": 0,

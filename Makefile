@@ -1,8 +1,9 @@
 # The words of this repository. Only `prove`, `c` and `check` need the toolchain (rt).
-.PHONY: help rust rust-c prove c check bench install release verify-release
+.PHONY: help rust test rust-c prove c check bench install release verify-release
 
 help:
 	@echo "make rust     export the proved sources as plain Rust to target/export, and run its tests"
+	@echo "make test     the same: every test and transcript, without rt"
 	@echo "make rust-c   after it, build its calls for C to target/c, and test them"
 	@echo "make c        prove and build the archives for C (minutes)"
 	@echo "make install  install archives, headers and programs that are built; PREFIX=/usr/local"
@@ -13,6 +14,8 @@ help:
 
 rust:
 	@tools/rust.sh
+
+test: rust
 
 rust-c:
 	@tools/rust_c.sh udp

@@ -12,36 +12,19 @@ use stun_proto::types::attribute::*;
 use stun_proto::types::message::*;
 use stun_proto::types::prelude::*;
 
+mod messages;
+use messages::{client_addr, id, request, success};
+
 const WORDS: [u32; 16] = [27; 16];
-
-fn id(number: u8) -> TransactionId {
-    TransactionId::from([number; 12])
-}
-
-fn client_addr() -> SocketAddr {
-    "10.0.0.1:12345".parse().unwrap()
-}
 
 fn server_addr() -> SocketAddr {
     "10.0.0.2:3478".parse().unwrap()
-}
-
-fn request(number: u8) -> MessageWriteVec {
-    Message::builder_request_with_id(BINDING, id(number), MessageWriteVec::new())
 }
 
 fn agent() -> StunAgent {
     StunAgent::builder(TransportType::Udp, client_addr())
         .stats(true)
         .build()
-}
-
-/// The answer to a request that came from an address.
-fn success<W: MessageWrite>(request: &Message<'_>, from: SocketAddr, writer: W) -> W {
-    let mut response = Message::builder_success(request, writer);
-    let address = XorMappedAddress::new(from, request.transaction_id());
-    response.add_attribute(&address).unwrap();
-    response
 }
 
 #[test]

@@ -145,3 +145,11 @@ fn a_users_key_is_asked_of_without_a_verdict() {
     both.server.remove_user("user");
     assert_eq!(both.server.user_verifies("user", Sha256, &request), None);
 }
+
+#[test]
+fn no_key_is_shown() {
+    assert_eq!(format!("{KEYS:#?}"), "StoredKeys { .. }");
+    let server = Conversation::with_both("pass").server;
+    let user = server.prepare_user_with_keys("user".to_string(), KEYS);
+    assert_eq!(format!("{user:#?}"), "LongTermServerUser { .. }");
+}

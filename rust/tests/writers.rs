@@ -5,27 +5,9 @@ use seatcrane_stun::types::attribute::*;
 use seatcrane_stun::types::data::OwnedBytes;
 use seatcrane_stun::types::message::*;
 use seatcrane_stun::types::prelude::*;
-use std::net::SocketAddr;
 
-fn id(number: u8) -> TransactionId {
-    TransactionId::from([number; 12])
-}
-
-fn client_addr() -> SocketAddr {
-    "10.0.0.1:12345".parse().unwrap()
-}
-
-fn request(number: u8) -> MessageWriteVec {
-    Message::builder_request_with_id(BINDING, id(number), MessageWriteVec::new())
-}
-
-/// The answer to a request that came from an address.
-fn success<W: MessageWrite>(request: &Message<'_>, from: SocketAddr, writer: W) -> W {
-    let mut response = Message::builder_success(request, writer);
-    let address = XorMappedAddress::new(from, request.transaction_id());
-    response.add_attribute(&address).unwrap();
-    response
-}
+mod messages;
+use messages::{client_addr, id, request, success};
 
 #[test]
 fn a_message_is_written_again() {
